@@ -1,0 +1,15 @@
+-- Choices: by a test, and by a table.
+use Prim.Native.Nat.{ℕ}
+use mathlib.Core.Bool.{Bool, true, false}
+use mathlib.Core.List.{List, [], _∷_}
+use lib.Dec.{eqb}
+
+-- a where the test holds, else b
+abbrev pub pick : {A : Type 0} → Bool → A → A → A
+pick true a b = a
+pick false a b = b
+
+-- the first entry of a table that has the key, or d
+abbrev pub lookup : {A : Type 0} → A → List (ℕ × A) → ℕ → A
+lookup d [] k = d
+lookup d (e ∷ es) k = pick (eqb k (e .0)) (e .1) (lookup d es k)

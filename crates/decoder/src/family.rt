@@ -1,0 +1,177 @@
+// The fields of a word, as operations and operands.
+use instruction::Family;
+use instruction::IndexOperands;
+use instruction::Line;
+use instruction::LiteralOp;
+use instruction::LiteralOperands;
+use instruction::OffsetOperands;
+use instruction::PairMode;
+use instruction::PairOp;
+use instruction::PairOperands;
+use instruction::SizedOp;
+ghost use mathlib.Core.Path.{_≡_};
+ghost use Prim.Native.Nat.{_*_, _<_, _≤_};
+ghost use Rattle.bits.specs.Signed.{signedOf};
+ghost use Rattle.instruction.specs.Operations.{sizedAt, literalAt, pairAt, modeAt};
+ghost use Rattle.instruction.specs.Instructions.{sizedIn, pairOpIn, literalIn, pairIn, signedIn, indexIn, unsignedIn, familyIn};
+
+// The family of a word of a line.
+pub fn family_in(line: Line, word: u32) -> Family
+    ensures { λ r. ⌜ r ≡ familyIn line word ⌝ }
+{
+    match line {
+        Line::NoLine => Family::Empty,
+        Line::LiteralLine => Family::Literal(literal_op(word / 0x4000_0000 % 4), literal_operands(word)),
+        Line::PairLine => {
+            let op = pair_op_in(word);
+            Family::Pair(op, pair_operands(op, word))
+        }
+        Line::OrderedLine => Family::Ordered(sized_op_in(word), signed_operands(word)),
+        Line::UnscaledLine => Family::Unscaled(sized_op_in(word), signed_operands(word)),
+        Line::PostLine => Family::PostIndex(sized_op_in(word), signed_operands(word)),
+        Line::PreLine => Family::PreIndex(sized_op_in(word), signed_operands(word)),
+        Line::RegisterLine => Family::Register(sized_op_in(word), index_operands(word)),
+        Line::UnsignedLine => {
+            let op = sized_op_in(word);
+            Family::Unsigned(op, unsigned_operands(op, word))
+        }
+    }
+}
+
+fn literal_op(opc: u32) -> LiteralOp
+    ensures { λ r. ⌜ r ≡ literalAt opc ⌝ }
+{
+    match opc {
+        0b00 => LiteralOp::LiteralWord,
+        0b01 => LiteralOp::LiteralDouble,
+        0b10 => LiteralOp::LiteralSignedWord,
+        _ => LiteralOp::LiteralPrefetch,
+    }
+}
+
+fn sized_op(code: u32) -> SizedOp
+    ensures { λ r. ⌜ r ≡ sizedAt code ⌝ }
+{
+    match code {
+        0b0000 => SizedOp::StoreByte,
+        0b0001 => SizedOp::LoadByte,
+        0b0010 => SizedOp::LoadSignedByte64,
+        0b0011 => SizedOp::LoadSignedByte32,
+        0b0100 => SizedOp::StoreHalf,
+        0b0101 => SizedOp::LoadHalf,
+        0b0110 => SizedOp::LoadSignedHalf64,
+        0b0111 => SizedOp::LoadSignedHalf32,
+        0b1000 => SizedOp::StoreWord,
+        0b1001 => SizedOp::LoadWord,
+        0b1010 => SizedOp::LoadSignedWord64,
+        0b1100 => SizedOp::StoreDouble,
+        0b1101 => SizedOp::LoadDouble,
+        _ => SizedOp::Prefetch,
+    }
+}
+
+fn sized_op_in(word: u32) -> SizedOp
+    ensures { λ r. ⌜ r ≡ sizedIn word ⌝ }
+{
+    sized_op(word / 0x4000_0000 % 4 * 4 + word / 0x40_0000 % 4)
+}
+
+fn pair_op(code: u32) -> PairOp
+    ensures { λ r. ⌜ r ≡ pairAt code ⌝ }
+{
+    match code {
+        0b000 => PairOp::StoreWords,
+        0b001 => PairOp::LoadWords,
+        0b011 => PairOp::LoadSignedWords,
+        0b100 => PairOp::StoreDoubles,
+        _ => PairOp::LoadDoubles,
+    }
+}
+
+fn pair_op_in(word: u32) -> PairOp
+    ensures { λ r. ⌜ r ≡ pairOpIn word ⌝ }
+{
+    pair_op(word / 0x4000_0000 % 4 * 2 + word / 0x40_0000 % 2)
+}
+
+fn pair_mode(mode: u32) -> PairMode
+    ensures { λ r. ⌜ r ≡ modeAt mode ⌝ }
+{
+    match mode {
+        0b00 => PairMode::NoAllocate,
+        0b01 => PairMode::Post,
+        0b10 => PairMode::Offset,
+        _ => PairMode::Pre,
+    }
+}
+
+// The number that a field in two's complement holds, times scale. Half is how many values each sign has.
+fn signed(bits: u32, half: u32, scale: u32) -> i64
+    requires { ⌜ (bits < 2 * half) × (half ≤ 262144) × (scale ≤ 8) ⌝ }
+    ensures { λ r. ⌜ r ≡ signedOf half scale bits ⌝ }
+{
+    if bits < half {
+        (bits * scale) as i64
+    } else {
+        -(((2 * half - bits) * scale) as i64)
+    }
+}
+
+fn literal_operands(word: u32) -> LiteralOperands
+    ensures { λ r. ⌜ r ≡ literalIn word ⌝ }
+{
+    let offset = signed(word / 32 % 0x8_0000, 0x4_0000, 4);
+    LiteralOperands {
+        target: word / 1 % 32,
+        offset,
+    }
+}
+
+fn pair_operands(op: PairOp, word: u32) -> PairOperands
+    ensures { λ r. ⌜ r ≡ pairIn op word ⌝ }
+{
+    let offset = signed(word / 0x8000 % 128, 64, instruction::pair_bytes(op));
+    let mode = pair_mode(word / 0x80_0000 % 4);
+    PairOperands {
+        first: word / 1 % 32,
+        second: word / 0x400 % 32,
+        base: word / 32 % 32,
+        mode,
+        offset,
+    }
+}
+
+fn signed_operands(word: u32) -> OffsetOperands
+    ensures { λ r. ⌜ r ≡ signedIn word ⌝ }
+{
+    let offset = signed(word / 0x1000 % 512, 256, 1);
+    OffsetOperands {
+        target: word / 1 % 32,
+        base: word / 32 % 32,
+        offset,
+    }
+}
+
+fn index_operands(word: u32) -> IndexOperands
+    ensures { λ r. ⌜ r ≡ indexIn word ⌝ }
+{
+    IndexOperands {
+        target: word / 1 % 32,
+        base: word / 32 % 32,
+        index: word / 0x1_0000 % 32,
+        option: word / 0x2000 % 8,
+        scaled: word / 0x1000 % 2,
+    }
+}
+
+fn unsigned_operands(op: SizedOp, word: u32) -> OffsetOperands
+    ensures { λ r. ⌜ r ≡ unsignedIn op word ⌝ }
+{
+    let scale = instruction::sized_bytes(op);
+    let offset = (word / 0x400 % 4096 * scale) as i64;
+    OffsetOperands {
+        target: word / 1 % 32,
+        base: word / 32 % 32,
+        offset,
+    }
+}

@@ -1,0 +1,196 @@
+// The word with the fields of an instruction, or none where one is out of range. The constants are the
+// fixed bits of each line.
+use bits::Field;
+use crate::offset;
+use instruction::Family;
+use instruction::IndexOperands;
+use instruction::LiteralOp;
+use instruction::LiteralOperands;
+use instruction::OffsetOperands;
+use instruction::PairMode;
+use instruction::PairOp;
+use instruction::PairOperands;
+use instruction::SizedOp;
+ghost use mathlib.Core.Path.{_≡_};
+ghost use Prim.Native.Nat.{_+_, _*_, _^_, _<_, _≤_};
+ghost use mathlib.Core.List.{[], _∷_};
+ghost use Rattle.bits.specs.Fields.{bits};
+ghost use Rattle.instruction.specs.Types.{PairLine, LiteralLine};
+ghost use Rattle.instruction.specs.Operations.{literalOpc, pairOpc, pairLoad, modeCode};
+ghost use Rattle.instruction.specs.Encoding.{fixed, wordWith, literalFields, literalWord, pairFields, pairWord, signedWord, indexWord, unsignedWord, wordOf};
+ghost use Rattle.encoder.specs.Sized.{sizedWord};
+
+pub fn word_of(family: Family) -> Field
+    ensures { λ r. ⌜ r ≡ wordOf family ⌝ }
+{
+    match family {
+        Family::Empty => Field::Unfit,
+        Family::Literal(op, o) => literal_word(op, o),
+        Family::Pair(op, o) => pair_word(op, o),
+        Family::Ordered(op, o) => signed_word(0x1900_0000, op, o),
+        Family::Unscaled(op, o) => signed_word(0x3800_0000, op, o),
+        Family::PostIndex(op, o) => signed_word(0x3800_0400, op, o),
+        Family::PreIndex(op, o) => signed_word(0x3800_0c00, op, o),
+        Family::Register(op, o) => index_word(op, o),
+        Family::Unsigned(op, o) => unsigned_word(op, o),
+    }
+}
+
+fn literal_word(op: LiteralOp, o: LiteralOperands) -> Field
+    ensures { λ r. ⌜ r ≡ literalWord op o ⌝ }
+{
+    let target = o.target;
+    let field = offset::imm19(o.offset);
+    match field {
+        Field::Holds(imm19) => literal_sum(op, target, imm19),
+        Field::Unfit => Field::Unfit,
+    }
+}
+
+fn literal_sum(op: LiteralOp, target: u32, imm19: u32) -> Field
+    requires { ⌜ imm19 < 524288 ⌝ }
+    ensures { λ r. ⌜ r ≡ wordWith (fixed LiteralLine) (literalFields op target imm19) ⌝ }
+{
+    if 32 <= target {
+        return Field::Unfit;
+    }
+    Field::Holds(0x1800_0000 + literal_opc(op) * 0x4000_0000 + target + imm19 * 32)
+}
+
+fn literal_opc(op: LiteralOp) -> u32
+    ensures { λ r. ⌜ (r ≡ literalOpc op) × (r < 4) ⌝ }
+{
+    match op {
+        LiteralOp::LiteralWord => 0b00,
+        LiteralOp::LiteralDouble => 0b01,
+        LiteralOp::LiteralSignedWord => 0b10,
+        LiteralOp::LiteralPrefetch => 0b11,
+    }
+}
+
+fn pair_word(op: PairOp, o: PairOperands) -> Field
+    ensures { λ r. ⌜ r ≡ pairWord op o ⌝ }
+{
+    let field = offset::imm7(o.offset, op);
+    match field {
+        Field::Holds(imm7) => pair_sum(op, o, imm7),
+        Field::Unfit => Field::Unfit,
+    }
+}
+
+fn pair_sum(op: PairOp, o: PairOperands, imm7: u32) -> Field
+    requires { ⌜ imm7 < 128 ⌝ }
+    ensures { λ r. ⌜ r ≡ wordWith (fixed PairLine) (pairFields op o imm7) ⌝ }
+{
+    let base = o.base;
+    let first = o.first;
+    let second = o.second;
+    let mode = o.mode;
+    if 32 <= base {
+        return Field::Unfit;
+    }
+    if 32 <= first {
+        return Field::Unfit;
+    }
+    if 32 <= second {
+        return Field::Unfit;
+    }
+    let registers = base * 32 + first + second * 0x400;
+    let code = pair_opc(op) * 0x4000_0000 + mode_code(mode) * 0x80_0000 + pair_load(op) * 0x40_0000;
+    Field::Holds(0x2800_0000 + code + registers + imm7 * 0x8000)
+}
+
+fn pair_opc(op: PairOp) -> u32
+    ensures { λ r. ⌜ (r ≡ pairOpc op) × (r < 4) ⌝ }
+{
+    match op {
+        PairOp::StoreWords => 0b00,
+        PairOp::LoadWords => 0b00,
+        PairOp::LoadSignedWords => 0b01,
+        PairOp::StoreDoubles => 0b10,
+        PairOp::LoadDoubles => 0b10,
+    }
+}
+
+fn pair_load(op: PairOp) -> u32
+    ensures { λ r. ⌜ (r ≡ pairLoad op) × (r < 2) ⌝ }
+{
+    match op {
+        PairOp::StoreWords => 0,
+        PairOp::LoadWords => 1,
+        PairOp::LoadSignedWords => 1,
+        PairOp::StoreDoubles => 0,
+        PairOp::LoadDoubles => 1,
+    }
+}
+
+fn mode_code(mode: PairMode) -> u32
+    ensures { λ r. ⌜ (r ≡ modeCode mode) × (r < 4) ⌝ }
+{
+    match mode {
+        PairMode::NoAllocate => 0b00,
+        PairMode::Post => 0b01,
+        PairMode::Offset => 0b10,
+        PairMode::Pre => 0b11,
+    }
+}
+
+// The fields that all families with a size have, beside their own, which are in place already.
+fn sized_word(op: SizedOp, base: u32, target: u32, own: u32) -> Field
+    requires { ⌜ own < 0x3a00_0000 ⌝ }
+    ensures { λ r. ⌜ r ≡ sizedWord op base target own ⌝ }
+{
+    if 32 <= base {
+        return Field::Unfit;
+    }
+    if 32 <= target {
+        return Field::Unfit;
+    }
+    let size = instruction::size_field(op);
+    let opc = instruction::opc_field(op);
+    Field::Holds(size * 0x4000_0000 + opc * 0x40_0000 + base * 32 + target + own)
+}
+
+fn signed_word(line: u32, op: SizedOp, o: OffsetOperands) -> Field
+    requires { ⌜ line ≤ 0x3900_0000 ⌝ }
+    ensures { λ r. ⌜ r ≡ signedWord line op o ⌝ }
+{
+    let base = o.base;
+    let target = o.target;
+    let field = offset::imm9(o.offset);
+    match field {
+        Field::Holds(imm9) => sized_word(op, base, target, line + imm9 * 0x1000),
+        Field::Unfit => Field::Unfit,
+    }
+}
+
+fn index_word(op: SizedOp, o: IndexOperands) -> Field
+    ensures { λ r. ⌜ r ≡ indexWord op o ⌝ }
+{
+    let index = o.index;
+    let option = o.option;
+    let scaled = o.scaled;
+    if 32 <= index {
+        return Field::Unfit;
+    }
+    if 8 <= option {
+        return Field::Unfit;
+    }
+    if 2 <= scaled {
+        return Field::Unfit;
+    }
+    let own = 0x3820_0800 + index * 0x1_0000 + option * 0x2000 + scaled * 0x1000;
+    sized_word(op, o.base, o.target, own)
+}
+
+fn unsigned_word(op: SizedOp, o: OffsetOperands) -> Field
+    ensures { λ r. ⌜ r ≡ unsignedWord op o ⌝ }
+{
+    let base = o.base;
+    let target = o.target;
+    let field = offset::imm12(o.offset, op);
+    match field {
+        Field::Holds(imm12) => sized_word(op, base, target, 0x3900_0000 + imm12 * 0x400),
+        Field::Unfit => Field::Unfit,
+    }
+}

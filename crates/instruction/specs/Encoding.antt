@@ -1,0 +1,84 @@
+-- The word of an instruction, and what encoding answers: 01, "What a word says", answer 11.
+use Prim.Native.Nat.{ℕ, _+_}
+use mathlib.Core.Bool.{Bool, true, false}
+use mathlib.Core.List.{List, [], _∷_}
+use Rattle.bits.specs.Choice.{pick}
+use Rattle.bits.specs.Fields.{Bits, bits, fit, placed}
+use Rattle.bits.specs.Signed.{bitsOf, plainBitsOf}
+use Rattle.bits.specs.declared.Field.{Field}
+use Rattle.bits.specs.declared.Field.the-variants.{Holds, Unfit}
+use Rattle.instruction.specs.Types.{Line, LiteralLine, PairLine, OrderedLine, UnscaledLine, PostLine, PreLine, RegisterLine, UnsignedLine, Family, Empty, Literal, Pair, Ordered, Unscaled, PostIndex, PreIndex, Register, Unsigned, Instruction, LiteralOp, LiteralOperands, PairOp, PairOperands, OffsetOperands, IndexOperands, SizedOp, Encoded, Done, NoSuchInstruction}
+use Rattle.instruction.specs.Table.{fixedOf}
+use Rattle.instruction.specs.Undefined.{allocated}
+use Rattle.instruction.specs.Operations.{sizeOf, opcOf, sizedBytes, literalOpc, pairOpc, pairLoad, modeCode, pairBytes}
+
+-- the fixed bits of a line
+abbrev pub fixed : Line → ℕ
+fixed l = placed (fixedOf l)
+
+-- the word of these fields beside the fixed bits, if each has room
+unfoldable pub wordWith : ℕ → List Bits → Field
+wordWith f fs = pick (fit fs) (Holds (f + placed fs)) Unfit
+
+-- the word that an offset's bits are put into
+abbrev pub withBits : Field → (ℕ → Field) → Field
+withBits (Holds b) f = f b
+withBits Unfit f = Unfit
+
+-- imm19
+abbrev pub literalFields : LiteralOp → ℕ → ℕ → List Bits
+literalFields op target imm19 = bits 31 30 (literalOpc op) ∷ bits 4 0 target ∷ bits 23 5 imm19 ∷ []
+
+unfoldable pub literalWord : LiteralOp → LiteralOperands → Field
+literalWord op o = withBits (bitsOf 262144 4 (o .offset)) (λ b. wordWith (fixed LiteralLine) (literalFields op (o .target) b))
+
+-- mode, L, imm7 and Rt2
+abbrev pub pairFields : PairOp → PairOperands → ℕ → List Bits
+pairFields op o imm7 =
+    bits 31 30 (pairOpc op) ∷ bits 24 23 (modeCode (o .mode)) ∷ bits 22 22 (pairLoad op) ∷ bits 9 5 (o .base) ∷ bits 4 0 (o .first)
+    ∷ bits 14 10 (o .second) ∷ bits 21 15 imm7 ∷ []
+
+unfoldable pub pairWord : PairOp → PairOperands → Field
+pairWord op o = withBits (bitsOf 64 (pairBytes op) (o .offset)) (λ b. wordWith (fixed PairLine) (pairFields op o b))
+
+-- the families with a size, and their own fields
+abbrev pub sizedFields : SizedOp → ℕ → ℕ → List Bits → List Bits
+sizedFields op base target own =
+    bits 31 30 (sizeOf op) ∷ bits 23 22 (opcOf op) ∷ bits 9 5 base ∷ bits 4 0 target ∷ own
+
+-- imm9, in four families
+unfoldable pub signedWord : ℕ → SizedOp → OffsetOperands → Field
+signedWord f op o =
+    withBits (bitsOf 256 1 (o .offset)) (λ b. wordWith f (sizedFields op (o .base) (o .target) (bits 20 12 b ∷ [])))
+
+-- Rm, option and S
+unfoldable pub indexWord : SizedOp → IndexOperands → Field
+indexWord op o =
+    wordWith (fixed RegisterLine)
+    (sizedFields op (o .base) (o .target) (bits 20 16 (o .index) ∷ bits 15 13 (o .option) ∷ bits 12 12 (o .scaled) ∷ []))
+
+-- imm12
+unfoldable pub unsignedWord : SizedOp → OffsetOperands → Field
+unsignedWord op o =
+    withBits (plainBitsOf 4096 (sizedBytes op) (o .offset))
+    (λ b. wordWith (fixed UnsignedLine) (sizedFields op (o .base) (o .target) (bits 21 10 b ∷ [])))
+
+-- the word with the fields of a family, if they are in range
+abbrev pub wordOf : Family → Field
+wordOf Empty = Unfit
+wordOf (Literal op o) = literalWord op o
+wordOf (Pair op o) = pairWord op o
+wordOf (Ordered op o) = signedWord (fixed OrderedLine) op o
+wordOf (Unscaled op o) = signedWord (fixed UnscaledLine) op o
+wordOf (PostIndex op o) = signedWord (fixed PostLine) op o
+wordOf (PreIndex op o) = signedWord (fixed PreLine) op o
+wordOf (Register op o) = indexWord op o
+wordOf (Unsigned op o) = unsignedWord op o
+
+-- an undefined combination has no word
+abbrev pub encodedAs : Field → Encoded
+encodedAs (Holds w) = record { answer = pick (allocated w) Done NoSuchInstruction; word = pick (allocated w) w 0 }
+encodedAs Unfit = record { answer = NoSuchInstruction; word = 0 }
+
+unfoldable pub encodeOf : Instruction → Encoded
+encodeOf i = encodedAs (wordOf (i .family))

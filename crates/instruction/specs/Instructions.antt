@@ -1,0 +1,66 @@
+-- The instruction that a word of the set stands for: 01, "What a word says" and the column "Fields" of its table.
+use Prim.Native.Nat.{ℕ, _+_, _*_}
+use lib.IntN.{pos}
+use Rattle.bits.specs.Fields.{field}
+use Rattle.bits.specs.Signed.{signedOf}
+use Rattle.instruction.specs.Types.{Line, NoLine, LiteralLine, PairLine, OrderedLine, UnscaledLine, PostLine, PreLine, RegisterLine, UnsignedLine, Family, Empty, Literal, Pair, Ordered, Unscaled, PostIndex, PreIndex, Register, Unsigned, Instruction, LiteralOperands, PairOperands, OffsetOperands, IndexOperands, SizedOp, PairOp}
+use Rattle.instruction.specs.Table.{lineOf}
+use Rattle.instruction.specs.Undefined.{sizeOpc}
+use Rattle.instruction.specs.Operations.{sizedAt, literalAt, pairAt, modeAt, sizedBytes, pairBytes}
+
+-- Rt is bits 4..0 and Rn bits 9..5
+unfoldable pub sizedIn : ℕ → SizedOp
+sizedIn w = sizedAt (sizeOpc w)
+
+-- imm19, times 4
+unfoldable pub literalIn : ℕ → LiteralOperands
+literalIn w = record { target = field 4 0 w; offset = signedOf 262144 4 (field 23 5 w) }
+
+-- opc and L
+unfoldable pub pairOpIn : ℕ → PairOp
+pairOpIn w = pairAt (field 31 30 w * 2 + field 22 22 w)
+
+-- Rt2, mode, and imm7 times the bytes of one register's access
+unfoldable pub pairIn : PairOp → ℕ → PairOperands
+pairIn op w =
+    record {
+      first = field 4 0 w;
+      second = field 14 10 w;
+      base = field 9 5 w;
+      mode = modeAt (field 24 23 w);
+      offset = signedOf 64 (pairBytes op) (field 21 15 w);
+    }
+
+-- imm9
+unfoldable pub signedIn : ℕ → OffsetOperands
+signedIn w = record { target = field 4 0 w; base = field 9 5 w; offset = signedOf 256 1 (field 20 12 w) }
+
+-- Rm, option and S
+unfoldable pub indexIn : ℕ → IndexOperands
+indexIn w =
+    record {
+      target = field 4 0 w;
+      base = field 9 5 w;
+      index = field 20 16 w;
+      option = field 15 13 w;
+      scaled = field 12 12 w;
+    }
+
+-- imm12 without sign, times 2 ^ size
+unfoldable pub unsignedIn : SizedOp → ℕ → OffsetOperands
+unsignedIn op w = record { target = field 4 0 w; base = field 9 5 w; offset = pos (field 21 10 w * sizedBytes op) }
+
+abbrev pub familyIn : Line → ℕ → Family
+familyIn NoLine w = Empty
+familyIn LiteralLine w = Literal (literalAt (field 31 30 w)) (literalIn w)
+familyIn PairLine w = Pair (pairOpIn w) (pairIn (pairOpIn w) w)
+familyIn OrderedLine w = Ordered (sizedIn w) (signedIn w)
+familyIn UnscaledLine w = Unscaled (sizedIn w) (signedIn w)
+familyIn PostLine w = PostIndex (sizedIn w) (signedIn w)
+familyIn PreLine w = PreIndex (sizedIn w) (signedIn w)
+familyIn RegisterLine w = Register (sizedIn w) (indexIn w)
+familyIn UnsignedLine w = Unsigned (sizedIn w) (unsignedIn (sizedIn w) w)
+
+-- the instruction of an allocated word
+unfoldable pub instructionOf : ℕ → Instruction
+instructionOf w = record { family = familyIn (lineOf w) w }

@@ -1,0 +1,9 @@
+pub mod Types
+pub mod Answers
+pub mod Table
+pub mod Undefined
+pub mod Unpredictable
+pub mod Operations
+pub mod Instructions
+pub mod Decoding
+pub mod Encoding

@@ -1,0 +1,33 @@
+-- Which words give answer 4: 01, "Answer numbers".
+use Prim.Native.Nat.{ℕ}
+use mathlib.Core.Bool.{Bool, true, false, _&&_, _||_, not}
+use lib.Dec.{eqb}
+use Rattle.bits.specs.Fields.{field}
+use Rattle.instruction.specs.Types.{Line, NoLine, LiteralLine, PairLine, OrderedLine, UnscaledLine, PostLine, PreLine, RegisterLine, UnsignedLine}
+use Rattle.instruction.specs.Table.{lineOf}
+
+-- Rn is not 31 and is register r
+unfoldable pub baseIs : ℕ → ℕ → Bool
+baseIs r w = not (eqb (field 9 5 w) 31) && eqb (field 9 5 w) r
+
+-- writeback, in the modes 01 and 11, over Rt or Rt2
+unfoldable pub pairBaseIs : ℕ → Bool
+pairBaseIs w = eqb (field 23 23 w) 1 && (baseIs (field 4 0 w) w || baseIs (field 14 10 w) w)
+
+-- or L is 1 and Rt is Rt2
+unfoldable pub unpredictablePair : ℕ → Bool
+unpredictablePair w = pairBaseIs w || (eqb (field 22 22 w) 1 && eqb (field 4 0 w) (field 14 10 w))
+
+abbrev pub unpredictableIn : Line → ℕ → Bool
+unpredictableIn NoLine w = false
+unpredictableIn LiteralLine w = false
+unpredictableIn PairLine w = unpredictablePair w
+unpredictableIn OrderedLine w = false
+unpredictableIn UnscaledLine w = false
+unpredictableIn PostLine w = baseIs (field 4 0 w) w
+unpredictableIn PreLine w = baseIs (field 4 0 w) w
+unpredictableIn RegisterLine w = false
+unpredictableIn UnsignedLine w = false
+
+unfoldable pub unpredictable : ℕ → Bool
+unpredictable w = unpredictableIn (lineOf w) w

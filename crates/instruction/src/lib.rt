@@ -1,0 +1,25 @@
+// What an instruction is: the types, all by value. What words and instructions say of each other is
+// defined in specs/.
+mod answer;
+mod family;
+mod line;
+mod operation;
+
+pub use answer::Answer;
+pub use answer::Decoded;
+pub use answer::Encoded;
+pub use family::Family;
+pub use family::IndexOperands;
+pub use family::Instruction;
+pub use family::LiteralOperands;
+pub use family::OffsetOperands;
+pub use family::PairOperands;
+pub use line::Line;
+pub use operation::LiteralOp;
+pub use operation::PairMode;
+pub use operation::PairOp;
+pub use operation::SizedOp;
+pub use operation::opc_field;
+pub use operation::pair_bytes;
+pub use operation::size_field;
+pub use operation::sized_bytes;
