@@ -1,6 +1,5 @@
 -- What decoding and classifying a word answer: 01, "Answer numbers", 2, 3 and 4, the lowest first.
 use Prim.Native.Nat.{ℕ}
-use mathlib.Core.Bool.{Bool, true, false}
 use Rattle.bits.specs.Choice.{pick}
 use Rattle.instruction.specs.Types.{Answer, Done, NotInSet, Undefined, Unpredictable, Decoded, Instruction, Empty}
 use Rattle.instruction.specs.Table.{inSet}

@@ -1,6 +1,5 @@
 -- The word of an instruction, and what encoding answers: 01, "What a word says", answer 11.
 use Prim.Native.Nat.{ℕ, _+_}
-use mathlib.Core.Bool.{Bool, true, false}
 use mathlib.Core.List.{List, [], _∷_}
 use Rattle.bits.specs.Choice.{pick}
 use Rattle.bits.specs.Fields.{Bits, bits, fit, placed}
@@ -52,10 +51,11 @@ signedWord f op o =
     withBits (bitsOf 256 1 (o .offset)) (λ b. wordWith f (sizedFields op (o .base) (o .target) (bits 20 12 b ∷ [])))
 
 -- Rm, option and S
+abbrev pub indexFields : IndexOperands → List Bits
+indexFields o = bits 20 16 (o .index) ∷ bits 15 13 (o .option) ∷ bits 12 12 (o .scaled) ∷ []
+
 unfoldable pub indexWord : SizedOp → IndexOperands → Field
-indexWord op o =
-    wordWith (fixed RegisterLine)
-    (sizedFields op (o .base) (o .target) (bits 20 16 (o .index) ∷ bits 15 13 (o .option) ∷ bits 12 12 (o .scaled) ∷ []))
+indexWord op o = wordWith (fixed RegisterLine) (sizedFields op (o .base) (o .target) (indexFields o))
 
 -- imm12
 unfoldable pub unsignedWord : SizedOp → OffsetOperands → Field

@@ -1,6 +1,6 @@
 -- Which words of the set are undefined: 01, "Undefined words of the set", in its order.
 use Prim.Native.Nat.{ℕ, _+_, _*_}
-use mathlib.Core.Bool.{Bool, true, false, _&&_, _||_, not}
+use mathlib.Core.Bool.{Bool, false, _&&_, _||_, not}
 use lib.Dec.{eqb}
 use Rattle.bits.specs.Fields.{field}
 use Rattle.instruction.specs.Types.{Line, NoLine, LiteralLine, PairLine, OrderedLine, UnscaledLine, PostLine, PreLine, RegisterLine, UnsignedLine}

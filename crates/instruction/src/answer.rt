@@ -1,6 +1,8 @@
 // What every function of the project can answer. 01 speaks of answers by number: specs/Answers.antt
 // gives the number of each.
 use crate::family::Instruction;
+ghost use mathlib.Core.Path.{_≡_};
+ghost use Rattle.instruction.specs.Answers.{answerNumber};
 
 pub enum Answer {
     Done,
@@ -15,6 +17,26 @@ pub enum Answer {
     NoSuchText,
     NoRoom,
     NoSuchInstruction,
+}
+
+// 01's number of an answer.
+pub fn answer_number(answer: Answer) -> u32
+    ensures { λ r. ⌜ r ≡ answerNumber answer ⌝ }
+{
+    match answer {
+        Answer::Done => 0,
+        Answer::BadWindow => 1,
+        Answer::NotInSet => 2,
+        Answer::Undefined => 3,
+        Answer::Unpredictable => 4,
+        Answer::TaintedAddress => 5,
+        Answer::Misaligned => 6,
+        Answer::OutOfWindow => 7,
+        Answer::ReadOnly => 8,
+        Answer::NoSuchText => 9,
+        Answer::NoRoom => 10,
+        Answer::NoSuchInstruction => 11,
+    }
 }
 
 // What decoding a word gives. The instruction is the empty one where the word is refused.

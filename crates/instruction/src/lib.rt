@@ -8,6 +8,7 @@ mod operation;
 pub use answer::Answer;
 pub use answer::Decoded;
 pub use answer::Encoded;
+pub use answer::answer_number;
 pub use family::Family;
 pub use family::IndexOperands;
 pub use family::Instruction;

@@ -1,0 +1,130 @@
+-- The codes of operations: how large they are, and how they lead back to the operations. Assumes nothing.
+use Prim.Native.Nat.{ℕ, _+_, _*_, _≤_, _<_}
+use mathlib.Core.Path.{_≡_, refl}
+use mathlib.Core.Bool.{Bool, _||_, or-false}
+use native.Mathlib.Omega.{arith}
+use lib.Dec.{eqb}
+use borrow.Author.Tests.{eqb-true, ne-eqb}
+use Rattle.bits.proofs.Choices.{tested}
+use Rattle.instruction.specs.Types.{SizedOp, StoreByte, LoadByte, LoadSignedByte64, LoadSignedByte32, StoreHalf, LoadHalf, LoadSignedHalf64, LoadSignedHalf32, StoreWord, LoadWord, LoadSignedWord64, StoreDouble, LoadDouble, Prefetch, PairOp, StoreWords, LoadWords, LoadSignedWords, StoreDoubles, LoadDoubles, LiteralOp, LiteralWord, LiteralDouble, LiteralSignedWord, LiteralPrefetch, PairMode, NoAllocate, Post, Offset, Pre}
+use Rattle.instruction.specs.Operations.{sizedAt, sizeOf, opcOf, sizedBytes, literalAt, literalOpc, pairAt, pairOpc, pairLoad, pairBytes, modeAt, modeCode}
+
+-- ---- bounds
+
+pub record Sized (op : SizedOp) : Type 0 where
+  pub size : sizeOf op < 4
+  pub opc : opcOf op < 4
+  pub some : 0 < sizedBytes op
+  pub most : sizedBytes op ≤ 8
+
+pub sized : (op : SizedOp) → Sized op
+sized StoreByte = omega arith
+sized LoadByte = omega arith
+sized LoadSignedByte64 = omega arith
+sized LoadSignedByte32 = omega arith
+sized StoreHalf = omega arith
+sized LoadHalf = omega arith
+sized LoadSignedHalf64 = omega arith
+sized LoadSignedHalf32 = omega arith
+sized StoreWord = omega arith
+sized LoadWord = omega arith
+sized LoadSignedWord64 = omega arith
+sized StoreDouble = omega arith
+sized LoadDouble = omega arith
+sized Prefetch = omega arith
+
+pub record Paired (op : PairOp) : Type 0 where
+  pub opc : pairOpc op < 4
+  pub load : pairLoad op < 2
+  pub some : 0 < pairBytes op
+  pub most : pairBytes op ≤ 8
+
+pub paired : (op : PairOp) → Paired op
+paired StoreWords = omega arith
+paired LoadWords = omega arith
+paired LoadSignedWords = omega arith
+paired StoreDoubles = omega arith
+paired LoadDoubles = omega arith
+
+pub literal-below : (op : LiteralOp) → literalOpc op < 4
+literal-below LiteralWord = omega arith
+literal-below LiteralDouble = omega arith
+literal-below LiteralSignedWord = omega arith
+literal-below LiteralPrefetch = omega arith
+
+pub mode-below : (mode : PairMode) → modeCode mode < 4
+mode-below NoAllocate = omega arith
+mode-below Post = omega arith
+mode-below Offset = omega arith
+mode-below Pre = omega arith
+
+-- ---- from a code to its operation and back
+
+sizedTest : ℕ → Bool
+sizedTest k = eqb (sizeOf (sizedAt k) * 4 + opcOf (sizedAt k)) k || (eqb k 0b10_11 || eqb k 0b11_11)
+
+pub sized-code : (k : ℕ) → k < 16 → ¬ (k ≡ 0b10_11) → ¬ (k ≡ 0b11_11) → sizeOf (sizedAt k) * 4 + opcOf (sizedAt k) ≡ k
+unfolding sizedTest sizedAt
+sized-code k h a b = eqb-true _ _ (simp (ne-eqb k 0b10_11 a, ne-eqb k 0b11_11 b, or-false) at (tested 16 sizedTest refl k h))
+
+literalTest : ℕ → Bool
+literalTest k = eqb (literalOpc (literalAt k)) k
+
+pub literal-code : (k : ℕ) → k < 4 → literalOpc (literalAt k) ≡ k
+unfolding literalTest literalAt
+literal-code k h = eqb-true _ _ (tested 4 literalTest refl k h)
+
+pairTest : ℕ → Bool
+pairTest k = eqb (pairOpc (pairAt k) * 2 + pairLoad (pairAt k)) k || eqb k 0b01_0
+
+pub pair-code : (k : ℕ) → k < 6 → ¬ (k ≡ 0b01_0) → pairOpc (pairAt k) * 2 + pairLoad (pairAt k) ≡ k
+unfolding pairTest pairAt
+pair-code k h a = eqb-true _ _ (simp (ne-eqb k 0b01_0 a, or-false) at (tested 6 pairTest refl k h))
+
+modeTest : ℕ → Bool
+modeTest k = eqb (modeCode (modeAt k)) k
+
+pub mode-code : (k : ℕ) → k < 4 → modeCode (modeAt k) ≡ k
+unfolding modeTest modeAt
+mode-code k h = eqb-true _ _ (tested 4 modeTest refl k h)
+
+-- ---- from an operation to its code and back
+
+pub sized-at : (op : SizedOp) → sizedAt (sizeOf op * 4 + opcOf op) ≡ op
+unfolding sizedAt
+sized-at StoreByte = refl
+sized-at LoadByte = refl
+sized-at LoadSignedByte64 = refl
+sized-at LoadSignedByte32 = refl
+sized-at StoreHalf = refl
+sized-at LoadHalf = refl
+sized-at LoadSignedHalf64 = refl
+sized-at LoadSignedHalf32 = refl
+sized-at StoreWord = refl
+sized-at LoadWord = refl
+sized-at LoadSignedWord64 = refl
+sized-at StoreDouble = refl
+sized-at LoadDouble = refl
+sized-at Prefetch = refl
+
+pub literal-at : (op : LiteralOp) → literalAt (literalOpc op) ≡ op
+unfolding literalAt
+literal-at LiteralWord = refl
+literal-at LiteralDouble = refl
+literal-at LiteralSignedWord = refl
+literal-at LiteralPrefetch = refl
+
+pub pair-at : (op : PairOp) → pairAt (pairOpc op * 2 + pairLoad op) ≡ op
+unfolding pairAt
+pair-at StoreWords = refl
+pair-at LoadWords = refl
+pair-at LoadSignedWords = refl
+pair-at StoreDoubles = refl
+pair-at LoadDoubles = refl
+
+pub mode-at : (m : PairMode) → modeAt (modeCode m) ≡ m
+unfolding modeAt
+mode-at NoAllocate = refl
+mode-at Post = refl
+mode-at Offset = refl
+mode-at Pre = refl

@@ -1,0 +1,4 @@
+pub mod Lines
+pub mod Codes
+pub mod Sorts
+pub mod Examples
