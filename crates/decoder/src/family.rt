@@ -21,7 +21,10 @@ pub fn family_in(line: Line, word: u32) -> Family
 {
     match line {
         Line::NoLine => Family::Empty,
-        Line::LiteralLine => Family::Literal(literal_op(word / 0x4000_0000 % 4), literal_operands(word)),
+        Line::LiteralLine => Family::Literal(
+            literal_op(word / 0x4000_0000 % 4),
+            literal_operands(word),
+        ),
         Line::PairLine => {
             let op = pair_op_in(word);
             Family::Pair(op, pair_operands(op, word))

@@ -10,8 +10,7 @@ use instruction::Family;
 use instruction::Instruction;
 ghost use mathlib.Core.Path.{_≡_};
 ghost use Rattle.instruction.specs.Undefined.{allocated};
-ghost use Rattle.instruction.specs.Decoding.{decodeOf, classOf};
-ghost use Rattle.decoder.specs.Refusals.{refusedAs};
+ghost use Rattle.instruction.specs.Decoding.{decodeOf, classOf, empty};
 
 // The instruction of a word, or answer 2 or 3 and the empty instruction.
 pub fn decode(word: u32) -> Decoded
@@ -60,7 +59,7 @@ pub fn is_allocated(word: u32) -> bool
 }
 
 fn refused(answer: Answer) -> Decoded
-    ensures { λ r. ⌜ r ≡ refusedAs answer ⌝ }
+    ensures { λ r. ⌜ (r .answer ≡ answer) × (r .instruction ≡ empty) ⌝ }
 {
     Decoded {
         answer,

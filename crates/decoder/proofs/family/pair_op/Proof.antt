@@ -1,27 +1,16 @@
+-- `decoder::family::pair_op` meets its contract: each arm is an entry of the table. Assumes nothing.
+use Rattle.bits.proofs.Choices.{absent, entry}
+use Rattle.instruction.specs.Operations.{pairAt, pairTable}
 use Rattle.decoder.proofs.family.pair_op.Statement.{statement}
 use Rattle.decoder.proofs.family.pair_op.Tie as tie
-use Rattle.decoder.proofs.family.pair_op.Reads as reads
-use Rattle.decoder.proofs.family.pair_op.Lts as lts
-
--- src/family.rt:79:1
-returns : tie.Need-returns
-returns c = ?
-
--- src/family.rt:79:1
-returns-2 : tie.Need-returns-2
-returns-2 c = ?
-
--- src/family.rt:79:1
-returns-3 : tie.Need-returns-3
-returns-3 c = ?
-
--- src/family.rt:79:1
-returns-4 : tie.Need-returns-4
-returns-4 c = ?
-
--- src/family.rt:79:1
-returns-5 : tie.Need-returns-5
-returns-5 c = ?
 
 pub pair-op-spec : {M : Type 1} → statement M
-pair-op-spec = tie.close (tie.spec returns returns-2 returns-3 returns-4 returns-5)
+unfolding pairAt
+pair-op-spec =
+    tie.close
+    (tie.spec
+    (λ c. entry _ pairTable (c .match .keys1))
+    (λ c. entry _ pairTable (c .match .keys2))
+    (λ c. entry _ pairTable (c .match .keys3))
+    (λ c. entry _ pairTable (c .match .keys4))
+    (λ c. absent _ pairTable _ (c .match .rest)))

@@ -1,28 +1,21 @@
+-- `decoder::family::pair_operands` meets its contract. Assumes nothing.
+use mathlib.Core.Path.{_∙_}
+use borrow.Author.Needs.{sfits-of}
+use mir.Facts.{toZ-ofZ}
+use Rattle.bits.specs.Fields.{part}
+use native.Mathlib.Omega.{arith}
+use Rattle.instruction.proofs.Codes.{paired}
+use Rattle.decoder.proofs.Arms.{pair-is}
 use borrow.Author.Needs.{needs}
 use Rattle.decoder.proofs.family.pair_operands.Statement.{statement}
 use Rattle.decoder.proofs.family.pair_operands.Tie as tie
-use Rattle.decoder.proofs.family.pair_operands.Reads as reads
-use Rattle.decoder.proofs.family.pair_operands.Lts as lts
-use Rattle.decoder.proofs.family.pair_mode.Reads as pair-mode-reads
-use Rattle.decoder.proofs.family.signed.Reads as signed-reads
-use Rattle.instruction.proofs.pair_bytes.Reads as pair-bytes-reads
-
--- src/family.rt:133:50
-pair-bytes-requires : tie.Need-pair-bytes-requires
-pair-bytes-requires c κs = search needs
-
--- src/family.rt:133:9
-signed-requires : tie.Need-signed-requires
-signed-requires c κs = ?
-
--- src/family.rt:134:9
-pair-mode-requires : tie.Need-pair-mode-requires
-pair-mode-requires c κs = search needs
-
--- src/family.rt:130:1
-returns : tie.Need-returns
-returns c = ?
 
 pub pair-operands-spec : {M : Type 1} → statement M
+unfolding part
 pair-operands-spec =
-    tie.close (tie.spec pair-bytes-requires signed-requires pair-mode-requires returns)
+    tie.close
+    (tie.spec
+    (λ c κs. search needs)
+    (λ c κs. omega (arith, c .pair-bytes .ensures, paired (c .before .args .op)))
+    (λ c κs. search needs)
+    (λ c. pair-is (c .before .before .before .args .op) (c .before .before .before .args .word) (c .before .before .pair-bytes .ensures) (toZ-ofZ (sfits-of (c .before .signed .ok)) ∙ c .before .signed .ensures) (c .pair-mode .ensures)))

@@ -1,55 +1,32 @@
+-- `decoder::family::signed` meets its contract. Assumes nothing.
+use Prim.Native.Nat.{_*_, _-_, _≤_}
+use native.Mathlib.Omega.{arith}
+use borrow.Author.Tests.{lt-ltb, le-ltb}
+use mir.Syntax.{w64}
+use mir.Facts.{toZ-pos}
+use Rattle.bits.specs.Signed.{signedOf}
+use Rattle.decoder.proofs.Products.{small, negated, negated-fits}
 use borrow.Author.Needs.{needs}
 use Rattle.decoder.proofs.family.signed.Statement.{statement}
 use Rattle.decoder.proofs.family.signed.Tie as tie
-use Rattle.decoder.proofs.family.signed.Reads as reads
-use Rattle.decoder.proofs.family.signed.Lts as lts
 
--- src/family.rt:114:10
-mul-result : tie.Need-mul-result
-mul-result c = ?
+low : (c : tie.Then1) → c .before .args .bits * c .before .args .scale ≤ 4194304
+low c = small (omega arith) (omega arith)
 
--- src/family.rt:114:9
-cast-result : tie.Need-cast-result
-cast-result c = ?
-
--- src/family.rt:116:13
-mul-result-2 : tie.Need-mul-result-2
-mul-result-2 c = search needs
-
--- src/family.rt:116:13
-sub-result : tie.Need-sub-result
-sub-result c = search needs
-
--- src/family.rt:116:12
-mul-result-3 : tie.Need-mul-result-3
-mul-result-3 c = ?
-
--- src/family.rt:116:11
-cast-result-2 : tie.Need-cast-result-2
-cast-result-2 c = ?
-
--- src/family.rt:116:9
-sub-result-2 : tie.Need-sub-result-2
-sub-result-2 c = ?
-
--- src/family.rt:109:1
-returns : tie.Need-returns
-returns c = ?
-
--- src/family.rt:109:1
-returns-2 : tie.Need-returns-2
-returns-2 c = ?
+high : (c : tie.Else1) → (2 * c .before .args .half - c .before .args .bits) * c .before .args .scale ≤ 4194304
+high c = small (omega arith) (omega arith)
 
 pub signed-spec : {M : Type 1} → statement M
+unfolding signedOf
 signed-spec =
     tie.close
     (tie.spec
-    mul-result
-    cast-result
-    mul-result-2
-    sub-result
-    mul-result-3
-    cast-result-2
-    sub-result-2
-    returns
-    returns-2)
+    (λ c. omega (arith, low c))
+    (λ c. record { sfits = omega (arith, low c) })
+    (λ c. search needs)
+    (λ c. search needs)
+    (λ c. omega (arith, high c))
+    (λ c. record { sfits = omega (arith, high c) })
+    (λ c. negated-fits ((2 * c .before .args .half - c .before .args .bits) * c .before .args .scale) (omega (arith, high c)))
+    (λ c. simp (lt-ltb _ _ (c .if1 .taken)) (toZ-pos w64 (omega (arith, low c))))
+    (λ c. simp (le-ltb _ _ (c .if1 .left)) (negated ((2 * c .before .args .half - c .before .args .bits) * c .before .args .scale) (omega (arith, high c)))))

@@ -1,79 +1,25 @@
+-- `decoder::family::sized_op` meets its contract: each arm is an entry of the table. Assumes nothing.
+use Rattle.bits.proofs.Choices.{absent, entry}
+use Rattle.instruction.specs.Operations.{sizedAt, sizedTable}
 use Rattle.decoder.proofs.family.sized_op.Statement.{statement}
 use Rattle.decoder.proofs.family.sized_op.Tie as tie
-use Rattle.decoder.proofs.family.sized_op.Reads as reads
-use Rattle.decoder.proofs.family.sized_op.Lts as lts
-
--- src/family.rt:52:1
-returns : tie.Need-returns
-returns c = ?
-
--- src/family.rt:52:1
-returns-2 : tie.Need-returns-2
-returns-2 c = ?
-
--- src/family.rt:52:1
-returns-3 : tie.Need-returns-3
-returns-3 c = ?
-
--- src/family.rt:52:1
-returns-4 : tie.Need-returns-4
-returns-4 c = ?
-
--- src/family.rt:52:1
-returns-5 : tie.Need-returns-5
-returns-5 c = ?
-
--- src/family.rt:52:1
-returns-6 : tie.Need-returns-6
-returns-6 c = ?
-
--- src/family.rt:52:1
-returns-7 : tie.Need-returns-7
-returns-7 c = ?
-
--- src/family.rt:52:1
-returns-8 : tie.Need-returns-8
-returns-8 c = ?
-
--- src/family.rt:52:1
-returns-9 : tie.Need-returns-9
-returns-9 c = ?
-
--- src/family.rt:52:1
-returns-10 : tie.Need-returns-10
-returns-10 c = ?
-
--- src/family.rt:52:1
-returns-11 : tie.Need-returns-11
-returns-11 c = ?
-
--- src/family.rt:52:1
-returns-12 : tie.Need-returns-12
-returns-12 c = ?
-
--- src/family.rt:52:1
-returns-13 : tie.Need-returns-13
-returns-13 c = ?
-
--- src/family.rt:52:1
-returns-14 : tie.Need-returns-14
-returns-14 c = ?
 
 pub sized-op-spec : {M : Type 1} → statement M
+unfolding sizedAt
 sized-op-spec =
     tie.close
     (tie.spec
-    returns
-    returns-2
-    returns-3
-    returns-4
-    returns-5
-    returns-6
-    returns-7
-    returns-8
-    returns-9
-    returns-10
-    returns-11
-    returns-12
-    returns-13
-    returns-14)
+    (λ c. entry _ sizedTable (c .match .keys1))
+    (λ c. entry _ sizedTable (c .match .keys2))
+    (λ c. entry _ sizedTable (c .match .keys3))
+    (λ c. entry _ sizedTable (c .match .keys4))
+    (λ c. entry _ sizedTable (c .match .keys5))
+    (λ c. entry _ sizedTable (c .match .keys6))
+    (λ c. entry _ sizedTable (c .match .keys7))
+    (λ c. entry _ sizedTable (c .match .keys8))
+    (λ c. entry _ sizedTable (c .match .keys9))
+    (λ c. entry _ sizedTable (c .match .keys10))
+    (λ c. entry _ sizedTable (c .match .keys11))
+    (λ c. entry _ sizedTable (c .match .keys12))
+    (λ c. entry _ sizedTable (c .match .keys13))
+    (λ c. absent _ sizedTable _ (c .match .rest)))

@@ -1,25 +1,25 @@
+-- `decoder::family::unsigned_operands` meets its contract. Assumes nothing.
+use Prim.Native.Nat.{_*_, _/_, _%_, _≤_}
+use native.Mathlib.Omega.{arith}
+use mir.Syntax.{w64}
+use mir.Facts.{toZ-pos}
+use Rattle.bits.specs.Fields.{part}
+use Rattle.instruction.proofs.Codes.{sized}
+use Rattle.decoder.proofs.Products.{small}
+use Rattle.decoder.proofs.Arms.{unsigned-is}
 use borrow.Author.Needs.{needs}
 use Rattle.decoder.proofs.family.unsigned_operands.Statement.{statement}
 use Rattle.decoder.proofs.family.unsigned_operands.Tie as tie
-use Rattle.decoder.proofs.family.unsigned_operands.Reads as reads
-use Rattle.decoder.proofs.family.unsigned_operands.Lts as lts
-use Rattle.instruction.proofs.sized_bytes.Reads as sized-bytes-reads
 
--- src/family.rt:170:9
-sized-bytes-requires : tie.Need-sized-bytes-requires
-sized-bytes-requires c κs = search needs
-
--- src/family.rt:171:19
-mul-offset : tie.Need-mul-offset
-mul-offset c = ?
-
--- src/family.rt:171:18
-cast-offset : tie.Need-cast-offset
-cast-offset c = ?
-
--- src/family.rt:167:1
-returns : tie.Need-returns
-returns c = ?
+most : (c : tie.After-sized-bytes) → c .before .args .word / 1024 % 4096 * c .sized-bytes .result ≤ 4194304
+most c = small (omega arith) (omega (arith, c .sized-bytes .ensures, sized (c .before .args .op)))
 
 pub unsigned-operands-spec : {M : Type 1} → statement M
-unsigned-operands-spec = tie.close (tie.spec sized-bytes-requires mul-offset cast-offset returns)
+unfolding part
+unsigned-operands-spec =
+    tie.close
+    (tie.spec
+    (λ c κs. search needs)
+    (λ c. omega (arith, most c))
+    (λ c. record { sfits = omega (arith, most c) })
+    (λ c. unsigned-is (c .before .args .op) (c .before .args .word) (c .sized-bytes .ensures) (toZ-pos w64 (omega (arith, most c)))))

@@ -1,23 +1,18 @@
+-- `decoder::undefined::in_pair` meets its contract. Assumes nothing.
+use mathlib.Core.Path.{sym}
+use mathlib.Core.Bool.{Bool·not-not}
+use borrow.Author.Tests.{eq-eqb, ne-eqb}
+use Rattle.bits.specs.Fields.{part}
+use Rattle.instruction.specs.Undefined.{undefinedPair}
 use Rattle.decoder.proofs.undefined.in_pair.Statement.{statement}
 use Rattle.decoder.proofs.undefined.in_pair.Tie as tie
-use Rattle.decoder.proofs.undefined.in_pair.Reads as reads
-use Rattle.decoder.proofs.undefined.in_pair.Lts as lts
-
--- src/undefined.rt:56:9
-returns : tie.Need-returns
-returns c = ?
-
--- src/undefined.rt:60:13
-returns-2 : tie.Need-returns-2
-returns-2 c = ?
-
--- src/undefined.rt:62:9
-returns-3 : tie.Need-returns-3
-returns-3 c = ?
-
--- src/undefined.rt:51:1
-returns-4 : tie.Need-returns-4
-returns-4 c = ?
 
 pub in-pair-spec : {M : Type 1} → statement M
-in-pair-spec = tie.close (tie.spec returns returns-2 returns-3 returns-4)
+unfolding undefinedPair part
+in-pair-spec =
+    tie.close
+    (tie.spec
+    (λ c. simp (eq-eqb _ _ (c .if1 .taken)))
+    (λ c. simp (ne-eqb _ _ (c .before .before .if1 .left), eq-eqb _ _ (c .before .if2 .taken), eq-eqb _ _ (c .if3 .taken)) (sym (Bool·not-not _)))
+    (λ c. simp (ne-eqb _ _ (c .before .before .if1 .left), eq-eqb _ _ (c .before .if2 .taken), ne-eqb _ _ (c .if3 .left)))
+    (λ c. simp (ne-eqb _ _ (c .before .if1 .left), ne-eqb _ _ (c .if2 .left))))

@@ -1,15 +1,14 @@
+-- `decoder::unpredictable::base_is` meets its contract. Assumes nothing.
+use borrow.Author.Tests.{eq-eqb, ne-eqb}
+use Rattle.bits.specs.Fields.{part}
+use Rattle.instruction.specs.Unpredictable.{baseIs}
 use Rattle.decoder.proofs.unpredictable.base_is.Statement.{statement}
 use Rattle.decoder.proofs.unpredictable.base_is.Tie as tie
-use Rattle.decoder.proofs.unpredictable.base_is.Reads as reads
-use Rattle.decoder.proofs.unpredictable.base_is.Lts as lts
-
--- src/unpredictable.rt:27:9
-returns : tie.Need-returns
-returns c = ?
-
--- src/unpredictable.rt:22:1
-returns-2 : tie.Need-returns-2
-returns-2 c = ?
 
 pub base-is-spec : {M : Type 1} → statement M
-base-is-spec = tie.close (tie.spec returns returns-2)
+unfolding baseIs part
+base-is-spec =
+    tie.close
+    (tie.spec
+    (λ c. simp (eq-eqb _ _ (c .if1 .taken)))
+    (λ c. simp (ne-eqb _ _ (c .if1 .left))))

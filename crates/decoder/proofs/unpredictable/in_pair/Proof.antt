@@ -1,25 +1,18 @@
+-- `decoder::unpredictable::in_pair` meets its contract. Assumes nothing.
+use borrow.Author.Tests.{eq-eqb, ne-eqb}
+use Rattle.bits.specs.Fields.{part}
+use Rattle.instruction.specs.Unpredictable.{unpredictablePair}
+use Rattle.decoder.proofs.Arms.{first-holds, second-decides}
 use borrow.Author.Needs.{needs}
 use Rattle.decoder.proofs.unpredictable.in_pair.Statement.{statement}
 use Rattle.decoder.proofs.unpredictable.in_pair.Tie as tie
-use Rattle.decoder.proofs.unpredictable.in_pair.Reads as reads
-use Rattle.decoder.proofs.unpredictable.in_pair.Lts as lts
-use Rattle.decoder.proofs.unpredictable.pair_base_is.Reads as pair-base-is-reads
-
--- src/unpredictable.rt:47:8
-pair-base-is-requires : tie.Need-pair-base-is-requires
-pair-base-is-requires c κs = search needs
-
--- src/unpredictable.rt:48:9
-returns : tie.Need-returns
-returns c = ?
-
--- src/unpredictable.rt:51:9
-returns-2 : tie.Need-returns-2
-returns-2 c = ?
-
--- src/unpredictable.rt:44:1
-returns-3 : tie.Need-returns-3
-returns-3 c = ?
 
 pub in-pair-spec : {M : Type 1} → statement M
-in-pair-spec = tie.close (tie.spec pair-base-is-requires returns returns-2 returns-3)
+unfolding unpredictablePair part
+in-pair-spec =
+    tie.close
+    (tie.spec
+    (λ c κs. search needs)
+    (λ c. first-holds _ (c .before .pair-base-is .ensures) (c .if1 .taken))
+    (λ c. second-decides (c .before .before .pair-base-is .ensures) (c .before .if1 .left) (simp (eq-eqb _ _ (c .if2 .taken))))
+    (λ c. second-decides (c .before .before .pair-base-is .ensures) (c .before .if1 .left) (simp (ne-eqb _ _ (c .if2 .left)))))
