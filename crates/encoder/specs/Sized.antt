@@ -1,11 +1,11 @@
 -- The word of a family with a size, from the fields that they share and own, all other bits in place.
 use Prim.Native.Nat.{ℕ, _+_, _*_}
-use mathlib.Core.Bool.{Bool, true, false, _&&_}
+use mathlib.Core.Bool.{_&&_}
 use lib.Dec.{ltb}
 use Rattle.bits.specs.Choice.{pick}
 use Rattle.bits.specs.declared.Field.{Field}
 use Rattle.bits.specs.declared.Field.the-variants.{Holds, Unfit}
-use Rattle.instruction.specs.Types.{SizedOp}
+use Rattle.instruction.specs.declared.operation.SizedOp.{SizedOp}
 use Rattle.instruction.specs.Operations.{sizeOf, opcOf}
 
 unfoldable pub sizedWord : SizedOp → ℕ → ℕ → ℕ → Field

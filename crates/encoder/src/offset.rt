@@ -4,7 +4,6 @@ use instruction::PairOp;
 use instruction::SizedOp;
 ghost use mathlib.Core.Path.{_≡_};
 ghost use Prim.Native.Nat.{_<_, _≤_};
-ghost use lib.IntN.{natAbs};
 ghost use Rattle.bits.specs.Signed.{quotientOf, bitsOf, plainBitsOf};
 ghost use Rattle.instruction.specs.Operations.{sizedBytes, pairBytes};
 
@@ -37,7 +36,7 @@ fn signed_bits(offset: i64, half: u32, scale: u32) -> Field
     requires { ⌜ (0 < scale) × (half ≤ 262144) ⌝ }
     ensures { λ r. ⌜ r ≡ bitsOf half scale offset ⌝ }
 {
-    let far = magnitude(offset);
+    let far = bits::magnitude(offset);
     if offset < 0 {
         let field = quotient(far, scale, half + 1);
         match field {
@@ -54,24 +53,14 @@ fn plain_bits(offset: i64, limit: u32, scale: u32) -> Field
     requires { ⌜ 0 < scale ⌝ }
     ensures { λ r. ⌜ r ≡ plainBitsOf limit scale offset ⌝ }
 {
-    let far = magnitude(offset);
+    let far = bits::magnitude(offset);
     if offset < 0 {
         return Field::Unfit;
     }
     quotient(far, scale, limit)
 }
 
-// How far an offset is from 0.
-fn magnitude(offset: i64) -> u64
-    ensures { λ r. ⌜ r ≡ natAbs offset ⌝ }
-{
-    if offset < 0 {
-        (-1 - offset) as u64 + 1
-    } else {
-        offset as u64
-    }
-}
-
+// The quotient, where it is whole and below the limit.
 fn quotient(magnitude: u64, scale: u32, limit: u32) -> Field
     requires { ⌜ 0 < scale ⌝ }
     ensures { λ r. ⌜ r ≡ quotientOf magnitude scale limit ⌝ }

@@ -1,9 +1,10 @@
 // The word with the fields of an instruction, or none where one is out of range. The constants are the
 // fixed bits of each line.
-use bits::Field;
 use crate::offset;
+use bits::Field;
 use instruction::Family;
 use instruction::IndexOperands;
+use instruction::Line;
 use instruction::LiteralOp;
 use instruction::LiteralOperands;
 use instruction::OffsetOperands;
@@ -12,10 +13,7 @@ use instruction::PairOp;
 use instruction::PairOperands;
 use instruction::SizedOp;
 ghost use mathlib.Core.Path.{_≡_};
-ghost use Prim.Native.Nat.{_+_, _*_, _^_, _<_, _≤_};
-ghost use mathlib.Core.List.{[], _∷_};
-ghost use Rattle.bits.specs.Fields.{bits};
-ghost use Rattle.instruction.specs.Types.{PairLine, LiteralLine};
+ghost use Prim.Native.Nat.{_<_, _≤_};
 ghost use Rattle.instruction.specs.Operations.{literalOpc, pairOpc, pairLoad, modeCode};
 ghost use Rattle.instruction.specs.Encoding.{fixed, wordWith, literalFields, literalWord, pairFields, pairWord, signedWord, indexWord, unsignedWord, wordOf};
 ghost use Rattle.encoder.specs.Sized.{sizedWord};
@@ -49,7 +47,7 @@ fn literal_word(op: LiteralOp, o: LiteralOperands) -> Field
 
 fn literal_sum(op: LiteralOp, target: u32, imm19: u32) -> Field
     requires { ⌜ imm19 < 524288 ⌝ }
-    ensures { λ r. ⌜ r ≡ wordWith (fixed LiteralLine) (literalFields op target imm19) ⌝ }
+    ensures { λ r. ⌜ r ≡ wordWith (fixed Line.LiteralLine) (literalFields op target imm19) ⌝ }
 {
     if 32 <= target {
         return Field::Unfit;
@@ -80,7 +78,7 @@ fn pair_word(op: PairOp, o: PairOperands) -> Field
 
 fn pair_sum(op: PairOp, o: PairOperands, imm7: u32) -> Field
     requires { ⌜ imm7 < 128 ⌝ }
-    ensures { λ r. ⌜ r ≡ wordWith (fixed PairLine) (pairFields op o imm7) ⌝ }
+    ensures { λ r. ⌜ r ≡ wordWith (fixed Line.PairLine) (pairFields op o imm7) ⌝ }
 {
     let base = o.base;
     let first = o.first;

@@ -1,0 +1,172 @@
+-- From an instruction to its word and back to the instruction. Assumes nothing.
+use Prim.Native.Nat.{ℕ, _+_, _*_, _^_, _<_}
+use mathlib.Core.Path.{_≡_, refl, ap, _∙_}
+use mathlib.Core.List.{List, [], _∷_}
+use native.Mathlib.Omega.{arith}
+use Rattle.bits.specs.declared.Field.{Field}
+use Rattle.bits.specs.declared.Field.the-variants.{Holds, Unfit}
+use Rattle.bits.specs.Fields.{part, Bits, bits, fit, placed}
+use Rattle.bits.specs.Signed.{bitsOf, plainBitsOf}
+use Rattle.bits.proofs.Choices.{picked}
+use Rattle.bits.proofs.Parts.{unpack, Has, Fit, fit-true}
+use Rattle.bits.proofs.Offsets.{unfit, signed-back, plain-is}
+use Rattle.instruction.specs.declared.line.Line.{Line}
+use Rattle.instruction.specs.declared.line.Line.the-variants.{LiteralLine, PairLine, OrderedLine, UnscaledLine, PostLine, PreLine, RegisterLine, UnsignedLine}
+use Rattle.instruction.specs.declared.family.Family.{Family}
+use Rattle.instruction.specs.declared.family.Family.the-variants.{Empty, Literal, Pair, Ordered, Unscaled, PostIndex, PreIndex, Register, Unsigned}
+use Rattle.instruction.specs.declared.family.LiteralOperands.{LiteralOperands}
+use Rattle.instruction.specs.declared.family.PairOperands.{PairOperands}
+use Rattle.instruction.specs.declared.family.OffsetOperands.{OffsetOperands}
+use Rattle.instruction.specs.declared.family.IndexOperands.{IndexOperands}
+use Rattle.instruction.specs.declared.operation.LiteralOp.{LiteralOp}
+use Rattle.instruction.specs.declared.operation.PairOp.{PairOp}
+use Rattle.instruction.specs.declared.operation.SizedOp.{SizedOp}
+use Rattle.instruction.specs.Table.{lineOf}
+use Rattle.instruction.specs.Operations.{sizeOf, opcOf, sizedBytes, literalOpc, pairOpc, pairLoad, pairBytes, modeCode}
+use Rattle.instruction.specs.Instructions.{sizedIn, literalIn, pairOpIn, pairIn, signedIn, indexIn, unsignedIn, familyIn}
+use Rattle.instruction.specs.Encoding.{fixed, wordWith, withBits, literalFields, literalWord, pairFields, pairWord, sizedFields, signedWord, indexFields, indexWord, unsignedWord, wordOf}
+use Rattle.instruction.proofs.Lines.{line-is}
+use Rattle.instruction.proofs.Codes.{sized-at, literal-at, pair-at, mode-at}
+
+-- ---- what a word that was found says
+
+with-back : (F : Field) (f : ℕ → Field) (w : ℕ) → withBits F f ≡ Holds w → (b : ℕ) × (F ≡ Holds b) × (f b ≡ Holds w)
+with-back (Holds b) f w h = (b, refl, h)
+with-back Unfit f w h = absurd (unfit h)
+
+word-back : (f : ℕ) (fs : List Bits) (w : ℕ) → wordWith f fs ≡ Holds w → Fit fs × (f + placed fs ≡ w)
+unfolding wordWith
+word-back f fs w h =
+    let p = picked (fit fs) h unfit in
+    (fit-true fs (p .0), cc)
+
+-- the word is of the line, and its family is the one that it was made of
+abbrev Back : ℕ → Line → Family → Type 0
+Back w l F = (lineOf w ≡ l) × (familyIn l w ≡ F) × (w < 2 ^ 32)
+
+literal-back : (op : LiteralOp) (o : LiteralOperands) (w : ℕ) → literalWord op o ≡ Holds w → Back w LiteralLine (Literal op o)
+unfolding literalWord literalIn
+literal-back op o w h =
+    let p = with-back (bitsOf 262144 4 (o .offset)) (λ b. wordWith (fixed LiteralLine) (literalFields op (o .target) b)) w h in
+    let s = signed-back 262144 4 (p .0) (o .offset) (p .1) in
+    let q = word-back (fixed LiteralLine) (literalFields op (o .target) (p .0)) w (p .2) in
+    let r = q .0 in
+    let u = unpack ((o .target, 5) ∷ (p .0, 19) ∷ (0, 2) ∷ (0, 1) ∷ (3, 3) ∷ (literalOpc op, 2) ∷ []) w (omega (arith, q .1))
+    (r .1 .0, (r .1 .1 .0, (omega arith, (omega arith, (omega arith, (r .0, tt)))))) in (
+      line-is w LiteralLine refl (u .1 .1 .1 .0, (u .1 .1 .1 .1 .0, (u .1 .1 .0, tt))),
+      simp (u .1 .1 .1 .1 .1 .0, literal-at op, u .0, u .1 .0, s .1),
+      omega (arith, q .1, r .0, r .1 .0, r .1 .1 .0),
+    )
+
+pair-back : (op : PairOp) (o : PairOperands) (w : ℕ) → pairWord op o ≡ Holds w → Back w PairLine (Pair op o)
+unfolding pairWord pairIn pairOpIn
+pair-back op o w h =
+    let p = with-back (bitsOf 64 (pairBytes op) (o .offset)) (λ b. wordWith (fixed PairLine) (pairFields op o b)) w h in
+    let s = signed-back 64 (pairBytes op) (p .0) (o .offset) (p .1) in
+    let q = word-back (fixed PairLine) (pairFields op o (p .0)) w (p .2) in
+    let (opc, (mode, (load, (base, (first, (second, (imm7, t))))))) = q .0 in
+    let u = unpack
+    ((o .first, 5) ∷ (o .base, 5) ∷ (o .second, 5) ∷ (p .0, 7) ∷ (pairLoad op, 1) ∷ (modeCode (o .mode), 2) ∷ (0, 1) ∷ (0, 1) ∷ (5, 3) ∷ (pairOpc op, 2) ∷ [])
+    w (omega (arith, q .1)) (first, (base, (second, (imm7, (load, (mode, (omega arith, (omega arith, (omega arith, (opc, tt)))))))))) in
+    let (first=, (base=, (second=, (imm7=, (load=, (mode=, (b25, (b26, (b27, (opc=, _)))))))))) = u in (
+      line-is w PairLine refl (b26, (b27, (b25, tt))),
+      simp (opc=, load=, pair-at op, first=, second=, base=, mode=, mode-at (o .mode), imm7=, s .1),
+      omega (arith, q .1, opc, mode, load, base, first, second, imm7),
+    )
+
+-- the families with a size: what all of them have
+module _ (op : SizedOp) (w : ℕ) where
+  sized-back : part 30 2 w ≡ sizeOf op → part 22 2 w ≡ opcOf op → sizedIn w ≡ op
+  unfolding sizedIn
+  sized-back s o = simp (s, o, sized-at op)
+
+-- the four families with imm9, over what tells them apart: bits 29..27, 25..24 and 11..10
+module _ (op : SizedOp) (o : OffsetOperands) (w a b d : ℕ) (ha : a < 8) (hb : b < 4) (hd : d < 4) where
+  record Signed : Type 0 where
+    has : Has w (bits 26 26 0 ∷ bits 29 27 a ∷ bits 25 24 b ∷ bits 21 21 0 ∷ bits 11 10 d ∷ [])
+    op= : sizedIn w ≡ op
+    operands : signedIn w ≡ o
+    word : w < 2 ^ 32
+
+  signed-back-from : {f : ℕ} → f ≡ a * 2 ^ 27 + b * 2 ^ 24 + d * 2 ^ 10 → signedWord f op o ≡ Holds w → Signed
+  unfolding signedWord signedIn
+  signed-back-from {f} e h =
+      let p = with-back (bitsOf 256 1 (o .offset)) (λ b. wordWith f (sizedFields op (o .base) (o .target) (bits 20 12 b ∷ []))) w h in
+      let s = signed-back 256 1 (p .0) (o .offset) (p .1) in
+      let q = word-back f (sizedFields op (o .base) (o .target) (bits 20 12 (p .0) ∷ [])) w (p .2) in
+      let (size, (opc, (base, (target, (imm9, t))))) = q .0 in
+      let u = unpack
+      ((o .target, 5) ∷ (o .base, 5) ∷ (d, 2) ∷ (p .0, 9) ∷ (0, 1) ∷ (opcOf op, 2) ∷ (b, 2) ∷ (0, 1) ∷ (a, 3) ∷ (sizeOf op, 2) ∷ [])
+      w (omega (arith, q .1, e)) (target, (base, (hd, (imm9, (omega arith, (opc, (hb, (omega arith, (ha, (size, tt)))))))))) in
+      let (target=, (base=, (b10, (imm9=, (b21, (opc=, (b24, (b26, (b27, (size=, _)))))))))) = u in
+      record {
+        has = (b26, (b27, (b24, (b21, (b10, tt)))));
+        op= = sized-back op w size= opc=;
+        operands = simp (target=, base=, imm9=, s .1);
+        word = omega (arith, q .1, e, size, opc, base, target, imm9);
+      }
+
+  signed-family : (l : Line) (F : SizedOp → OffsetOperands → Family) {f : ℕ} → f ≡ a * 2 ^ 27 + b * 2 ^ 24 + d * 2 ^ 10 → signedWord f op o ≡ Holds w
+      → (Has w (bits 26 26 0 ∷ bits 29 27 a ∷ bits 25 24 b ∷ bits 21 21 0 ∷ bits 11 10 d ∷ []) → lineOf w ≡ l)
+      → familyIn l w ≡ F (sizedIn w) (signedIn w) → Back w l (F op o)
+  signed-family l F e h line q =
+      let s = signed-back-from e h in
+      (line (s .has), q ∙ ap (λ (x : SizedOp). F x (signedIn w)) (s .op=) ∙ ap (F op) (s .operands), s .word)
+
+index-back : (op : SizedOp) (o : IndexOperands) (w : ℕ) → indexWord op o ≡ Holds w → Back w RegisterLine (Register op o)
+unfolding indexWord indexIn
+index-back op o w h =
+    let q = word-back (fixed RegisterLine) (sizedFields op (o .base) (o .target) (indexFields o)) w h in
+    let (size, (opc, (base, (target, (index, (option, (scaled, t))))))) = q .0 in
+    let u = unpack
+    ((o .target, 5) ∷ (o .base, 5) ∷ (2, 2) ∷ (o .scaled, 1) ∷ (o .option, 3) ∷ (o .index, 5) ∷ (1, 1) ∷ (opcOf op, 2) ∷ (0, 2) ∷ (0, 1) ∷ (7, 3) ∷ (sizeOf op, 2) ∷ [])
+    w (omega (arith, q .1))
+    (target, (base, (omega arith, (scaled, (option, (index, (omega arith, (opc, (omega arith, (omega arith, (omega arith, (size, tt)))))))))))) in
+    let (target=, (base=, (b10, (scaled=, (option=, (index=, (b21, (opc=, (b24, (b26, (b27, (size=, _)))))))))))) = u in (
+      line-is w RegisterLine refl (b26, (b27, (b24, (b21, (b10, tt))))),
+      simp (sized-back op w size= opc=, target=, base=, index=, option=, scaled=),
+      omega (arith, q .1, size, opc, base, target, index, option, scaled),
+    )
+
+unsigned-back : (op : SizedOp) (o : OffsetOperands) (w : ℕ) → unsignedWord op o ≡ Holds w → Back w UnsignedLine (Unsigned op o)
+unfolding unsignedWord unsignedIn
+unsigned-back op o w h =
+    let p = with-back (plainBitsOf 4096 (sizedBytes op) (o .offset)) (λ b. wordWith (fixed UnsignedLine) (sizedFields op (o .base) (o .target) (bits 21 10 b ∷ []))) w h in
+    let s = plain-is 4096 (sizedBytes op) (p .0) (o .offset) (p .1) in
+    let q = word-back (fixed UnsignedLine) (sizedFields op (o .base) (o .target) (bits 21 10 (p .0) ∷ [])) w (p .2) in
+    let (size, (opc, (base, (target, (imm12, t))))) = q .0 in
+    let u = unpack
+    ((o .target, 5) ∷ (o .base, 5) ∷ (p .0, 12) ∷ (opcOf op, 2) ∷ (1, 2) ∷ (0, 1) ∷ (7, 3) ∷ (sizeOf op, 2) ∷ [])
+    w (omega (arith, q .1)) (target, (base, (imm12, (opc, (omega arith, (omega arith, (omega arith, (size, tt)))))))) in
+    let (target=, (base=, (imm12=, (opc=, (b24, (b26, (b27, (size=, _)))))))) = u in (
+      line-is w UnsignedLine refl (b26, (b27, (b24, tt))),
+      simp (sized-back op w size= opc=, target=, base=, imm12=, s .1),
+      omega (arith, q .1, size, opc, base, target, imm12),
+    )
+
+-- the line of a family
+abbrev pub lineFor : Family → Line
+lineFor Empty = Line.NoLine
+lineFor (Literal op o) = LiteralLine
+lineFor (Pair op o) = PairLine
+lineFor (Ordered op o) = OrderedLine
+lineFor (Unscaled op o) = UnscaledLine
+lineFor (PostIndex op o) = PostLine
+lineFor (PreIndex op o) = PreLine
+lineFor (Register op o) = RegisterLine
+lineFor (Unsigned op o) = UnsignedLine
+
+pub back : (F : Family) (w : ℕ) → wordOf F ≡ Holds w → Back w (lineFor F) F
+back Empty w h = absurd (unfit h)
+back (Literal op o) w h = literal-back op o w h
+back (Pair op o) w h = pair-back op o w h
+back (Ordered op o) w h =
+    signed-family op o w 3 1 0 (omega arith) (omega arith) (omega arith) OrderedLine Ordered refl h (line-is w OrderedLine refl) refl
+back (Unscaled op o) w h =
+    signed-family op o w 7 0 0 (omega arith) (omega arith) (omega arith) UnscaledLine Unscaled refl h (line-is w UnscaledLine refl) refl
+back (PostIndex op o) w h =
+    signed-family op o w 7 0 1 (omega arith) (omega arith) (omega arith) PostLine PostIndex refl h (line-is w PostLine refl) refl
+back (PreIndex op o) w h =
+    signed-family op o w 7 0 3 (omega arith) (omega arith) (omega arith) PreLine PreIndex refl h (line-is w PreLine refl) refl
+back (Register op o) w h = index-back op o w h
+back (Unsigned op o) w h = unsigned-back op o w h

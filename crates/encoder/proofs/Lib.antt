@@ -1,0 +1,5 @@
+pub mod Offsets
+pub mod Words
+pub mod There
+pub mod Back
+pub mod RoundTrip

@@ -1,0 +1,160 @@
+-- From a word to its instruction and back to the word. Assumes nothing.
+use Prim.Native.Nat.{ℕ, _+_, _*_, _^_, _<_}
+use mathlib.Core.Path.{_≡_, refl, sym}
+use mathlib.Core.Bool.{Bool, true, false, _&&_, _||_, not}
+use mathlib.Core.List.{[], _∷_}
+use native.Mathlib.Omega.{arith}
+use lib.Dec.{eqb}
+use borrow.Author.Tests.{lt-ltb, eqb-true, eqb-false}
+use Rattle.bits.specs.declared.Field.the-variants.{Holds}
+use Rattle.bits.specs.Fields.{part, field, bits}
+use Rattle.bits.proofs.Choices.{neither}
+use Rattle.bits.proofs.Parts.{part-lt, top, split, Has}
+use Rattle.bits.proofs.Offsets.{bits-back, plain-back}
+use Rattle.instruction.specs.declared.line.Line.{Line}
+use Rattle.instruction.specs.declared.line.Line.the-variants.{NoLine, LiteralLine, PairLine, OrderedLine, UnscaledLine, PostLine, PreLine, RegisterLine, UnsignedLine}
+use Rattle.instruction.specs.Table.{isLine, fixedOf}
+use Rattle.instruction.specs.Undefined.{sizeOpc, undefinedSize, undefinedPrefetch, undefinedOption, undefinedPair, undefinedIn}
+use Rattle.instruction.specs.Operations.{sizeOf, opcOf, sizedAt, literalAt, pairOpc, pairLoad, pairAt}
+use Rattle.instruction.specs.Instructions.{sizedIn, literalIn, pairOpIn, pairIn, signedIn, indexIn, unsignedIn, familyIn}
+use Rattle.instruction.specs.Encoding.{literalWord, pairWord, signedWord, indexWord, unsignedWord, wordOf}
+use Rattle.instruction.proofs.Codes.{sized, paired, sized-code, literal-code, pair-code, mode-code}
+use Rattle.encoder.proofs.Words.{word-is}
+
+-- ---- the codes of a word that is not undefined
+
+record Sizes (w : ℕ) : Type 0 where
+  size : sizeOf (sizedIn w) ≡ part 30 2 w
+  opc : opcOf (sizedIn w) ≡ part 22 2 w
+
+sizes : (w : ℕ) → undefinedSize w ≡ false → Sizes w
+unfolding undefinedSize sizedIn
+sizes w u =
+    let n = neither (eqb (sizeOpc w) 0b10_11) (eqb (sizeOpc w) 0b11_11) u in
+    let a = part-lt 30 2 w in
+    let b = part-lt 22 2 w in
+    let c = sized-code (sizeOpc w) (omega arith) (eqb-false _ _ (n .0)) (eqb-false _ _ (n .1)) in
+    let s = sized (sizedAt (sizeOpc w)) in
+    omega arith
+
+record Pairs (w : ℕ) : Type 0 where
+  opc : pairOpc (pairOpIn w) ≡ part 30 2 w
+  load : pairLoad (pairOpIn w) ≡ part 22 1 w
+
+pair-defined : (opc load mode : ℕ) → (eqb opc 0b11 || (eqb opc 0b01 && not (eqb load 1 && not (eqb mode 0b00)))) ≡ false
+    → ¬ (opc ≡ 3) × (opc ≡ 1 → load ≡ 1)
+pair-defined opc load mode u =
+    let n = neither (eqb opc 0b11) (eqb opc 0b01 && not (eqb load 1 && not (eqb mode 0b00))) u in
+    (eqb-false _ _ (n .0), λ e. loaded (eqb load 1) refl (rw e at (n .1)))
+  where
+    loaded : (l : Bool) → eqb load 1 ≡ l → (eqb 1 1 && not (eqb load 1 && not (eqb mode 0b00))) ≡ false → load ≡ 1
+    loaded true e h = eqb-true _ _ e
+    loaded false e h = let z : true ≡ false = rw e at h in cc
+
+pairs : (w : ℕ) → undefinedPair w ≡ false → Pairs w
+unfolding undefinedPair pairOpIn
+pairs w u =
+    let n = pair-defined (part 30 2 w) (part 22 1 w) (part 23 2 w) u in
+    let a = part-lt 30 2 w in
+    let b = part-lt 22 1 w in
+    let k : ¬ (part 30 2 w * 2 + part 22 1 w ≡ 2) = λ e. (let q = n .1 (omega arith) in omega arith) in
+    let c = pair-code (part 30 2 w * 2 + part 22 1 w) (omega (arith, n .0)) k in
+    let s = paired (pairAt (part 30 2 w * 2 + part 22 1 w)) in
+    omega arith
+
+-- ---- the word of each family
+
+module _ (w : ℕ) (h : w < 2 ^ 32) where
+  literal-there : Has w (fixedOf LiteralLine) → literalWord (literalAt (field 31 30 w)) (literalIn w) ≡ Holds w
+  unfolding literalWord literalIn
+  literal-there g =
+      let c = literal-code (part 30 2 w) (part-lt 30 2 w) in
+      rw (bits-back 262144 {scale = 4} (omega arith) (part 5 19 w) (part-lt 5 19 w))
+      (sym (word-is _ _ (simp (c, lt-ltb _ _ (part-lt 30 2 w), lt-ltb _ _ (part-lt 0 5 w), lt-ltb _ _ (part-lt 5 19 w)))
+      (omega (arith, split (5 ∷ 19 ∷ 2 ∷ 1 ∷ 3 ∷ 2 ∷ []) w, top w 32 h))))
+
+  pair-there : Has w (fixedOf PairLine) → undefinedPair w ≡ false → pairWord (pairOpIn w) (pairIn (pairOpIn w) w) ≡ Holds w
+  unfolding pairWord pairIn
+  pair-there g u =
+      let p = pairs w u in
+      let m = mode-code (part 23 2 w) (part-lt 23 2 w) in
+      rw (bits-back 64 (paired (pairOpIn w) .some) (part 15 7 w) (part-lt 15 7 w))
+      (sym (word-is _ _
+      (simp (
+        p .opc,
+        p .load,
+        m,
+        lt-ltb _ _ (part-lt 30 2 w),
+        lt-ltb _ _ (part-lt 23 2 w),
+        lt-ltb _ _ (part-lt 22 1 w),
+        lt-ltb _ _ (part-lt 5 5 w),
+        lt-ltb _ _ (part-lt 0 5 w),
+        lt-ltb _ _ (part-lt 10 5 w),
+        lt-ltb _ _ (part-lt 15 7 w),
+      ))
+      (omega (arith, split (5 ∷ 5 ∷ 5 ∷ 7 ∷ 1 ∷ 2 ∷ 1 ∷ 1 ∷ 3 ∷ 2 ∷ []) w, top w 32 h))))
+
+  -- the four families with imm9, over what tells them apart: bits 29..27, 25..24 and 11..10
+  signed-there : (a b d : ℕ) {f : ℕ} → Has w (bits 26 26 0 ∷ bits 29 27 a ∷ bits 25 24 b ∷ bits 21 21 0 ∷ bits 11 10 d ∷ [])
+      → f ≡ a * 2 ^ 27 + b * 2 ^ 24 + d * 2 ^ 10 → undefinedSize w ≡ false → signedWord f (sizedIn w) (signedIn w) ≡ Holds w
+  unfolding signedWord signedIn
+  signed-there a b d g e u =
+      let s = sizes w u in
+      rw (bits-back 256 {scale = 1} (omega arith) (part 12 9 w) (part-lt 12 9 w))
+      (sym (word-is _ _
+      (simp (
+        s .size,
+        s .opc,
+        lt-ltb _ _ (part-lt 30 2 w),
+        lt-ltb _ _ (part-lt 22 2 w),
+        lt-ltb _ _ (part-lt 5 5 w),
+        lt-ltb _ _ (part-lt 0 5 w),
+        lt-ltb _ _ (part-lt 12 9 w),
+      ))
+      (omega (arith, split (5 ∷ 5 ∷ 2 ∷ 9 ∷ 1 ∷ 2 ∷ 2 ∷ 1 ∷ 3 ∷ 2 ∷ []) w, top w 32 h))))
+
+  index-there : Has w (fixedOf RegisterLine) → undefinedSize w ≡ false → indexWord (sizedIn w) (indexIn w) ≡ Holds w
+  unfolding indexWord indexIn
+  index-there g u =
+      let s = sizes w u in
+      sym (word-is _ _
+      (simp (
+        s .size,
+        s .opc,
+        lt-ltb _ _ (part-lt 30 2 w),
+        lt-ltb _ _ (part-lt 22 2 w),
+        lt-ltb _ _ (part-lt 5 5 w),
+        lt-ltb _ _ (part-lt 0 5 w),
+        lt-ltb _ _ (part-lt 16 5 w),
+        lt-ltb _ _ (part-lt 13 3 w),
+        lt-ltb _ _ (part-lt 12 1 w),
+      ))
+      (omega (arith, split (5 ∷ 5 ∷ 2 ∷ 1 ∷ 3 ∷ 5 ∷ 1 ∷ 2 ∷ 2 ∷ 1 ∷ 3 ∷ 2 ∷ []) w, top w 32 h)))
+
+  unsigned-there : Has w (fixedOf UnsignedLine) → undefinedSize w ≡ false → unsignedWord (sizedIn w) (unsignedIn (sizedIn w) w) ≡ Holds w
+  unfolding unsignedWord unsignedIn
+  unsigned-there g u =
+      let s = sizes w u in
+      rw (plain-back 4096 (part 10 12 w) (sized (sizedIn w) .some) (part-lt 10 12 w))
+      (sym (word-is _ _
+      (simp (
+        s .size,
+        s .opc,
+        lt-ltb _ _ (part-lt 30 2 w),
+        lt-ltb _ _ (part-lt 22 2 w),
+        lt-ltb _ _ (part-lt 5 5 w),
+        lt-ltb _ _ (part-lt 0 5 w),
+        lt-ltb _ _ (part-lt 10 12 w),
+      ))
+      (omega (arith, split (5 ∷ 5 ∷ 12 ∷ 2 ∷ 2 ∷ 1 ∷ 3 ∷ 2 ∷ []) w, top w 32 h))))
+
+  pub there : (l : Line) → isLine l ≡ true → Has w (fixedOf l) → undefinedIn l w ≡ false → wordOf (familyIn l w) ≡ Holds w
+  there NoLine t g u = cc
+  there LiteralLine t g u = literal-there g
+  there PairLine t g u = pair-there g u
+  there OrderedLine t g u = signed-there 3 1 0 g refl (neither (undefinedSize w) (undefinedPrefetch w) u .0)
+  there UnscaledLine t g u = signed-there 7 0 0 g refl u
+  there PostLine t g u = signed-there 7 0 1 g refl (neither (undefinedSize w) (undefinedPrefetch w) u .0)
+  there PreLine t g u = signed-there 7 0 3 g refl (neither (undefinedSize w) (undefinedPrefetch w) u .0)
+  there RegisterLine t g u = index-there g (neither (undefinedSize w) (undefinedOption w) u .0)
+  there UnsignedLine t g u = unsigned-there g u

@@ -1,0 +1,79 @@
+-- What each return of the encoder shows, over plain values. Assumes nothing.
+use Prim.Native.Nat.{ℕ, _+_}
+use mathlib.Core.Path.{_≡_, sym, ap, _∙_}
+use mathlib.Core.Bool.{Bool, true, false, _&&_, and-true, and-false}
+use mathlib.Core.List.{List}
+use native.Mathlib.Omega.{arith}
+use lib.Dec.{ltb}
+use borrow.Author.Tests.{lt-ltb}
+use Rattle.bits.specs.declared.Field.{Field}
+use Rattle.bits.specs.declared.Field.the-variants.{Holds, Unfit}
+use Rattle.bits.specs.Choice.{pick}
+use Rattle.bits.specs.Fields.{Bits, fit, placed}
+use Rattle.instruction.specs.declared.answer.Answer.{Answer}
+use Rattle.instruction.specs.declared.answer.Encoded.{Encoded}
+use Rattle.instruction.specs.declared.family.Family.{Family}
+use Rattle.instruction.specs.declared.family.IndexOperands.{IndexOperands}
+use Rattle.instruction.specs.declared.family.Instruction.{Instruction}
+use Rattle.instruction.specs.declared.line.Line.{Line}
+use Rattle.instruction.specs.declared.operation.SizedOp.{SizedOp}
+use Rattle.instruction.specs.Undefined.{allocated}
+use Rattle.instruction.specs.Encoding.{fixed, wordWith, withBits, sizedFields, indexFields, indexWord, wordOf, encodedAs, encodeOf}
+use Rattle.instruction.proofs.Codes.{sized}
+use Rattle.encoder.specs.Sized.{sizedWord}
+
+-- ---- with an offset's bits or without
+
+pub holds-is : {F g r : Field} (f : ℕ → Field) {b : ℕ} → g ≡ F → g ≡ Holds b → r ≡ f b → r ≡ withBits F f
+holds-is f e h p = p ∙ ap (λ (x : Field). withBits x f) (sym h ∙ e)
+
+pub unfit-is : {F g : Field} (f : ℕ → Field) → g ≡ F → g ≡ Unfit → Unfit ≡ withBits F f
+unfit-is f e h = ap (λ (x : Field). withBits x f) (sym h ∙ e)
+
+-- ---- fields that have room, or one that has none
+
+pub word-is : (f : ℕ) (fs : List Bits) {w : ℕ} → fit fs ≡ true → w ≡ f + placed fs → Holds w ≡ wordWith f fs
+unfolding wordWith
+word-is f fs t e = rw t (ap Holds e)
+
+pub word-not : (f : ℕ) (fs : List Bits) → fit fs ≡ false → Unfit ≡ wordWith f fs
+unfolding wordWith
+word-not f fs t = rw t
+
+-- the fields of a family with a size
+module _ (f : ℕ) (op : SizedOp) (base target : ℕ) (own : List Bits) where
+  pub sized-is : {w : ℕ} → fit own ≡ true → w ≡ f + placed own → sizedWord op base target w ≡ wordWith f (sizedFields op base target own)
+  unfolding sizedWord wordWith
+  sized-is {w} t e =
+      let s = sized op in
+      simp (lt-ltb _ _ (s .size), lt-ltb _ _ (s .opc), t, and-true)
+      (ap (λ (n : ℕ). pick (ltb base 32 && ltb target 32) (Holds n) Unfit) (omega arith))
+
+  pub sized-not : fit own ≡ false → Unfit ≡ wordWith f (sizedFields op base target own)
+  sized-not t = word-not f (sizedFields op base target own) (simp (t, and-false))
+
+module _ (op : SizedOp) (o : IndexOperands) where
+  pub index-is : {w : ℕ} → fit (indexFields o) ≡ true → w ≡ fixed Line.RegisterLine + placed (indexFields o)
+      → sizedWord op (o .base) (o .target) w ≡ indexWord op o
+  unfolding indexWord
+  index-is t e = sized-is (fixed Line.RegisterLine) op (o .base) (o .target) (indexFields o) t e
+
+  pub index-not : fit (indexFields o) ≡ false → Unfit ≡ indexWord op o
+  unfolding indexWord
+  index-not t = sized-not (fixed Line.RegisterLine) op (o .base) (o .target) (indexFields o) t
+
+-- ---- an instruction
+
+pub by-family : {family f : Family} {r : Field} → family ≡ f → r ≡ wordOf f → r ≡ wordOf family
+by-family e p = p ∙ ap wordOf (sym e)
+
+module _ (w : ℕ) {a : Bool} (e : a ≡ allocated w) where
+  pub done-is : a ≡ true → record { answer = Answer.Done; word = w } ≡ encodedAs (Holds w)
+  done-is t = rw (sym e ∙ t)
+
+  pub refused-is : a ≡ false → {r : Encoded} → r ≡ encodedAs Unfit → r ≡ encodedAs (Holds w)
+  refused-is t p = rw (sym e ∙ t) p
+
+pub encoded-is : (i : Instruction) {g f : Field} {r : Encoded} → g ≡ wordOf (i .family) → g ≡ f → r ≡ encodedAs f → r ≡ encodeOf i
+unfolding encodeOf
+encoded-is i e h p = p ∙ ap encodedAs (sym h ∙ e)
