@@ -2,6 +2,7 @@
 // gives the number of each.
 use crate::family::Instruction;
 ghost use mathlib.Core.Path.{_≡_};
+ghost use Prim.Native.Nat.{_<_};
 ghost use Rattle.instruction.specs.Answers.{answerNumber};
 
 pub enum Answer {
@@ -21,7 +22,7 @@ pub enum Answer {
 
 // 01's number of an answer.
 pub fn answer_number(answer: Answer) -> u32
-    ensures { λ r. ⌜ r ≡ answerNumber answer ⌝ }
+    ensures { λ r. ⌜ (r ≡ answerNumber answer) × (r < 12) ⌝ }
 {
     match answer {
         Answer::Done => 0,
