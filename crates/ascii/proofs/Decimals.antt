@@ -1,0 +1,61 @@
+-- Decimal digits: one for a number below 10, else the last behind the others. Assumes nothing.
+use Prim.Native.Nat.{ℕ, zero, suc, _+_, _/_, _%_, _^_, _≤_, _<_}
+use mathlib.Core.Path.{_≡_, refl, ap, _∙_}
+use mathlib.Core.Bool.{Bool, true, false}
+use mathlib.Core.List.{List, [], _∷_, _++_}
+use native.Mathlib.Nat.{pow-suc, not-suc-le-zero}
+use native.Mathlib.Omega.{arith}
+use borrow.Author.Tests.{lt-ltb, le-ltb, ltb-true}
+use lib.Dec.{ltb}
+use lib.IntN.{ℤ, pos, negsuc, natAbs}
+use lib.ListN.{length, length-append}
+use lib.Signed.{ltZ}
+use Rattle.bits.specs.Choice.{pick}
+use Rattle.ascii.specs.Ascii.{asc, digits, dec, signedDec}
+
+-- more room for digits changes nothing
+enough : (f n : ℕ) → n < 10 ^ suc f → digits (suc f) n ≡ digits (suc (suc f)) n
+enough zero n h = simp (lt-ltb n 10 h)
+enough (suc f) n h =
+    ap (λ (l : List ℕ). pick (ltb n 10) ((48 + n) ∷ []) (l ++ ((48 + n % 10) ∷ []))) (enough f (n / 10) (omega (arith, pow-suc 10 (suc f))))
+
+pub dec-one : (n : ℕ) → n < 10 → dec n ≡ (48 + n) ∷ []
+unfolding dec
+dec-one n h = simp (lt-ltb n 10 h)
+
+pub dec-more : (n : ℕ) → 10 ≤ n → n < 10 ^ 20 → dec n ≡ dec (n / 10) ++ ((48 + n % 10) ∷ [])
+unfolding dec
+dec-more n h g = simp (le-ltb n 10 h) (ap (λ (l : List ℕ). l ++ ((48 + n % 10) ∷ [])) (enough 18 (n / 10) (omega arith)))
+
+pub dec-two : (n : ℕ) → 10 ≤ n → n < 100 → dec n ≡ (48 + n / 10) ∷ (48 + n % 10) ∷ []
+dec-two n h k = dec-more n h (omega arith) ∙ ap (λ (l : List ℕ). l ++ ((48 + n % 10) ∷ [])) (dec-one (n / 10) (omega arith))
+
+short-step : (f m d : ℕ) (l : List ℕ) (b : Bool) → length l ≤ f → length (pick b (m ∷ []) (l ++ (d ∷ []))) ≤ suc f
+short-step f m d l true h = omega arith
+short-step f m d l false h = omega (arith, length-append l (d ∷ []))
+
+short : (f n : ℕ) → length (digits f n) ≤ f
+short zero n = omega arith
+short (suc f) n = short-step f (48 + n) (48 + n % 10) (digits f (n / 10)) (ltb n 10) (short f (n / 10))
+
+pub dec-short : (n : ℕ) → length (dec n) ≤ 20
+unfolding dec
+dec-short n = short 20 n
+
+-- ---- signed numbers, by the sign; y is the number z after it was passed to a function
+
+minus : (z : ℤ) → ltZ z (pos 0) ≡ true → signedDec z ≡ asc "-" ++ dec (natAbs z)
+unfolding signedDec
+minus (pos n) t = absurd (not-suc-le-zero (ltb-true n 0 t))
+minus (negsuc n) t = refl
+
+plus : (z : ℤ) → ltZ z (pos 0) ≡ false → signedDec z ≡ dec (natAbs z)
+unfolding signedDec
+plus (pos n) t = refl
+plus (negsuc n) t = cc
+
+pub signed-minus : {y z : ℤ} → y ≡ z → ltZ y (pos 0) ≡ true → {m : ℕ} → m ≡ natAbs y → signedDec z ≡ asc "-" ++ dec m
+signed-minus {y} p t e = rw (← p, e) (minus y t)
+
+pub signed-plus : {y z : ℤ} → y ≡ z → ltZ y (pos 0) ≡ false → {m : ℕ} → m ≡ natAbs y → signedDec z ≡ dec m
+signed-plus {y} p t e = rw (← p, e) (plus y t)

@@ -1,0 +1,14 @@
+-- `ascii::piece::put_two` meets its contract. Assumes nothing.
+use Rattle.ascii.proofs.Pieces.{after}
+use borrow.Author.Needs.{needs}
+use Rattle.ascii.proofs.piece.put_two.Statement.{statement}
+use Rattle.ascii.proofs.piece.put_two.Tie as tie
+
+pub put-two-spec : {M : Type 1} → statement M
+put-two-spec =
+    tie.close
+    (tie.spec
+    (λ c κs. search needs)
+    (λ c κs. search needs)
+    (λ c. search needs)
+    (λ c. after (c .before .before .before .before .before .before .put-byte .ensures) (c .before .before .put-byte2 .ensures)))

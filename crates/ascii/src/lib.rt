@@ -1,0 +1,7 @@
+// Bytes of text, put into a line at a position.
+mod piece;
+
+pub use piece::put_byte;
+pub use piece::put_decimal;
+pub use piece::put_signed;
+pub use piece::put_text;
