@@ -1,0 +1,4 @@
+pub mod Tails
+pub mod Lengths
+pub mod Writes
+pub mod Examples

@@ -1,0 +1,54 @@
+-- What writing the text of a word gives: 01, "Answer numbers", tests 2, 3 and 10 in this order.
+use Prim.Native.Nat.{ℕ}
+use mathlib.Core.Bool.{Bool, true, false}
+use mathlib.Core.List.{List}
+use lib.Dec.{ltb}
+use lib.ListN
+use lib.Seq.{sets}
+use Rattle.bits.specs.Choice.{pick}
+use Rattle.text.specs.Texts.{textOf}
+use Rattle.text.specs.declared.Written.{Written}
+use Rattle.instruction.specs.declared.answer.Answer.{Answer}
+use Rattle.instruction.specs.declared.answer.Answer.the-variants.{Done, BadWindow, NotInSet, Undefined, Unpredictable, TaintedAddress, Misaligned, OutOfWindow, ReadOnly, NoSuchText, NoRoom, NoSuchInstruction}
+use Rattle.instruction.specs.Undefined.{allocated}
+use Rattle.instruction.specs.Instructions.{instructionOf}
+use Rattle.instruction.specs.Decoding.{decodeOf}
+
+-- the text of an allocated word
+unfoldable pub wordText : ℕ → List ℕ
+wordText w = textOf (instructionOf w)
+
+-- what is returned, and what the buffer holds after it
+pub record Outcome : Type 0 where
+  pub answer : Answer
+  pub length : ℕ
+  pub buffer : List ℕ
+
+abbrev pub outcome : Written → List ℕ → Outcome
+outcome r buffer = record { answer = r .answer; length = r .length; buffer = buffer }
+
+-- a text at the start of a buffer, or answer 10 where the buffer is shorter than the text
+unfoldable pub copied : List ℕ → List ℕ → Outcome
+copied t buffer =
+    record {
+      answer = pick (ltb (ListN.length buffer) (ListN.length t)) NoRoom Done;
+      length = pick (ltb (ListN.length buffer) (ListN.length t)) 0 (ListN.length t);
+      buffer = pick (ltb (ListN.length buffer) (ListN.length t)) buffer (sets buffer 0 t);
+    }
+
+unfoldable pub writeOf : ℕ → List ℕ → Outcome
+writeOf w buffer = pick (allocated w) (copied (wordText w) buffer) (record { answer = decodeOf w .answer; length = 0; buffer = buffer })
+
+abbrev pub isDone : Answer → Bool
+isDone Done = true
+isDone BadWindow = false
+isDone NotInSet = false
+isDone Undefined = false
+isDone Unpredictable = false
+isDone TaintedAddress = false
+isDone Misaligned = false
+isDone OutOfWindow = false
+isDone ReadOnly = false
+isDone NoSuchText = false
+isDone NoRoom = false
+isDone NoSuchInstruction = false
