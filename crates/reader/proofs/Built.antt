@@ -1,0 +1,49 @@
+-- What each return of the builder shows, over plain values. Assumes nothing.
+use Prim.Native.Nat.{ℕ}
+use mathlib.Core.Path.{_≡_, sym, ap, _∙_}
+use lib.IntN.{ℤ}
+use borrow.Author.Tests.{ne-eqb}
+use Rattle.reader.specs.Types.{Scan, Name, Tail, SizedOp, LiteralOp, PairOp, PairMode, Family, Literal, Pair, LiteralOperands, PairOperands}
+use Rattle.reader.specs.Names.{nameFor}
+use Rattle.reader.specs.Tails.{tailAt, offsetAt, optionAt, scaledAt}
+use Rattle.reader.specs.Build.{keyIn, numIn, registerOf, literalFor, literalFrom, offsetFrom, indexFrom, pairFrom, modeFor, bracketedFor, plainFor, familyFor, buildOf}
+
+-- an arm of a match
+pub by-case : {A B : Type 0} (f : A → B) {a b : A} {r : B} → a ≡ b → r ≡ f b → r ≡ f a
+by-case f e p = p ∙ ap f (sym e)
+
+module _ (s : Scan) where
+  pub literal-is : {t : ℕ} {z : ℤ} → t ≡ registerOf (numIn s 1) → z ≡ offsetAt (keyIn s 2) (numIn s 2) → record { target = t; offset = z } ≡ literalFrom s
+  unfolding literalFrom
+  literal-is a b = cc
+
+  pub offset-is : {t n : ℕ} {z : ℤ} → t ≡ registerOf (numIn s 1) → n ≡ registerOf (numIn s 4) → z ≡ offsetAt (keyIn s 5) (numIn s 5)
+      → record { target = t; base = n; offset = z } ≡ offsetFrom s
+  unfolding offsetFrom
+  offset-is a b d = cc
+
+  pub index-is : {t n m o x : ℕ} → t ≡ registerOf (numIn s 1) → n ≡ registerOf (numIn s 4) → m ≡ registerOf (numIn s 5) → o ≡ optionAt (keyIn s 6)
+      → x ≡ scaledAt (keyIn s 6) → record { target = t; base = n; index = m; option = o; scaled = x } ≡ indexFrom s
+  unfolding indexFrom
+  index-is a b d e f = cc
+
+  pub pair-is : (mode : PairMode) {t u n : ℕ} {z : ℤ} → t ≡ registerOf (numIn s 1) → u ≡ registerOf (numIn s 2) → n ≡ registerOf (numIn s 4)
+      → z ≡ offsetAt (keyIn s 5) (numIn s 5) → record { first = t; second = u; base = n; mode = mode; offset = z } ≡ pairFrom mode s
+  unfolding pairFrom
+  pair-is mode a b d e = cc
+
+  pub bracket-is : (op : SizedOp) {x : Tail} {r : Family} → keyIn s 2 ≡ 0 → x ≡ tailAt (keyIn s 5) → r ≡ bracketedFor x op s → r ≡ plainFor op s
+  unfolding plainFor
+  bracket-is op e x p = rw (e, ← x) p
+
+  pub literal-family : (op : SizedOp) {l : LiteralOp} {o : LiteralOperands} → ¬ (keyIn s 2 ≡ 0) → l ≡ literalFor op → o ≡ literalFrom s → Literal l o ≡ plainFor op s
+  unfolding plainFor
+  literal-family op n p q = rw (ne-eqb (keyIn s 2) 0 n, p, q)
+
+  pub pair-family : (op : PairOp) {x : Tail} {m : PairMode} {o : PairOperands} → x ≡ tailAt (keyIn s 5) → m ≡ modeFor x → o ≡ pairFrom m s
+      → Pair op o ≡ Pair op (pairFrom (modeFor (tailAt (keyIn s 5))) s)
+  pair-family op x m o = cc
+
+  pub built : {n : Name} {f : Family} → n ≡ nameFor (keyIn s 1) (keyIn s 0) → f ≡ familyFor n s → record { family = f } ≡ buildOf s
+  unfolding buildOf
+  built e p = rw (← e, p)

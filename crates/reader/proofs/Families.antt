@@ -1,0 +1,159 @@
+-- The family of a line comes back, if its operands are in range. Assumes nothing.
+use Prim.Native.Nat.{ℕ, _<_}
+use mathlib.Core.Path.{_≡_, refl, ap, _∙_}
+use mathlib.Core.List.{List, _++_, foldl}
+use lib.IntN.{natAbs}
+use Rattle.ascii.specs.Ascii.{asc}
+use Rattle.mnemonic.specs.Mnemonics.{allocateName}
+use Rattle.text.specs.Operands.{pairOperand}
+use Rattle.text.specs.Texts.{operandText, baseText, frontText, offsetTail, preTail, postTail, indexTail, literalText, pairText, sizedText, familyText}
+use Rattle.reader.specs.Types.{Scan, Tail, SizedOp, Prefetch, LiteralOp, PairOp, LoadSignedWords, PairMode, NoAllocate, Post, Offset, Pre, Family, Empty, Literal, Pair, Ordered, Unscaled, PostIndex, PreIndex, Register, Unsigned, LiteralOperands, PairOperands, OffsetOperands, IndexOperands}
+use Rattle.reader.specs.Scan.{stepOf, scanStart}
+use Rattle.reader.specs.Build.{modeFor, pairFrom, buildOf}
+use Rattle.reader.proofs.Named.{plain-named, unscaled-named, ordered-named, pair-named, noallocate-named, literal-named, plainOp, literal-for}
+use Rattle.reader.proofs.Tails.{Words, here, OffsetEnd, offset-end, pre-end, post-end, index-end}
+use Rattle.reader.proofs.Fronts.{single, double, single-goes, double-goes, literal-goes, made, built-named, built-plain, offset-from, pair-from, index-from, literal-built}
+
+-- ---- in range
+
+pub record OffsetRange (o : OffsetOperands) : Type 0 where
+  pub target : o .target < 32
+  pub base : o .base < 32
+  pub offset : natAbs (o .offset) < 0x20_0000
+
+pub record IndexRange (o : IndexOperands) : Type 0 where
+  pub target : o .target < 32
+  pub base : o .base < 32
+  pub index : o .index < 32
+  pub option : ¬ (o .option ≡ 2) → ¬ (o .option ≡ 3) → ¬ (o .option ≡ 6) → o .option ≡ 7
+  pub scaled : o .scaled < 2
+
+pub record LiteralRange (o : LiteralOperands) : Type 0 where
+  pub target : o .target < 32
+  pub offset : natAbs (o .offset) < 0x20_0000
+
+pub record PairRange (op : PairOp) (o : PairOperands) : Type 0 where
+  pub first : o .first < 32
+  pub second : o .second < 32
+  pub base : o .base < 32
+  pub offset : natAbs (o .offset) < 0x20_0000
+  pub defined : o .mode ≡ NoAllocate → ¬ (op ≡ LoadSignedWords)
+
+abbrev pub InRange : Family → Type 0
+InRange Empty = ⊥
+InRange (Literal op o) = LiteralRange o
+InRange (Pair op o) = PairRange op o
+InRange (Ordered op o) = ¬ (op ≡ Prefetch) × OffsetRange o
+InRange (Unscaled op o) = OffsetRange o
+InRange (PostIndex op o) = OffsetRange o
+InRange (PreIndex op o) = OffsetRange o
+InRange (Register op o) = IndexRange o
+InRange (Unsigned op o) = OffsetRange o
+
+-- ---- each family
+
+scanned : List ℕ → Scan
+scanned t = foldl stepOf scanStart t
+
+abbrev Comes : Family → Type 0
+Comes F = buildOf (scanned (familyText F)) ≡ made F
+
+literal-comes : (op : LiteralOp) (o : LiteralOperands) → LiteralRange o → Comes (Literal op o)
+unfolding scanned literalText
+literal-comes op o v =
+    let N = literal-named op in
+    ap buildOf (literal-goes N (o .target) (v .target) (o .offset) (v .offset)) ∙ literal-built (plainOp op) N (o .target) (v .target) (o .offset) (v .offset)
+    ∙ ap (λ (x : LiteralOp). made (Literal x o)) (literal-for op)
+
+module _ (op : SizedOp) (o : OffsetOperands) (v : OffsetRange o) where
+  ordered-comes : ¬ (op ≡ Prefetch) → Comes (Ordered op o)
+  unfolding scanned sizedText
+  ordered-comes n =
+      let N = ordered-named op n in
+      let e = offset-end (single N (o .target) (v .target) (o .base)) (o .offset) (v .offset) in
+      ap buildOf (single-goes N (o .target) (v .target) (o .base) (v .base) (offsetTail (o .offset))) ∙ built-named (e .kept) (N .reads (o .target))
+      ∙ ap (λ (x : OffsetOperands). made (Ordered op x)) (offset-from (v .target) (v .base) e)
+
+  unscaled-comes : Comes (Unscaled op o)
+  unfolding scanned sizedText
+  unscaled-comes =
+      let N = unscaled-named op in
+      let e = offset-end (single N (o .target) (v .target) (o .base)) (o .offset) (v .offset) in
+      ap buildOf (single-goes N (o .target) (v .target) (o .base) (v .base) (offsetTail (o .offset))) ∙ built-named (e .kept) (N .reads (o .target))
+      ∙ ap (λ (x : OffsetOperands). made (Unscaled op x)) (offset-from (v .target) (v .base) e)
+
+  post-comes : Comes (PostIndex op o)
+  unfolding scanned sizedText
+  post-comes =
+      let N = plain-named op in
+      let e = post-end (single N (o .target) (v .target) (o .base)) (o .offset) (v .offset) in
+      ap buildOf (single-goes N (o .target) (v .target) (o .base) (v .base) (postTail (o .offset))) ∙ built-plain op (e .kept) (N .reads (o .target)) refl (e .tail)
+      ∙ ap (λ (x : OffsetOperands). made (PostIndex op x)) (offset-from (v .target) (v .base) e)
+
+  pre-comes : Comes (PreIndex op o)
+  unfolding scanned sizedText
+  pre-comes =
+      let N = plain-named op in
+      let e = pre-end (single N (o .target) (v .target) (o .base)) (o .offset) (v .offset) in
+      ap buildOf (single-goes N (o .target) (v .target) (o .base) (v .base) (preTail (o .offset))) ∙ built-plain op (e .kept) (N .reads (o .target)) refl (e .tail)
+      ∙ ap (λ (x : OffsetOperands). made (PreIndex op x)) (offset-from (v .target) (v .base) e)
+
+  unsigned-comes : Comes (Unsigned op o)
+  unfolding scanned sizedText
+  unsigned-comes =
+      let N = plain-named op in
+      let e = offset-end (single N (o .target) (v .target) (o .base)) (o .offset) (v .offset) in
+      ap buildOf (single-goes N (o .target) (v .target) (o .base) (v .base) (offsetTail (o .offset))) ∙ built-plain op (e .kept) (N .reads (o .target)) refl (e .tail)
+      ∙ ap (λ (x : OffsetOperands). made (Unsigned op x)) (offset-from (v .target) (v .base) e)
+
+index-comes : (op : SizedOp) (o : IndexOperands) → IndexRange o → Comes (Register op o)
+unfolding scanned sizedText
+index-comes op o v =
+    let N = plain-named op in
+    let e = index-end (single N (o .target) (v .target) (o .base)) op o (v .index) (v .option) (v .scaled) in
+    ap buildOf (single-goes N (o .target) (v .target) (o .base) (v .base) (indexTail op o)) ∙ built-plain op (e .kept) (N .reads (o .target)) refl (e .tail)
+    ∙ ap (λ (x : IndexOperands). made (Register op x)) (index-from (v .target) (v .base) (v .index) e)
+
+module _ (op : PairOp) (o : PairOperands) (v : PairRange op o) where
+  noallocate-comes : o .mode ≡ NoAllocate → Comes (Pair op o)
+  unfolding scanned pairText
+  noallocate-comes m =
+      let N = noallocate-named op (v .defined m) in
+      let e = offset-end (double N (o .first) (v .first) (o .second) (o .base)) (o .offset) (v .offset) in
+      rw m
+      (ap buildOf (double-goes N (o .first) (v .first) (o .second) (o .base) (v .second) (v .base) (offsetTail (o .offset)))
+      ∙ built-named (e .kept) (N .reads (o .first)) ∙ ap (λ (x : PairOperands). made (Pair op x)) (pair-from (v .first) (v .base) NoAllocate (v .second) e))
+
+  -- the words before the tail of a pair with allocation
+  words : Words
+  words = double (pair-named op) (o .first) (v .first) (o .second) (o .base)
+
+  -- the mode is told by the tail
+  allocate-comes : {x : Tail} (tail : List ℕ) → OffsetEnd words x (o .offset) (foldl stepOf (here words) tail)
+      → buildOf (foldl stepOf scanStart (frontText (allocateName op) (pairOperand op) (o .first) ++ operandText (pairOperand op) (o .second) ++ asc ", [" ++ baseText (o .base) ++ tail))
+      ≡ made (Pair op (record { first = o .first; second = o .second; base = o .base; mode = modeFor x; offset = o .offset }))
+  unfolding words
+  allocate-comes {x} tail e =
+      let N = pair-named op in
+      ap buildOf (double-goes N (o .first) (v .first) (o .second) (o .base) (v .second) (v .base) tail) ∙ built-named (e .kept) (N .reads (o .first))
+      ∙ ap (λ (k : Tail). made (Pair op (pairFrom (modeFor k) (foldl stepOf (here words) tail)))) (e .tail)
+      ∙ ap (λ (p : PairOperands). made (Pair op p)) (pair-from (v .first) (v .base) (modeFor x) (v .second) e)
+
+  by-mode : (mode : PairMode) → o .mode ≡ mode → Comes (Pair op o)
+  unfolding scanned pairText
+  by-mode NoAllocate m = noallocate-comes m
+  by-mode Post m = rw m (allocate-comes (postTail (o .offset)) (post-end words (o .offset) (v .offset)))
+  by-mode Offset m = rw m (allocate-comes (offsetTail (o .offset)) (offset-end words (o .offset) (v .offset)))
+  by-mode Pre m = rw m (allocate-comes (preTail (o .offset)) (pre-end words (o .offset) (v .offset)))
+
+pub family-comes : (F : Family) → InRange F → buildOf (foldl stepOf scanStart (familyText F)) ≡ made F
+unfolding scanned
+family-comes Empty v = absurd v
+family-comes (Literal op o) v = literal-comes op o v
+family-comes (Pair op o) v = by-mode op o v (o .mode) refl
+family-comes (Ordered op o) v = ordered-comes op o (v .1) (v .0)
+family-comes (Unscaled op o) v = unscaled-comes op o v
+family-comes (PostIndex op o) v = post-comes op o v
+family-comes (PreIndex op o) v = pre-comes op o v
+family-comes (Register op o) v = index-comes op o v
+family-comes (Unsigned op o) v = unsigned-comes op o v

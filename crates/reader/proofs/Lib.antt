@@ -1,0 +1,11 @@
+pub mod Built
+pub mod Scans
+pub mod Named
+pub mod Tails
+pub mod Fronts
+pub mod Families
+pub mod Ranges
+pub mod RoundTrip
+pub mod Triangle
+pub mod Written
+pub mod Answers

@@ -1,0 +1,44 @@
+-- Lines and words lead back to each other: what is built of an allocated word's line is its instruction, so no two allocated
+-- words have the same line, and reading it gives the word. Assumes nothing.
+use Prim.Native.Nat.{ℕ, _^_, _<_}
+use mathlib.Core.Path.{_≡_, refl, sym, ap, _∙_}
+use mathlib.Core.Bool.{true, not}
+use mathlib.Core.List.{List, foldl}
+use mathlib.Core.Logic.{inl, inr}
+use borrow.Author.Tests.{not-true}
+use Rattle.bits.proofs.Choices.{both}
+use Rattle.instruction.specs.Table.{lineOf, isLine, inSet}
+use Rattle.instruction.specs.Undefined.{undefinedIn, undefined, allocated}
+use Rattle.instruction.specs.Instructions.{familyIn, instructionOf}
+use Rattle.instruction.specs.Encoding.{encodeOf}
+use Rattle.instruction.specs.declared.answer.Encoded.{Encoded}
+use Rattle.encoder.proofs.RoundTrip.{encode-decoded}
+use Rattle.text.specs.Texts.{textOf}
+use Rattle.text.specs.Writing.{wordText}
+use Rattle.reader.specs.Types.{Done, Reading}
+use Rattle.reader.specs.Scan.{stepOf, scanStart}
+use Rattle.reader.specs.Build.{buildOf}
+use Rattle.reader.specs.Reading.{LineOf, ReadOf}
+use Rattle.reader.proofs.Families.{family-comes}
+use Rattle.reader.proofs.Ranges.{in-range}
+
+pub build-back : (w : ℕ) → allocated w ≡ true → buildOf (foldl stepOf scanStart (wordText w)) ≡ instructionOf w
+unfolding wordText textOf allocated inSet undefined instructionOf
+build-back w a =
+    let p = both (isLine (lineOf w)) (not (undefinedIn (lineOf w) w)) a in
+    family-comes (familyIn (lineOf w) w) (in-range w (lineOf w) (p .0) (not-true _ (p .1)))
+
+-- the word of a line is the word that its candidate is encoded to
+pub line-encodes : (w : ℕ) (t : List ℕ) → LineOf w t → encodeOf (buildOf (foldl stepOf scanStart t)) ≡ record { answer = Done; word = w }
+line-encodes w t l =
+    ap (λ (x : List ℕ). encodeOf (buildOf (foldl stepOf scanStart x))) (sym (l .line)) ∙ ap encodeOf (build-back w (l .defined))
+    ∙ encode-decoded w (l .below) (l .defined)
+
+-- no two allocated words have the same line
+pub text-injective : (v w : ℕ) (t : List ℕ) → LineOf v t → LineOf w t → v ≡ w
+text-injective v w t a b = ap (λ (e : Encoded). e .word) (sym (line-encodes v t a) ∙ line-encodes w t b)
+
+-- reading the line of an allocated word gives that word
+pub read-back : (w : ℕ) → w < 2 ^ 32 → allocated w ≡ true → (r : Reading) → ReadOf (wordText w) r → r ≡ record { answer = Done; word = w }
+read-back w h a r (inl (d, l)) = let e = text-injective (r .word) w (wordText w) l (record { below = h; defined = a; line = refl }) in λ i. record { answer = d i; word = e i }
+read-back w h a r (inr (d, z, n)) = absurd (n w (record { below = h; defined = a; line = refl }))

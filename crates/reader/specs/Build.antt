@@ -1,0 +1,88 @@
+-- The one instruction whose line a scanned text can be. It is a guess: whether the text is its line is seen by writing it.
+use Prim.Native.Nat.{ℕ, _%_}
+use lib.Dec.{eqb}
+use lib.ListN.{getD}
+use Rattle.bits.specs.Choice.{pick}
+use Rattle.reader.specs.Names.{nameFor}
+use Rattle.reader.specs.Tails.{tailAt, offsetAt, optionAt, scaledAt}
+use Rattle.reader.specs.Types.{Scan, Name, NoName, PlainName, UnscaledName, OrderedName, PairName, NoAllocateName, Tail, AtOffset, Before, After, Indexed, SizedOp, StoreByte, LoadByte, LoadSignedByte64, LoadSignedByte32, StoreHalf, LoadHalf, LoadSignedHalf64, LoadSignedHalf32, StoreWord, LoadWord, LoadSignedWord64, StoreDouble, LoadDouble, Prefetch, LiteralOp, LiteralWord, LiteralDouble, LiteralSignedWord, LiteralPrefetch, PairMode, NoAllocate, Post, Offset, Pre, Family, Empty, Literal, Pair, Ordered, Unscaled, PostIndex, PreIndex, Register, Unsigned, Instruction, LiteralOperands, PairOperands, OffsetOperands, IndexOperands}
+
+-- the key and the number of a word
+abbrev pub keyIn : Scan → ℕ → ℕ
+keyIn s i = getD (s .keys) i 0
+
+abbrev pub numIn : Scan → ℕ → ℕ
+numIn s i = getD (s .nums) i 0
+
+abbrev pub registerOf : ℕ → ℕ
+registerOf n = n % 32
+
+-- the load from a literal that has a plain load's name; the other names have none
+abbrev pub literalFor : SizedOp → LiteralOp
+literalFor StoreByte = LiteralWord
+literalFor LoadByte = LiteralWord
+literalFor LoadSignedByte64 = LiteralWord
+literalFor LoadSignedByte32 = LiteralWord
+literalFor StoreHalf = LiteralWord
+literalFor LoadHalf = LiteralWord
+literalFor LoadSignedHalf64 = LiteralWord
+literalFor LoadSignedHalf32 = LiteralWord
+literalFor StoreWord = LiteralWord
+literalFor LoadWord = LiteralWord
+literalFor LoadSignedWord64 = LiteralSignedWord
+literalFor StoreDouble = LiteralDouble
+literalFor LoadDouble = LiteralDouble
+literalFor Prefetch = LiteralPrefetch
+
+unfoldable pub literalFrom : Scan → LiteralOperands
+literalFrom s = record { target = registerOf (numIn s 1); offset = offsetAt (keyIn s 2) (numIn s 2) }
+
+unfoldable pub offsetFrom : Scan → OffsetOperands
+offsetFrom s =
+    record { target = registerOf (numIn s 1); base = registerOf (numIn s 4); offset = offsetAt (keyIn s 5) (numIn s 5) }
+
+unfoldable pub indexFrom : Scan → IndexOperands
+indexFrom s =
+    record {
+      target = registerOf (numIn s 1);
+      base = registerOf (numIn s 4);
+      index = registerOf (numIn s 5);
+      option = optionAt (keyIn s 6);
+      scaled = scaledAt (keyIn s 6);
+    }
+
+unfoldable pub pairFrom : PairMode → Scan → PairOperands
+pairFrom mode s =
+    record {
+      first = registerOf (numIn s 1);
+      second = registerOf (numIn s 2);
+      base = registerOf (numIn s 4);
+      mode = mode;
+      offset = offsetAt (keyIn s 5) (numIn s 5);
+    }
+
+abbrev pub modeFor : Tail → PairMode
+modeFor AtOffset = Offset
+modeFor Before = Pre
+modeFor After = Post
+modeFor Indexed = Offset
+
+abbrev pub bracketedFor : Tail → SizedOp → Scan → Family
+bracketedFor AtOffset op s = Unsigned op (offsetFrom s)
+bracketedFor Before op s = PreIndex op (offsetFrom s)
+bracketedFor After op s = PostIndex op (offsetFrom s)
+bracketedFor Indexed op s = Register op (indexFrom s)
+
+unfoldable pub plainFor : SizedOp → Scan → Family
+plainFor op s = pick (eqb (keyIn s 2) 0) (bracketedFor (tailAt (keyIn s 5)) op s) (Literal (literalFor op) (literalFrom s))
+
+abbrev pub familyFor : Name → Scan → Family
+familyFor NoName s = Empty
+familyFor (PlainName op) s = plainFor op s
+familyFor (UnscaledName op) s = Unscaled op (offsetFrom s)
+familyFor (OrderedName op) s = Ordered op (offsetFrom s)
+familyFor (PairName op) s = Pair op (pairFrom (modeFor (tailAt (keyIn s 5))) s)
+familyFor (NoAllocateName op) s = Pair op (pairFrom NoAllocate s)
+
+unfoldable pub buildOf : Scan → Instruction
+buildOf s = record { family = familyFor (nameFor (keyIn s 1) (keyIn s 0)) s }

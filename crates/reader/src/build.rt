@@ -1,0 +1,145 @@
+// The one instruction whose line a scanned text can be.
+use crate::name::Name;
+use crate::name::name_for;
+use crate::scan::Scan;
+use crate::tail::Tail;
+use crate::tail::offset_at;
+use crate::tail::option_at;
+use crate::tail::scaled_at;
+use crate::tail::tail_at;
+use instruction::Family;
+use instruction::IndexOperands;
+use instruction::Instruction;
+use instruction::LiteralOp;
+use instruction::LiteralOperands;
+use instruction::OffsetOperands;
+use instruction::PairMode;
+use instruction::PairOperands;
+use instruction::SizedOp;
+ghost use mathlib.Core.Path.{_≡_};
+ghost use Rattle.reader.specs.Build.{registerOf, literalFor, literalFrom, offsetFrom, indexFrom, pairFrom, modeFor, bracketedFor, plainFor, familyFor, buildOf};
+
+fn register(number: u64) -> u32
+    ensures { λ r. ⌜ r ≡ registerOf number ⌝ }
+{
+    (number % 32) as u32
+}
+
+// The load from a literal that has a plain load's name.
+fn literal_for(op: SizedOp) -> LiteralOp
+    ensures { λ r. ⌜ r ≡ literalFor op ⌝ }
+{
+    match op {
+        SizedOp::StoreByte => LiteralOp::LiteralWord,
+        SizedOp::LoadByte => LiteralOp::LiteralWord,
+        SizedOp::LoadSignedByte64 => LiteralOp::LiteralWord,
+        SizedOp::LoadSignedByte32 => LiteralOp::LiteralWord,
+        SizedOp::StoreHalf => LiteralOp::LiteralWord,
+        SizedOp::LoadHalf => LiteralOp::LiteralWord,
+        SizedOp::LoadSignedHalf64 => LiteralOp::LiteralWord,
+        SizedOp::LoadSignedHalf32 => LiteralOp::LiteralWord,
+        SizedOp::StoreWord => LiteralOp::LiteralWord,
+        SizedOp::LoadWord => LiteralOp::LiteralWord,
+        SizedOp::LoadSignedWord64 => LiteralOp::LiteralSignedWord,
+        SizedOp::StoreDouble => LiteralOp::LiteralDouble,
+        SizedOp::LoadDouble => LiteralOp::LiteralDouble,
+        SizedOp::Prefetch => LiteralOp::LiteralPrefetch,
+    }
+}
+
+fn literal_from(s: Scan) -> LiteralOperands
+    ensures { λ r. ⌜ r ≡ literalFrom s ⌝ }
+{
+    LiteralOperands {
+        target: register(s.nums[1]),
+        offset: offset_at(s.keys[2], s.nums[2]),
+    }
+}
+
+fn offset_from(s: Scan) -> OffsetOperands
+    ensures { λ r. ⌜ r ≡ offsetFrom s ⌝ }
+{
+    OffsetOperands {
+        target: register(s.nums[1]),
+        base: register(s.nums[4]),
+        offset: offset_at(s.keys[5], s.nums[5]),
+    }
+}
+
+fn index_from(s: Scan) -> IndexOperands
+    ensures { λ r. ⌜ r ≡ indexFrom s ⌝ }
+{
+    IndexOperands {
+        target: register(s.nums[1]),
+        base: register(s.nums[4]),
+        index: register(s.nums[5]),
+        option: option_at(s.keys[6]),
+        scaled: scaled_at(s.keys[6]),
+    }
+}
+
+fn pair_from(mode: PairMode, s: Scan) -> PairOperands
+    ensures { λ r. ⌜ r ≡ pairFrom mode s ⌝ }
+{
+    PairOperands {
+        first: register(s.nums[1]),
+        second: register(s.nums[2]),
+        base: register(s.nums[4]),
+        mode,
+        offset: offset_at(s.keys[5], s.nums[5]),
+    }
+}
+
+// No pair has an index.
+fn mode_for(tail: Tail) -> PairMode
+    ensures { λ r. ⌜ r ≡ modeFor tail ⌝ }
+{
+    match tail {
+        Tail::AtOffset => PairMode::Offset,
+        Tail::Before => PairMode::Pre,
+        Tail::After => PairMode::Post,
+        Tail::Indexed => PairMode::Offset,
+    }
+}
+
+fn bracketed_for(tail: Tail, op: SizedOp, s: Scan) -> Family
+    ensures { λ r. ⌜ r ≡ bracketedFor tail op s ⌝ }
+{
+    match tail {
+        Tail::AtOffset => Family::Unsigned(op, offset_from(s)),
+        Tail::Before => Family::PreIndex(op, offset_from(s)),
+        Tail::After => Family::PostIndex(op, offset_from(s)),
+        Tail::Indexed => Family::Register(op, index_from(s)),
+    }
+}
+
+// Only a literal's line has a word 2 here.
+fn plain_for(op: SizedOp, s: Scan) -> Family
+    ensures { λ r. ⌜ r ≡ plainFor op s ⌝ }
+{
+    if s.keys[2] == 0 {
+        return bracketed_for(tail_at(s.keys[5]), op, s);
+    }
+    Family::Literal(literal_for(op), literal_from(s))
+}
+
+fn family_for(name: Name, s: Scan) -> Family
+    ensures { λ r. ⌜ r ≡ familyFor name s ⌝ }
+{
+    match name {
+        Name::NoName => Family::Empty,
+        Name::PlainName(op) => plain_for(op, s),
+        Name::UnscaledName(op) => Family::Unscaled(op, offset_from(s)),
+        Name::OrderedName(op) => Family::Ordered(op, offset_from(s)),
+        Name::PairName(op) => Family::Pair(op, pair_from(mode_for(tail_at(s.keys[5])), s)),
+        Name::NoAllocateName(op) => Family::Pair(op, pair_from(PairMode::NoAllocate, s)),
+    }
+}
+
+pub fn build(s: Scan) -> Instruction
+    ensures { λ r. ⌜ r ≡ buildOf s ⌝ }
+{
+    Instruction {
+        family: family_for(name_for(s.keys[1], s.keys[0]), s),
+    }
+}

@@ -1,0 +1,53 @@
+// A line of text to its word. The text is scanned into keys and numbers; they say which instruction alone can
+// have this line; the text is taken exactly if it is that instruction's line, as text::write gives it.
+mod build;
+mod compare;
+mod name;
+mod scan;
+mod tail;
+
+use instruction::Answer;
+use text::write;
+ghost use mathlib.Core.Path.{_≡_};
+ghost use mathlib.Core.Bool.{true};
+ghost use mathlib.Core.Logic.{_↔_};
+ghost use Rattle.instruction.specs.Undefined.{allocated};
+ghost use Rattle.text.specs.Writing.{wordText};
+ghost use Rattle.reader.specs.Reading.{ReadOf};
+
+// What reading a text returns. The word is 0 where the text is refused.
+pub struct Reading {
+    pub answer: Answer,
+    pub word: u32,
+}
+
+// The allocated word whose line a text is, or answer 9.
+pub fn read(text: &[u8]) -> Reading
+    ensures { λ r. ⌜ ReadOf (now (text .entry)) r ⌝ }
+{
+    let encoded = encoder::encode(build::build(scan::scan_text(text)));
+    let word = encoded.word;
+    if decoder::is_allocated(word) {
+        if is_line(word, text) {
+            return Reading {
+                answer: Answer::Done,
+                word,
+            };
+        }
+    }
+    Reading {
+        answer: Answer::NoSuchText,
+        word: 0,
+    }
+}
+
+// Whether a text is the line of an allocated word. No line is longer than the buffer.
+fn is_line(word: u32, text: &[u8]) -> bool
+    requires { ⌜ allocated word ≡ true ⌝ }
+    ensures { λ r. ⌜ (r ≡ true) ↔ (wordText word ≡ now (text .entry)) ⌝ }
+{
+    let mut buffer = [0u8; 128];
+    let written = write(word, &mut buffer);
+    let length = written.length;
+    compare::same(&buffer[..length], text)
+}
