@@ -1,7 +1,7 @@
-"""Records of AArch64 loads and stores, read from a disassembler's text and written as text for an assembler.
+"""Records of AArch64 loads and stores, read from a disassembler's text and written as 01's line of text.
 
 A record holds the numbers that the program codec reads and writes. It is read from the text alone, never from
-the bits of a word.
+the bits of a word. A second way from text to line, line_in, leaves alone what it doesn't have to change.
 """
 import re
 from typing import NamedTuple
@@ -163,6 +163,23 @@ def range_prefetch(hint, rest):
     option = number // 32 * 4 + 2 + number // 16 % 2
     base = base_number(OFFSET_FORM.match(place)[1])
     return Record(REGISTER, PREFETCH, 24 + number % 8, base, second, option, number // 8 % 2)
+
+
+def line_in(text, address):
+    """A disassembler's text in 01's notation. All but the following is 01's already, and is kept as it is.
+
+    A tab after the mnemonic; a comment; a prefetch's hint, which is a name, or objdump's hexadecimal number; the
+    place of a literal, which objdump gives as an address; range prefetch, which only llvm-mc prints.
+    """
+    mnemonic, _, operands = text.split('//')[0].strip().partition('\t')
+    first, _, rest = operands.partition(', ')
+    if mnemonic == 'rprfm':
+        return text_of(range_prefetch(first, rest))
+    if mnemonic in ('prfm', 'prfum'):
+        first = '#%d' % hint_number(first)
+    if rest.startswith('0x'):
+        rest = '#%d' % (int(rest, 0) - address)
+    return '%s %s, %s' % (mnemonic, first, rest)
 
 
 # To text.

@@ -84,14 +84,41 @@ def llvm_assembly(texts):
 
 
 def encoding_in(text):
-    """The word that llvm-mc shows beside its text."""
+    """The word that llvm-mc shows beside its text; none where bits of it are left to the linker."""
     found = re.search(r'encoding: \[([^\]]*)\]', text)
-    return struct.unpack('<I', bytes(int(byte, 16) for byte in found[1].split(',')))[0]
+    shown = found[1].split(',')
+    if not all(byte.startswith('0x') for byte in shown):
+        return None
+    return struct.unpack('<I', bytes(int(byte, 16) for byte in shown))[0]
+
+
+def gnu_source(texts):
+    return '.arch armv8.4-a\n' + ''.join(text + '\n' for text in texts)
+
+
+def gnu_attempts(texts):
+    """What GNU's assembler makes of texts that it may refuse.
+
+    Those of which it complains are left out the next time, until it has no complaint: it finds some only once it is
+    through with the others. Where it says that it assumes something, that counts as a refusal too.
+    """
+    taken = list(range(len(texts)))
+    refused = None
+    while refused != set():
+        source = gnu_source(texts[i] for i in taken)
+        done, = run([[GNU + 'as', '-o', 'texts.o', 'texts.s']], 'texts.s', source.encode())
+        complaints = re.finditer(r'texts\.s:(\d+): (?!Warning: unpredictable)\w+: ', done.stderr)
+        refused = {int(found[1]) - 2 for found in complaints}
+        taken = [i for at, i in enumerate(taken) if at not in refused]
+    made = [Made(None)] * len(texts)
+    for i, again in zip(taken, gnu_assembly([texts[i] for i in taken])):
+        made[i] = again
+    return made
 
 
 def gnu_assembly(texts):
     """What GNU's assembler makes of each text. It gives no word at all if it refuses one."""
-    source = '.arch armv8.4-a\n' + ''.join(text + '\n' for text in texts)
+    source = gnu_source(texts)
     done, _, shown = run([[GNU + 'as', '-o', 'texts.o', 'texts.s'],
                           [GNU + 'objcopy', '-O', 'binary', 'texts.o', 'texts.bin'],
                           ['od', '-An', '-v', '-tx4', '--endian=little', 'texts.bin']], 'texts.s', source.encode())

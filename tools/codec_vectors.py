@@ -5,81 +5,28 @@
     python3 tools/codec_vectors.py
 
 What must come is taken from llvm-mc and objdump, which have to agree, and from 01's rules, never from this
-project's code. Which words are of the set is decided by the rows of 01's table, and what an allocated word
-says is read from the disassemblers' texts. RULES lists where the tools differ or 01 decides otherwise. The
-word of a record is packed here, and compared with what both assemblers make of the record's text and with
-what both disassemblers say of it. Made with llvm 19.1.7 and binutils 2.40. The output is the same each time.
+project's code: aarch64_rules.py says how. The word of a record is packed there, and compared with what both
+assemblers make of the record's text and with what both disassemblers say of it. Made with llvm 19.1.7 and
+binutils 2.40. The output is the same each time.
 """
 import collections
-import os
 import random
 import struct
 
+from aarch64_rules import (
+    EXAMPLES, TABLE, WITH_IMM9, agreed, edges, fixed_bits, is_valid, judged_words, packed, range_of, scale_of, show,
+    word_of_line, write)
 from aarch64_text import (
-    EMPTY, LITERAL, PAIR, ORDERED, UNSCALED, POST, PRE, REGISTER, UNSIGNED, NO_ALLOCATE, PAIR_POST, PAIR_PRE,
-    PREFETCH, Record, mnemonic_of, record_in, text_of)
-from aarch64_tools import ORIGIN, encoding_in, gnu_assembly, gnu_disassembly, llvm_assembly, llvm_disassembly
+    EMPTY, LITERAL, PAIR, ORDERED, UNSCALED, POST, PRE, REGISTER, UNSIGNED, PREFETCH, Record, text_of)
+from aarch64_tools import llvm_assembly
 
 SEED = 1
 WORD = 9
 # So many that the output stays within the mebibyte that `rt try` takes.
 RANDOM_WORDS = 2100
 
-# 01's table: the bits that each family fixes, as (high, low, value). Bit 26 is 0 in all.
-TABLE = {
-    LITERAL: ((29, 27, 0b011), (26, 26, 0), (25, 24, 0b00)),
-    PAIR: ((29, 27, 0b101), (26, 26, 0), (25, 25, 0)),
-    ORDERED: ((29, 27, 0b011), (26, 26, 0), (25, 24, 0b01), (21, 21, 0), (11, 10, 0b00)),
-    UNSCALED: ((29, 27, 0b111), (26, 26, 0), (25, 24, 0b00), (21, 21, 0), (11, 10, 0b00)),
-    POST: ((29, 27, 0b111), (26, 26, 0), (25, 24, 0b00), (21, 21, 0), (11, 10, 0b01)),
-    PRE: ((29, 27, 0b111), (26, 26, 0), (25, 24, 0b00), (21, 21, 0), (11, 10, 0b11)),
-    REGISTER: ((29, 27, 0b111), (26, 26, 0), (25, 24, 0b00), (21, 21, 1), (11, 10, 0b10)),
-    UNSIGNED: ((29, 27, 0b111), (26, 26, 0), (25, 24, 0b01)),
-}
-WITH_IMM9 = (ORDERED, UNSCALED, POST, PRE)
-
-# 01's examples.
-EXAMPLES = [
-    0x385ff020, 0xf9400420, 0xf84107e0, 0xa9bf7bfd, 0x38e4c862, 0x198000c5, 0x58ffffe7, 0xf8800020, 0x390003ff,
-    0xb8c00020, 0x38e00862, 0xa9400020, 0x91000000, 0xf8408421, 0x38dff020, 0x389ff020,
-]
-
-# Where the tools differ, or 01 decides otherwise than they do, by the name that the counts at the end show.
-RULES = {
-    'tagged pair': 'Memory tagging is not in this machine: what both tools call stgp, a pair with opc 01 and '
-                   'L = 0, is undefined.',
-    'range prefetch': 'Range prefetch is not in this machine: what llvm-mc calls rprfm is a prefetch with a '
-                      'register index, as objdump says.',
-    'unpredictable ldpsw': 'An ldpsw of answer 4 is allocated: llvm-mc prints it with a warning, and objdump '
-                           'calls it undefined.',
-    'unwarned writeback': 'llvm-mc prints no warning of a store, or of a load signed to 64 bits, that writes '
-                          'back to its own target; 01 gives answer 4, and the GNU assembler warns.',
-}
-
-
-def field(word, high, low):
-    return word >> low & (1 << high - low + 1) - 1
-
-
-def line_of(word):
-    """The family whose row of 01's table a word matches, or None."""
-    for family, row in TABLE.items():
-        if all(field(word, high, low) == value for high, low, value in row):
-            return family
-    return None
-
-
-def fixed_bits(family):
-    return sum(value << low for _, low, value in TABLE[family])
-
 
 # Words to decode.
-
-def edges(width):
-    """The values of a field next to its ends and to its sign bit."""
-    half = 1 << width - 1
-    return [0, 1, half - 1, half, half + 1, 2 * half - 2, 2 * half - 1]
-
 
 def registers(rng):
     """Rn, Rt and a third register: both ends, each two equal, and any."""
@@ -151,13 +98,6 @@ def near_words(rng):
                     yield word_of_line(rng, family) ^ 1 << bit
 
 
-def word_of_line(rng, family):
-    word = rng.getrandbits(32)
-    for high, low, value in TABLE[family]:
-        word = word & ~((1 << high + 1) - (1 << low)) | value << low
-    return word
-
-
 def all_words(rng):
     """Each word once."""
     words = list(EXAMPLES)
@@ -174,134 +114,7 @@ def all_words(rng):
     return list(dict.fromkeys(words))
 
 
-# What a word is, by the tools and 01's rules.
-
-def undefined_by_rule(line, word):
-    """01's undefined words of the set. What the tools say is compared with this."""
-    opc, load, mode = field(word, 31, 30), field(word, 22, 22), field(word, 24, 23)
-    if line == LITERAL:
-        return False
-    if line == PAIR:
-        return opc == 0b11 or opc == 0b01 and not (load == 1 and mode != NO_ALLOCATE)
-    size, opc = field(word, 31, 30), field(word, 23, 22)
-    return (size >= 0b10 and opc == 0b11
-            or (size, opc) == (0b11, 0b10) and line in (ORDERED, POST, PRE)
-            or line == REGISTER and field(word, 14, 14) == 0)
-
-
-def is_unpredictable(record):
-    """Answer 4 of 01."""
-    pair = record.family == PAIR
-    writes_back = record.family in (POST, PRE) or pair and record.mode in (PAIR_POST, PAIR_PRE)
-    written = (record.target, record.second) if pair else (record.target,)
-    loads_one_twice = pair and record.operation % 2 == 1 and record.target == record.second
-    return writes_back and record.base != 31 and record.base in written or loads_one_twice
-
-
-def read_word(word, address, llvm, gnu, rules):
-    """The answer to decoding a word and its record, from what the two disassemblers said of it."""
-    line = line_of(word)
-    by_llvm = record_in(llvm.text, address) if llvm.text else None
-    by_gnu = record_in(gnu.text, address) if gnu.text else None
-    if line is None:
-        agreed(by_llvm is None and by_gnu is None, word, llvm, gnu)
-        return 2, Record(EMPTY, 0)
-    names = {mnemonic_of(said.text) if said.text else None for said in (llvm, gnu)}
-    if names == {'rprfm', 'prfm'}:
-        rules['range prefetch'] += 1
-    if names == {'ldpsw', None} and by_llvm and is_unpredictable(by_llvm):
-        rules['unpredictable ldpsw'] += 1
-        by_gnu = by_llvm
-    if names == {'stgp'}:
-        rules['tagged pair'] += 1
-        names = {None}
-    agreed(by_llvm == by_gnu and undefined_by_rule(line, word) == (by_llvm is None), word, llvm, gnu)
-    if by_llvm is None:
-        agreed(names == {None}, word, llvm, gnu)
-        return 3, Record(EMPTY, 0)
-    agreed(by_llvm.family == line and encoding_in(llvm.text) == word, word, llvm, gnu)
-    return 0, by_llvm
-
-
-def agreed(holds, word, *said):
-    if not holds:
-        raise SystemExit('no rule for %08x, of which the tools say %s' % (word, said))
-
-
-def judged_words(words, rules):
-    """The answer and the record of each word. Counts the rules that were used.
-
-    Answer 4 is 01's, and the GNU assembler warns of exactly these. What it assembles is the word again.
-    """
-    llvm = llvm_disassembly(words)
-    said = zip(words, llvm, gnu_disassembly(words))
-    found = [read_word(word, ORIGIN + 4 * i, *both, rules) for i, (word, *both) in enumerate(said)]
-    allocated = [i for i, (answer, _) in enumerate(found) if answer == 0]
-    made = gnu_assembly([text_of(found[i][1], '.+') for i in allocated])
-    for i, again in zip(allocated, made):
-        record = found[i][1]
-        unpredictable = is_unpredictable(record)
-        agreed(again == (words[i], unpredictable), words[i], llvm[i], again)
-        if unpredictable:
-            found[i] = 4, record
-        if unpredictable != llvm[i].warned:
-            agreed(unpredictable and is_unwarned(record), words[i], llvm[i])
-            rules['unwarned writeback'] += 1
-    return found
-
-
-def is_unwarned(record):
-    """Whether llvm-mc's disassembler does not warn of a writeback to the target."""
-    return record.family in (POST, PRE) and record.operation in (0, 2, 4, 6, 8, 10, 12)
-
-
 # Records to encode.
-
-def scale_of(family, operation):
-    """What an offset of this operation has to be a multiple of."""
-    if family == LITERAL:
-        return 4
-    if family == PAIR:
-        return 8 if operation // 2 == 2 else 4
-    return 1 << operation // 4 if family == UNSIGNED else 1
-
-
-def range_of(family, operation):
-    """The least and the largest offset; none with an index."""
-    scale = scale_of(family, operation)
-    low, high = {LITERAL: (-262144, 262143), PAIR: (-64, 63), UNSIGNED: (0, 4095), REGISTER: (0, 0)}.get(
-        family, (-256, 255))
-    return low * scale, high * scale
-
-
-def is_valid(record):
-    """Whether 01's encoder takes a record."""
-    family, operation = record.family, record.operation
-    low, high = range_of(family, operation)
-    return (family != EMPTY
-            and all(register < 32 for register in (record.target, record.base, record.second))
-            and low <= record.offset <= high and record.offset % scale_of(family, operation) == 0
-            and not (family in (ORDERED, POST, PRE) and operation == PREFETCH)
-            and not (family == PAIR and operation == 3 and record.mode == NO_ALLOCATE)
-            and not (family == REGISTER and (record.mode not in (2, 3, 6, 7) or record.scaled > 1)))
-
-
-def packed(record):
-    """The word of a valid record."""
-    word = fixed_bits(record.family) | record.target
-    quotient = record.offset // scale_of(record.family, record.operation)
-    if record.family == LITERAL:
-        return word | record.operation << 30 | quotient % (1 << 19) << 5
-    word |= record.base << 5
-    if record.family == PAIR:
-        opc, load = divmod(record.operation, 2)
-        return (word | opc << 30 | record.mode << 23 | load << 22 | quotient % 128 << 15 | record.second << 10)
-    size, opc = divmod(record.operation, 4)
-    word |= size << 30 | opc << 22
-    if record.family == REGISTER:
-        return word | record.second << 16 | record.mode << 13 | record.scaled << 12
-    return word | (quotient << 10 if record.family == UNSIGNED else quotient % 512 << 12)
-
 
 def operations():
     """Each family with each operation and, of a pair, each mode: those that no encoder takes are there too."""
@@ -413,18 +226,6 @@ def word_line(word, answer, record):
     return 'word %08x class %d decode %d ' % (word, answer, decoded) + record_line(record, *encoded)
 
 
-def write(name, content):
-    top = os.path.dirname(os.path.dirname(os.path.abspath(__file__)))
-    with open(os.path.join(top, 'crates', 'codec', name), 'wb') as file:
-        file.write(content)
-
-
-def show(title, counts):
-    print(title)
-    for name, count in sorted(counts.items()):
-        print('%7d  %s' % (count, name))
-
-
 def main():
     rng = random.Random(SEED)
     rules, record_rules, confirmed = (collections.Counter() for _ in range(3))
@@ -438,8 +239,8 @@ def main():
     lines += [record_line(record, *result) for record, result in zip(records, results)]
     lines += [record_line(Record(EMPTY, 0), 11, 0)] * len(unknown)
     # A piece of a case at the end of the input is ignored.
-    write('stdin', b''.join(cases) + b'piece')
-    write('stdout', ''.join(lines).encode())
+    write('codec', 'stdin', b''.join(cases) + b'piece')
+    write('codec', 'stdout', ''.join(lines).encode())
     show('words by answer', collections.Counter(answer for answer, _ in judgements))
     show('words that a rule decides', rules)
     show('records by answer', collections.Counter([answer for answer, _ in results] + [11] * len(unknown)))

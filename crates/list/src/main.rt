@@ -1,0 +1,59 @@
+// Lists the words of standard input on standard output, in constant memory: a line for each word, as it comes.
+// The listing is made by the crate listing; here bytes are only moved.
+use libc::STDIN_FILENO;
+use libc::STDOUT_FILENO;
+ghost use Prim.Native.Nat.{_<_, _≤_};
+
+// The bytes of a part: with the longest line for each of its words, its listing has room in the output.
+const PART: usize = 8184;
+
+// A proved loop has to end, and nothing says that the input does. So the loop counts its turns down, from a
+// number that no run uses up.
+fn main() {
+    let mut output = [0u8; 262144];
+    let mut turns = u64::MAX;
+    while turns > 0 && list_block(&mut output) {
+        turns -= 1;
+    }
+}
+
+// Lists one block of the input, and says whether to go on: not after the last block, nor after a write that
+// failed. A block holds a whole number of words, so that none lies in two.
+fn list_block(output: &mut [u8]) -> bool {
+    let mut block = io::large_buffer();
+    let n = io::read_full(STDIN_FILENO, &mut block);
+    if !list_bytes(&block[..n], output) {
+        return false;
+    }
+    n == 65536
+}
+
+fn list_bytes(bytes: &[u8], output: &mut [u8]) -> bool {
+    let mut at = 0;
+    while at < bytes.len() {
+        let end = part_end(at, bytes.len());
+        let listed = listing::list(&bytes[at..end], output);
+        if !write_start(output, listed.length) {
+            return false;
+        }
+        at = end;
+    }
+    true
+}
+
+fn part_end(at: usize, len: usize) -> usize
+    requires { ⌜ at < len ⌝ }
+    ensures { λ r. ⌜ (at < r) × (r ≤ len) ⌝ }
+{
+    if len - at < PART {
+        return len;
+    }
+    at + PART
+}
+
+fn write_start(output: &[u8], end: usize) -> bool {
+    if end <= output.len() {
+        return io::write_all(STDOUT_FILENO, &output[0..end]);
+    }
+    false
+}

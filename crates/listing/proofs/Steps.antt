@@ -1,0 +1,172 @@
+-- A listing word by word: what is listed from an index on. Assumes nothing.
+use Prim.Native.Nat.{ℕ, suc, _+_, _-_, _*_, _/_, _%_, _≤_, _<_}
+use mathlib.Core.Path.{_≡_, refl, sym, ap, _∙_}
+use mathlib.Core.Bool.{Bool, true, false, _&&_, not}
+use mathlib.Core.List.{List, [], _∷_, _++_, append-assoc}
+use native.Mathlib.Numerals.{add-one, add-two, add-three, add-four}
+use native.Mathlib.Omega.{arith}
+use borrow.Author.Tests.{le-ltb, le-leb, lt-leb, leb-true, leb-false}
+use lib.Dec.{eqb, leb}
+use lib.ListN.{length, drop, getD, length-append, length-drop}
+use lib.Seq.{drop-cons}
+use Rattle.bits.specs.Choice.{pick}
+use Rattle.instruction.specs.declared.answer.Answer.the-variants.{Done, NotInSet, Undefined, Unpredictable}
+use Rattle.instruction.specs.declared.answer.Decoded.{Decoded}
+use Rattle.instruction.specs.Answers.{answerNumber}
+use Rattle.instruction.specs.Table.{inSet}
+use Rattle.instruction.specs.Unpredictable.{unpredictable}
+use Rattle.instruction.specs.Undefined.{undefined, allocated}
+use Rattle.instruction.specs.Instructions.{instructionOf}
+use Rattle.instruction.specs.Decoding.{decodeOf, classOf}
+use Rattle.text.specs.Texts.{textOf}
+use Rattle.ascii.specs.Ascii.{asc}
+use Rattle.ascii.specs.Puts.{Puts}
+use Rattle.text.specs.Writing.{wordText}
+use Rattle.text.proofs.Lengths.{word-text-short}
+use Rattle.ascii.proofs.Pieces.{after, nothing}
+use Rattle.listing.specs.Listing.{hex4, hex8, contentText, answerText, lineText, shortText, wordOf, listingOf, wordAt}
+
+-- ---- the next word
+
+drop-four : (bs : List ℕ) (i : ℕ) → i + 4 ≤ length bs
+    → drop i bs ≡ getD bs i 0 ∷ getD bs (i + 1) 0 ∷ getD bs (i + 2) 0 ∷ getD bs (i + 3) 0 ∷ drop (i + 4) bs
+drop-four bs i h =
+    rw (add-one i, add-two i, add-three i, add-four i)
+    (drop-cons bs i 0 (omega arith)
+    ∙ ap (λ (l : List ℕ). getD bs i 0 ∷ l)
+    (drop-cons bs (suc i) 0 (omega arith)
+    ∙ ap (λ (l : List ℕ). getD bs (suc i) 0 ∷ l)
+    (drop-cons bs (suc (suc i)) 0 (omega arith)
+    ∙ ap (λ (l : List ℕ). getD bs (suc (suc i)) 0 ∷ l) (drop-cons bs (suc (suc (suc i))) 0 (omega arith)))))
+
+pub next-word : (bs : List ℕ) (i : ℕ) → i + 4 ≤ length bs → listingOf (drop i bs) ≡ lineText (wordAt bs i) ++ listingOf (drop (i + 4) bs)
+unfolding wordAt
+next-word bs i h = rw (drop-four bs i h, le-ltb (length bs) (i + 4) h)
+
+-- ---- what is left over
+
+rest-from : (r : List ℕ) → length r < 4 → listingOf r ≡ shortText (length r)
+rest-from [] h = refl
+rest-from (a ∷ []) h = refl
+rest-from (a ∷ b ∷ []) h = refl
+rest-from (a ∷ b ∷ c ∷ []) h = refl
+rest-from (a ∷ b ∷ c ∷ d ∷ r) h = absurd (omega arith)
+
+pub left-over : (bs : List ℕ) (i : ℕ) → length bs - i < 4 → listingOf (drop i bs) ≡ shortText ((length bs - i) % 16)
+left-over bs i h =
+    let l = length-drop i bs in
+    let e : length (drop i bs) ≡ (length bs - i) % 16 = omega arith in
+    rest-from (drop i bs) (omega arith) ∙ ap shortText e
+
+-- ---- a word's own text, or a dash
+
+-- a word is allocated where its answer is neither 2 nor 3
+class-is : (s u p : Bool) → (let n = answerNumber (pick s (pick u Undefined (pick p Unpredictable Done)) NotInSet) in
+    (n ≡ 2 → (s && not u) ≡ false) × (n ≡ 3 → (s && not u) ≡ false) × (¬ (n ≡ 2) → ¬ (n ≡ 3) → (s && not u) ≡ true))
+class-is true true p = ((λ e. refl), (λ e. refl), (λ a b. absurd (b refl)))
+class-is true false true = ((λ e. absurd (omega arith)), (λ e. absurd (omega arith)), (λ a b. refl))
+class-is true false false = ((λ e. absurd (omega arith)), (λ e. absurd (omega arith)), (λ a b. refl))
+class-is false u p = ((λ e. refl), (λ e. refl), (λ a b. absurd (a refl)))
+
+has-text : (w n : ℕ) → n ≡ answerNumber (classOf w) → ¬ (n ≡ 2) → ¬ (n ≡ 3) → allocated w ≡ true
+unfolding allocated classOf
+has-text w n e a b = class-is (inSet w) (undefined w) (unpredictable w) .2 (λ h. a (e ∙ h)) (λ h. b (e ∙ h))
+
+module _ (w : ℕ) {n : ℕ} (e : n ≡ answerNumber (classOf w)) {xs ys : List ℕ} {at m : ℕ} where
+  pub content-outside : n ≡ 2 → Puts xs at (asc "-") ys m → Puts xs at (contentText w) ys m
+  unfolding contentText allocated classOf
+  content-outside h p = rw (class-is (inSet w) (undefined w) (unpredictable w) .0 (sym e ∙ h)) p
+
+  pub content-undefined : n ≡ 3 → Puts xs at (asc "-") ys m → Puts xs at (contentText w) ys m
+  unfolding contentText allocated classOf
+  content-undefined h p = rw (class-is (inSet w) (undefined w) (unpredictable w) .1 (sym e ∙ h)) p
+
+  pub content-is : ¬ (n ≡ 2) → ¬ (n ≡ 3) → {d : Decoded} → d ≡ decodeOf w → Puts xs at (textOf (d .instruction)) ys m → Puts xs at (contentText w) ys m
+  unfolding contentText wordText decodeOf
+  content-is a b {d} q p =
+      let g = has-text w n e a b in
+      let i : d .instruction ≡ instructionOf w = ap (λ (x : Decoded). x .instruction) q ∙ rw g in
+      rw (g, ← i) p
+
+-- ---- lengths
+
+content-short : (b : Bool) (t : List ℕ) → length t ≤ 106 → length (pick b t (asc "-")) ≤ 106
+content-short true t h = h
+content-short false t h = omega arith
+
+pub line-short : (w : ℕ) → length (lineText w) ≤ 128
+unfolding lineText hex8 hex4 contentText answerText
+line-short w =
+    omega (
+      arith,
+      content-short (allocated w) (wordText w) (word-text-short w),
+      length-append (hex8 w ++ (9 ∷ []) ++ contentText w) (9 ∷ []),
+      length-append (hex8 w ++ (9 ∷ [])) (contentText w),
+      length-append (hex8 w ++ (9 ∷ []) ++ contentText w ++ (9 ∷ [])) (answerText w),
+    )
+
+short-most : (n : ℕ) (b : Bool) → length (pick b [] (asc "short" ++ (9 ∷ 45 ∷ 9 ∷ []) ++ ((48 + n) ∷ 10 ∷ []))) ≤ 128
+short-most n true = omega arith
+short-most n false = omega arith
+
+short-short : (n : ℕ) → length (shortText n) ≤ 128
+unfolding shortText
+short-short n = short-most n (eqb n 0)
+
+listing-most : (bs : List ℕ) → length (listingOf bs) ≤ (length bs / 4 + 1) * 128
+listing-most [] = omega (arith, short-short 0)
+listing-most (a ∷ []) = omega (arith, short-short 1)
+listing-most (a ∷ b ∷ []) = omega (arith, short-short 2)
+listing-most (a ∷ b ∷ c ∷ []) = omega (arith, short-short 3)
+listing-most (a ∷ b ∷ c ∷ d ∷ rest) =
+    omega (arith, listing-most rest, line-short (wordOf a b c d), length-append (lineText (wordOf a b c d)) (listingOf rest))
+
+pub enough : (bs : List ℕ) (room : ℕ) → length bs / 4 < room / 128 → leb (length (listingOf bs)) room ≡ true
+enough bs room h = le-leb (length (listingOf bs)) room (omega (arith, listing-most bs))
+
+-- ---- measuring: the whole length, and what is still to come, against the room and what is left of it
+
+pub record Measured (bs : List ℕ) (room left i : ℕ) : Type 0 where
+  pub sum : length (listingOf bs) + left ≡ room + length (listingOf (drop i bs))
+
+pub measured-none : (bs : List ℕ) (room : ℕ) → Measured bs room room 0
+measured-none bs room = record { sum = omega arith }
+
+module _ (bs : List ℕ) {room left i : ℕ} (m : Measured bs room left i) where
+  word-length : i + 4 ≤ length bs → length (listingOf (drop i bs)) ≡ length (lineText (wordAt bs i)) + length (listingOf (drop (i + 4) bs))
+  word-length h = ap length (next-word bs i h) ∙ length-append (lineText (wordAt bs i)) (listingOf (drop (i + 4) bs))
+
+  pub measured-word : i + 4 ≤ length bs → {n : ℕ} → n ≡ length (lineText (wordAt bs i)) → n ≤ left → Measured bs room (left - n) (i + 4)
+  measured-word h e k = record { sum = omega (arith, m .sum, word-length h) }
+
+  pub measured-over : i + 4 ≤ length bs → {n : ℕ} → n ≡ length (lineText (wordAt bs i)) → left < n → false ≡ leb (length (listingOf bs)) room
+  measured-over h e k = sym (lt-leb (length (listingOf bs)) room (omega (arith, m .sum, word-length h)))
+
+  same-test : (k : ℕ) → length (listingOf bs) + left ≡ room + k → (b : Bool) → leb k left ≡ b → leb k left ≡ leb (length (listingOf bs)) room
+  same-test k e true t = t ∙ sym (le-leb (length (listingOf bs)) room (omega (arith, leb-true k left t)))
+  same-test k e false t = t ∙ sym (lt-leb (length (listingOf bs)) room (omega (arith, leb-false k left t)))
+
+  pub measured-end : length bs - i < 4 → {n : ℕ} → n ≡ length (shortText ((length bs - i) % 16)) → leb n left ≡ leb (length (listingOf bs)) room
+  measured-end h {n} e = same-test n (m .sum ∙ ap (λ (k : ℕ). room + k) (ap length (left-over bs i h) ∙ sym e)) (leb n left) refl
+
+-- ---- putting: what is put, and what is still to come, is the listing
+
+pub record Listed (xs bs ys : List ℕ) (m i : ℕ) : Type 0 where
+  pub piece : List ℕ
+  pub puts : Puts xs 0 piece ys m
+  pub whole : piece ++ listingOf (drop i bs) ≡ listingOf bs
+
+pub listed-none : (xs bs : List ℕ) → Listed xs bs xs 0 0
+listed-none xs bs = record { piece = []; puts = nothing xs 0; whole = refl }
+
+module _ (bs : List ℕ) {xs ys zs : List ℕ} {m n i : ℕ} (l : Listed xs bs ys m i) where
+  pub listed-word : i + 4 ≤ length bs → Puts ys m (lineText (wordAt bs i)) zs n → Listed xs bs zs n (i + 4)
+  listed-word h a =
+      record {
+        piece = l .piece ++ lineText (wordAt bs i);
+        puts = after (l .puts) a;
+        whole = append-assoc (l .piece) (lineText (wordAt bs i)) (listingOf (drop (i + 4) bs)) ∙ ap (λ (r : List ℕ). l .piece ++ r) (sym (next-word bs i h)) ∙ l .whole;
+      }
+
+  pub listed-end : length bs - i < 4 → Puts ys m (shortText ((length bs - i) % 16)) zs n → Puts xs 0 (listingOf bs) zs n
+  listed-end h a = rw (l .whole) at (after (l .puts) (rw (← (left-over bs i h)) at a))

@@ -1,0 +1,18 @@
+-- `listing::line::hex_digit` meets its contract. Assumes nothing.
+use borrow.Author.Tests.{lt-ltb, le-ltb}
+use Rattle.listing.specs.Listing.{hexDigit}
+use borrow.Author.Needs.{needs}
+use Rattle.listing.proofs.line.hex_digit.Statement.{statement}
+use Rattle.listing.proofs.line.hex_digit.Tie as tie
+
+pub hex-digit-spec : {M : Type 1} → statement M
+unfolding hexDigit
+hex-digit-spec =
+    tie.close
+    (tie.spec
+    (λ c. search needs)
+    (λ c. search needs)
+    (λ c. simp (lt-ltb _ _ (c .if1 .taken)))
+    (λ c. search needs)
+    (λ c. search needs)
+    (λ c. simp (le-ltb _ _ (c .if1 .left))))
