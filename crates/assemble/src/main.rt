@@ -1,0 +1,111 @@
+// Reads lines of text from standard input and writes the word and the answer of each on standard output, in
+// constant memory. The reading is done by the crate reader; here bytes are only moved.
+use libc::STDIN_FILENO;
+use libc::STDOUT_FILENO;
+use reader::Reading;
+
+// How far the input is read: whether to go on, and how many bytes of a line that is not yet ended are kept.
+struct Kept {
+    going: bool,
+    count: usize,
+}
+
+// How far a block is read: the bytes of the present line that are kept, and the end of what is put out.
+struct Progress {
+    count: usize,
+    end: usize,
+}
+
+// Of a line that is longer than any text only the start is kept: no text is as long as that either.
+// A proved loop has to end, and nothing says that the input does. So the loop counts its turns down, from a
+// number that no run uses up.
+fn main() {
+    let mut line = [0u8; 256];
+    let mut kept = Kept {
+        going: true,
+        count: 0,
+    };
+    let mut turns = u64::MAX;
+    while turns > 0 && kept.going {
+        kept = assemble_block(&mut line, kept.count);
+        turns -= 1;
+    }
+    finish(&line, kept.count)
+}
+
+// Answers the lines that end in the next block. It stops after the last block, and after a write that failed.
+fn assemble_block(line: &mut [u8], count: usize) -> Kept {
+    let mut block = io::buffer();
+    let n = io::read_full(STDIN_FILENO, &mut block);
+    // A byte ends at most one line, and the answer to a line has 11 bytes.
+    let mut output = io::large_buffer();
+    let progress = assemble_bytes(&block[..n], line, count, &mut output);
+    if !write_start(&output, progress.end) {
+        return Kept {
+            going: false,
+            count: 0,
+        };
+    }
+    Kept {
+        going: n == 4096,
+        count: progress.count,
+    }
+}
+
+fn assemble_bytes(bytes: &[u8], line: &mut [u8], count: usize, output: &mut [u8]) -> Progress {
+    let mut progress = Progress { count, end: 0 };
+    let mut i = 0;
+    while i < bytes.len() {
+        progress = take_byte(bytes[i], line, progress, output);
+        i += 1;
+    }
+    progress
+}
+
+fn take_byte(byte: u8, line: &mut [u8], progress: Progress, output: &mut [u8]) -> Progress {
+    let count = progress.count;
+    let end = progress.end;
+    if byte == b'\n' {
+        let next = put_answer(output, end, line, count);
+        return Progress {
+            count: 0,
+            end: next,
+        };
+    }
+    let more = ascii::put_byte(line, count, byte);
+    Progress { count: more, end }
+}
+
+// The last line may lack its newline.
+fn finish(line: &[u8], count: usize) {
+    if count > 0 {
+        let mut output = [0u8; 16];
+        let end = put_answer(&mut output, 0, line, count);
+        write_start(&output, end);
+    }
+}
+
+fn put_answer(output: &mut [u8], at: usize, line: &[u8], count: usize) -> usize {
+    if count <= line.len() {
+        return put_reading(output, at, reader::read(&line[0..count]));
+    }
+    at
+}
+
+fn put_reading(output: &mut [u8], at: usize, reading: Reading) -> usize {
+    let answer = reading.answer;
+    let number = instruction::answer_number(answer);
+    let mut digits = [0u8; 16];
+    let n = io::hex(reading.word as u64, 8, &mut digits);
+    let tab = ascii::put_text(output, at, &digits[..n]);
+    let digit = ascii::put_byte(output, tab, b'\t');
+    let end = ascii::put_byte(output, digit, (48 + number) as u8);
+    ascii::put_byte(output, end, b'\n')
+}
+
+fn write_start(output: &[u8], end: usize) -> bool {
+    if end <= output.len() {
+        return io::write_all(STDOUT_FILENO, &output[0..end]);
+    }
+    false
+}

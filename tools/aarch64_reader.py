@@ -1,0 +1,134 @@
+"""Reads 01's lines of text by patterns that take nothing else, and gives the word of each.
+
+What is read is written again, and has to be the same text: so a mistake in a pattern stops the script that asks.
+"""
+import re
+
+from aarch64_rules import is_valid, packed
+from aarch64_text import (
+    LITERAL, PAIR, ORDERED, UNSCALED, POST, PRE, REGISTER, UNSIGNED, NO_ALLOCATE, PAIR_POST, PAIR_OFFSET, PAIR_PRE,
+    Record, text_of)
+
+NO_LINE = 0, 9
+
+# The numbers of 01 have at most seven digits.
+NUMBER = '#(?P<number>0|-?[1-9][0-9]{0,6})'
+NOT_ZERO = '#(?P<number>-?[1-9][0-9]{0,6})'
+COUNT = '[12]?[0-9]|3[01]'
+REGISTER_COUNT = '[12]?[0-9]|30'
+BASE = '(?P<base>x(?:%s)|sp)' % REGISTER_COUNT
+
+
+def general(name, letters='wx'):
+    return '(?P<%s>[%s](?:%s|zr))' % (name, letters, REGISTER_COUNT)
+
+
+TARGET = general('target')
+HINT = '(?P<hint>#(?:%s))' % COUNT
+OFFSET = r'\[' + BASE + '(?:, ' + NOT_ZERO + r')?\]'
+AFTER = r'\[' + BASE + r'\], ' + NUMBER
+BEFORE = r'\[' + BASE + ', ' + NUMBER + r'\]!'
+INDEX = (r'\[' + BASE + ', (?:'
+         + general('plain', 'x') + '(?:, lsl #(?P<plain_amount>[0-3]))?|'
+         + general('narrow', 'w') + ', (?P<narrow_extend>uxtw|sxtw)(?: #(?P<narrow_amount>[0-3]))?|'
+         + general('wide', 'x') + r', sxtx(?: #(?P<wide_amount>[0-3]))?)\]')
+
+# Mnemonic and letter of the target: size * 4 + opc.
+PLAIN = {
+    'strb w': 0, 'ldrb w': 1, 'ldrsb x': 2, 'ldrsb w': 3, 'strh w': 4, 'ldrh w': 5, 'ldrsh x': 6, 'ldrsh w': 7,
+    'str w': 8, 'ldr w': 9, 'ldrsw x': 10, 'str x': 12, 'ldr x': 13, 'prfm #': 14,
+}
+NAMES = {
+    LITERAL: {'ldr w': 0, 'ldr x': 1, 'ldrsw x': 2, 'prfm #': 3},
+    ORDERED: {
+        'stlurb w': 0, 'ldapurb w': 1, 'ldapursb x': 2, 'ldapursb w': 3, 'stlurh w': 4, 'ldapurh w': 5,
+        'ldapursh x': 6, 'ldapursh w': 7, 'stlur w': 8, 'ldapur w': 9, 'ldapursw x': 10, 'stlur x': 12,
+        'ldapur x': 13,
+    },
+    UNSCALED: {
+        'sturb w': 0, 'ldurb w': 1, 'ldursb x': 2, 'ldursb w': 3, 'sturh w': 4, 'ldurh w': 5, 'ldursh x': 6,
+        'ldursh w': 7, 'stur w': 8, 'ldur w': 9, 'ldursw x': 10, 'stur x': 12, 'ldur x': 13, 'prfum #': 14,
+    },
+    POST: PLAIN, PRE: PLAIN, REGISTER: PLAIN, UNSIGNED: PLAIN,
+}
+ONE = '(?P<name>[a-z]+) (?:' + TARGET + '|' + HINT + '), '
+ONES = [(family, re.compile(ONE + place)) for family, place in (
+    (LITERAL, NUMBER), (ORDERED, OFFSET), (UNSCALED, OFFSET), (POST, AFTER), (PRE, BEFORE), (REGISTER, INDEX),
+    (UNSIGNED, OFFSET))]
+
+# Mnemonic and letter of both registers: opc * 2 + L.
+PAIRS = {'stp w': 0, 'ldp w': 1, 'ldpsw x': 3, 'stp x': 4, 'ldp x': 5}
+UNALLOCATING = {'stnp w': 0, 'ldnp w': 1, 'stnp x': 4, 'ldnp x': 5}
+TWO = '(?P<name>[a-z]+) ' + TARGET + ', ' + general('second') + ', '
+TWOS = [(mode, names, re.compile(TWO + place)) for mode, names, place in (
+    (NO_ALLOCATE, UNALLOCATING, OFFSET), (PAIR_POST, PAIRS, AFTER), (PAIR_OFFSET, PAIRS, OFFSET),
+    (PAIR_PRE, PAIRS, BEFORE))]
+
+
+def number_of(name):
+    """Of a register or a hint, behind its letter."""
+    return 31 if name in ('wzr', 'xzr', 'sp') else int(name[1:])
+
+
+def single_record(family, found):
+    target = found['target'] or found['hint']
+    operation = NAMES[family].get(found['name'] + ' ' + target[0])
+    if operation is None:
+        return None
+    record = Record(family, operation, number_of(target))
+    if family == LITERAL:
+        return record._replace(offset=int(found['number']))
+    record = record._replace(base=number_of(found['base']))
+    if family == REGISTER:
+        return index_record(record, found)
+    return record._replace(offset=int(found['number'] or 0))
+
+
+def index_record(record, found):
+    if found['narrow']:
+        name, amount = found['narrow'], found['narrow_amount']
+        option = {'uxtw': 0b010, 'sxtw': 0b110}[found['narrow_extend']]
+    elif found['wide']:
+        name, amount, option = found['wide'], found['wide_amount'], 0b111
+    else:
+        name, amount, option = found['plain'], found['plain_amount'], 0b011
+    if amount is not None and int(amount) != record.operation // 4:
+        return None
+    return record._replace(second=number_of(name), mode=option, scaled=int(amount is not None))
+
+
+def pair_record(mode, names, found):
+    target, second = found['target'], found['second']
+    operation = names.get(found['name'] + ' ' + target[0])
+    if operation is None or target[0] != second[0]:
+        return None
+    return Record(PAIR, operation, number_of(target), number_of(found['base']), number_of(second), mode,
+                  offset=int(found['number'] or 0))
+
+
+def records_in(text):
+    for family, pattern in ONES:
+        found = pattern.fullmatch(text)
+        if found:
+            yield single_record(family, found)
+    for mode, names, pattern in TWOS:
+        found = pattern.fullmatch(text)
+        if found:
+            yield pair_record(mode, names, found)
+
+
+def record_of(line):
+    """The record whose line this is, given as bytes without its newline, or None."""
+    text = line.decode('latin-1')
+    records = [record for record in records_in(text) if record and is_valid(record)]
+    if not records:
+        return None
+    if len(records) > 1 or text_of(records[0]) != text:
+        raise SystemExit('read otherwise than written: ' + text)
+    return records[0]
+
+
+def read_line(line):
+    """The word and the answer for a line."""
+    record = record_of(line)
+    return (packed(record), 0) if record else NO_LINE
