@@ -1,6 +1,7 @@
 -- `text::write` meets its contract. Assumes nothing.
 use native.Mathlib.Omega.{arith}
 use borrow.Author.Tests.{not-true, not-false}
+use Rattle.ascii.proofs.Pieces.{same}
 use Rattle.text.proofs.Writes.{line-within, line-is, write-refused, write-done}
 use borrow.Author.Needs.{needs}
 use Rattle.text.proofs.write.Statement.{statement}
@@ -16,7 +17,9 @@ write-spec =
     (λ c. search needs)
     (λ c κs. search needs)
     (λ c. search needs)
-    (λ c κs. line-within (c .before .before .before .before .before .before .before .before .decode .result .instruction .family) (c .before .before .before .put-family .ensures) (omega arith))
+    (λ c κs.
+    let p = c .before .before .before .put-family .ensures in
+    omega (arith, same p, line-within (c .before .before .before .before .before .before .before .before .decode .result .instruction .family) p (omega arith)))
     (λ c. search needs)
     (λ c.
     write-done _ _ (c .before .before .before .before .before .before .before .before .before .before .before .decode .ensures) (c .before .before .before .before .before .before .before .before .before .is-done .ensures) (not-false _ (c .before .before .before .before .before .before .before .before .if1 .left)) (line-is (c .before .before .before .before .before .before .before .before .before .before .before .decode .result .instruction .family) (c .before .before .before .before .before .before .put-family .ensures) (omega arith))
