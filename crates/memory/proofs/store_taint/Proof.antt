@@ -1,0 +1,39 @@
+-- `memory::store_taint` meets its contract. The loop's invariant: what is still to do gives the whole. Assumes nothing.
+use Prim.Native.Nat.{_≤_, _-_}
+use mathlib.Core.Path.{_≡_, refl}
+use native.Mathlib.Nat.{sub-zero}
+use native.Mathlib.Numerals.{add-one}
+use native.Mathlib.Omega.{arith}
+use lib.ListN.{length, replicate, length-set}
+use lib.Seq.{sets}
+use Rattle.memory.proofs.Spans.{replicate-left}
+use borrow.Author.Needs.{needs}
+use Rattle.memory.proofs.store_taint.Statement.{statement}
+use Rattle.memory.proofs.store_taint.Tie as tie
+
+abbrev Inv-loop : tie.InvT-loop
+Inv-loop part₀ n taint byte i₀ part i = (i ≤ n) × (length part ≡ length part₀) × (sets part i (replicate (n - i) byte) ≡ sets part₀ 0 (replicate n byte))
+
+abbrev μ-loop : tie.MeasureT-loop
+μ-loop part₀ n taint byte i₀ part i = n - i
+
+pub store-taint-spec : {M : Type 1} → statement M
+store-taint-spec =
+    tie.close
+    (tie.spec
+    Inv-loop
+    μ-loop
+    (λ c κs. search needs)
+    (λ c. (omega arith, refl, rw sub-zero))
+    (λ c κs. search needs)
+    (λ c. search needs)
+    (λ c. omega arith)
+    (λ c.
+    let l = c .before .before .before .before .before .loop in
+    let e = c .before .before .set-byte .ensures in
+    (omega arith, rw e (simp length-set (l .inv .1)), rw (add-one, e) (rw (replicate-left _ (c .before .before .before .before .loop-test .taken)) at (l .inv .2))))
+    (λ c. search needs)
+    (λ c.
+    let l = c .before .loop in
+    let e : c .before .before .before .before .args .n - l .i ≡ 0 = omega arith in
+    rw (← c .before .before .taint-byte .ensures) (rw e at (l .inv .2))))

@@ -1,0 +1,101 @@
+// The bytes of a number at the start of a part of memory, and their taints. The part is lent from the first
+// byte of an access to the end of memory. A byte past the end reads 0 and is not written.
+ghost use mathlib.Core.Path.{_≡_};
+ghost use Prim.Native.Nat.{_<_, min};
+ghost use lib.ListN.{getD, set, replicate};
+ghost use lib.Seq.{sets};
+ghost use Rattle.memory.specs.Bytes.{bytesOf, joined, spanOf};
+ghost use Rattle.memory.specs.Taints.{anyTainted, taintByte};
+
+// The low n bytes of a number, the lowest first.
+pub fn store(part: &mut [u8], n: usize, number: u64)
+    ensures { λ _. ⌜ now (part .exit) ≡ sets (now (part .entry)) 0 (bytesOf n number) ⌝ }
+{
+    let mut i = 0;
+    let mut rest = number;
+    while i < n {
+        set_byte(part, i, (rest % 256) as u8);
+        rest = rest / 256;
+        i += 1;
+    }
+}
+
+// The taint bytes of n bytes that are all tainted, or all not.
+pub fn store_taint(part: &mut [u8], n: usize, taint: bool)
+    ensures { λ _. ⌜ now (part .exit) ≡ sets (now (part .entry)) 0 (replicate n (taintByte taint)) ⌝ }
+{
+    let byte = taint_byte(taint);
+    let mut i = 0;
+    while i < n {
+        set_byte(part, i, byte);
+        i += 1;
+    }
+}
+
+// The number that the first n bytes make, at most 8 of them.
+pub fn load(part: &[u8], n: usize) -> u64
+    ensures { λ r. ⌜ r ≡ joined (spanOf (now (part .entry)) 0 (min n 8)) ⌝ }
+{
+    let mut i = at_most_8(n);
+    let mut number: u64 = 0;
+    while 0 < i {
+        i -= 1;
+        number = number * 256 + wide(byte_at(part, i));
+    }
+    number
+}
+
+// Whether one of the first n taint bytes is not 0.
+pub fn any_tainted(part: &[u8], n: usize) -> bool
+    ensures { λ r. ⌜ r ≡ anyTainted (spanOf (now (part .entry)) 0 n) ⌝ }
+{
+    let mut i = 0;
+    while i < n {
+        if byte_at(part, i) != 0 {
+            return true;
+        }
+        i += 1;
+    }
+    false
+}
+
+fn set_byte(part: &mut [u8], i: usize, byte: u8)
+    ensures { λ _. ⌜ now (part .exit) ≡ set (now (part .entry)) i byte ⌝ }
+{
+    if i < part.len() {
+        part[i] = byte;
+    }
+}
+
+fn byte_at(part: &[u8], i: usize) -> u8
+    ensures { λ r. ⌜ r ≡ getD (now (part .entry)) i 0 ⌝ }
+{
+    if i < part.len() {
+        return part[i];
+    }
+    0
+}
+
+fn taint_byte(taint: bool) -> u8
+    ensures { λ r. ⌜ r ≡ taintByte taint ⌝ }
+{
+    if taint {
+        return 1;
+    }
+    0
+}
+
+fn at_most_8(n: usize) -> usize
+    ensures { λ r. ⌜ r ≡ min n 8 ⌝ }
+{
+    if n < 8 {
+        return n;
+    }
+    8
+}
+
+fn wide(byte: u8) -> u64
+    ensures { λ r. ⌜ (r ≡ byte) × (r < 256) ⌝ }
+{
+    byte as u64
+}
