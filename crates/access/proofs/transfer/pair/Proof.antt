@@ -1,0 +1,17 @@
+-- `access::transfer::pair` meets its contract. Assumes nothing.
+use Rattle.access.specs.Transfers.{pairTransfer}
+use borrow.Author.Needs.{needs}
+use Rattle.access.proofs.transfer.pair.Statement.{statement}
+use Rattle.access.proofs.transfer.pair.Tie as tie
+
+pub pair-spec : {M : Type 1} → statement M
+unfolding pairTransfer
+pair-spec =
+    tie.close
+    (tie.spec
+    (λ c κs. search needs)
+    (λ c κs. search needs)
+    (λ c κs. search needs)
+    (λ c κs. search needs)
+    (λ c κs. search needs)
+    (λ c. rw (c .zero-slot2 .ensures, c .before .zero-slot .ensures, c .before .before .pair-extent .ensures, c .before .before .before .pair-loads .ensures, c .before .before .before .before .pair-bytes .ensures)))

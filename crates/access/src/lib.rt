@@ -1,0 +1,89 @@
+// An instruction as one access: what it moves between registers and memory, and how its address is formed.
+// What comes after it knows no families. Registers are slots: 0 to 30, 31 for SP, 32 for none.
+mod addressing;
+mod transfer;
+
+pub use addressing::Addressing;
+use instruction::Family;
+use instruction::Instruction;
+use instruction::LiteralOp;
+use instruction::LiteralOperands;
+use instruction::PairOp;
+use instruction::PairOperands;
+use instruction::SizedOp;
+pub use transfer::Transfer;
+ghost use mathlib.Core.Path.{_≡_};
+ghost use Rattle.access.specs.Accesses.{isPrefetch, sizedAccess, literalMoves, literalAccess, pairAccess, familyAccess, accessOf};
+
+// A prefetch touches nothing.
+pub enum Access {
+    Nothing,
+    Moves(Transfer, Addressing),
+}
+
+pub fn access_of(instruction: Instruction) -> Access
+    ensures { λ r. ⌜ r ≡ accessOf instruction ⌝ }
+{
+    let family = instruction.family;
+    family_access(family)
+}
+
+fn family_access(family: Family) -> Access
+    ensures { λ r. ⌜ r ≡ familyAccess family ⌝ }
+{
+    match family {
+        Family::Empty => Access::Nothing,
+        Family::Literal(op, o) => literal_access(op, o),
+        Family::Pair(op, o) => pair_access(op, o),
+        Family::Ordered(op, o) => sized_access(op, o.target, true, addressing::offset(o)),
+        Family::Unscaled(op, o) => sized_access(op, o.target, false, addressing::offset(o)),
+        Family::PostIndex(op, o) => sized_access(op, o.target, false, addressing::post(o)),
+        Family::PreIndex(op, o) => sized_access(op, o.target, false, addressing::pre(o)),
+        Family::Register(op, o) => sized_access(op, o.target, false, addressing::indexed(op, o)),
+        Family::Unsigned(op, o) => sized_access(op, o.target, false, addressing::offset(o)),
+    }
+}
+
+fn sized_access(op: SizedOp, target: u32, ordered: bool, addressing: Addressing) -> Access
+    ensures { λ r. ⌜ r ≡ sizedAccess op target ordered addressing ⌝ }
+{
+    if is_prefetch(op) {
+        return Access::Nothing;
+    }
+    Access::Moves(transfer::sized(op, target, ordered), addressing)
+}
+
+fn is_prefetch(op: SizedOp) -> bool
+    ensures { λ r. ⌜ r ≡ isPrefetch op ⌝ }
+{
+    if instruction::size_field(op) == 0b11 {
+        return instruction::opc_field(op) == 0b10;
+    }
+    false
+}
+
+fn literal_access(op: LiteralOp, o: LiteralOperands) -> Access
+    ensures { λ r. ⌜ r ≡ literalAccess op o ⌝ }
+{
+    match op {
+        LiteralOp::LiteralWord => literal_moves(4, 4, o),
+        LiteralOp::LiteralDouble => literal_moves(8, 8, o),
+        LiteralOp::LiteralSignedWord => literal_moves(4, 8, o),
+        LiteralOp::LiteralPrefetch => Access::Nothing,
+    }
+}
+
+fn literal_moves(bytes: u32, extent: u32, o: LiteralOperands) -> Access
+    ensures { λ r. ⌜ r ≡ literalMoves bytes extent o ⌝ }
+{
+    Access::Moves(
+        transfer::literal(bytes, extent, o.target),
+        addressing::literal(o),
+    )
+}
+
+fn pair_access(op: PairOp, o: PairOperands) -> Access
+    ensures { λ r. ⌜ r ≡ pairAccess op o ⌝ }
+{
+    Access::Moves(transfer::pair(op, o.first, o.second), addressing::paired(o))
+}

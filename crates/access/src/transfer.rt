@@ -1,0 +1,99 @@
+// What an access moves: registers, and bytes of memory.
+use instruction::PairOp;
+use instruction::SizedOp;
+ghost use mathlib.Core.Path.{_≡_};
+ghost use Rattle.access.specs.Transfers.{extentOf, sizedTransfer, literalTransfer, pairLoads, pairExtent, pairTransfer};
+
+// Each register's bytes are moved; the second of a pair lies behind the first, and a single register has no
+// bytes there. A loaded number keeps its sign up to the extent, in bytes; it is as long as the number where
+// zeros stand above. An ordered access lies in one block of 16 bytes.
+pub struct Transfer {
+    pub store: bool,
+    pub ordered: bool,
+    pub bytes: u32,
+    pub more: u32,
+    pub extent: u32,
+    pub target: u32,
+    pub second: u32,
+}
+
+pub fn sized(op: SizedOp, target: u32, ordered: bool) -> Transfer
+    ensures { λ r. ⌜ r ≡ sizedTransfer op target ordered ⌝ }
+{
+    let bytes = instruction::sized_bytes(op);
+    let opc = instruction::opc_field(op);
+    Transfer {
+        store: opc == 0b00,
+        ordered,
+        bytes,
+        more: 0,
+        extent: extent(opc, bytes),
+        target: registers::zero_slot(target),
+        second: 32,
+    }
+}
+
+fn extent(opc: u32, bytes: u32) -> u32
+    ensures { λ r. ⌜ r ≡ extentOf opc bytes ⌝ }
+{
+    if opc == 0b10 {
+        return 8;
+    }
+    if opc == 0b11 {
+        return 4;
+    }
+    bytes
+}
+
+pub fn literal(bytes: u32, extent: u32, target: u32) -> Transfer
+    ensures { λ r. ⌜ r ≡ literalTransfer bytes extent target ⌝ }
+{
+    Transfer {
+        store: false,
+        ordered: false,
+        bytes,
+        more: 0,
+        extent,
+        target: registers::zero_slot(target),
+        second: 32,
+    }
+}
+
+pub fn pair(op: PairOp, first: u32, second: u32) -> Transfer
+    ensures { λ r. ⌜ r ≡ pairTransfer op first second ⌝ }
+{
+    let bytes = instruction::pair_bytes(op);
+    Transfer {
+        store: !pair_loads(op),
+        ordered: false,
+        bytes,
+        more: bytes,
+        extent: pair_extent(op),
+        target: registers::zero_slot(first),
+        second: registers::zero_slot(second),
+    }
+}
+
+fn pair_loads(op: PairOp) -> bool
+    ensures { λ r. ⌜ r ≡ pairLoads op ⌝ }
+{
+    match op {
+        PairOp::StoreWords => false,
+        PairOp::LoadWords => true,
+        PairOp::LoadSignedWords => true,
+        PairOp::StoreDoubles => false,
+        PairOp::LoadDoubles => true,
+    }
+}
+
+fn pair_extent(op: PairOp) -> u32
+    ensures { λ r. ⌜ r ≡ pairExtent op ⌝ }
+{
+    match op {
+        PairOp::StoreWords => 4,
+        PairOp::LoadWords => 4,
+        PairOp::LoadSignedWords => 8,
+        PairOp::StoreDoubles => 8,
+        PairOp::LoadDoubles => 8,
+    }
+}
