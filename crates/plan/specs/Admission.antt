@@ -1,0 +1,32 @@
+-- Answers 6, 7 and 8: 01, "Answer numbers". All as whole numbers.
+use Prim.Native.Nat.{ℕ, _+_, _%_}
+use mathlib.Core.Bool.{Bool, true, false}
+use lib.Dec.{ltb}
+use Rattle.bits.specs.Choice.{pick}
+use Rattle.instruction.specs.declared.answer.Answer.{Answer}
+use Rattle.instruction.specs.declared.answer.Answer.the-variants.{Done, Misaligned, OutOfWindow, ReadOnly}
+use Rattle.access.specs.declared.transfer.Transfer.{Transfer}
+use Rattle.plan.specs.declared.window.Window.{Window}
+
+-- a pair is one access
+abbrev pub totalOf : Transfer → ℕ
+totalOf t = t .bytes + t .more
+
+-- 6: an ordered access not wholly inside one 16-byte aligned block
+unfoldable pub misaligned : Bool → ℕ → ℕ → Bool
+misaligned ordered total a = pick ordered (ltb 16 (a % 16 + total)) false
+
+-- 7: not inside origin to origin + len
+unfoldable pub outside : ℕ → ℕ → ℕ → ℕ → Bool
+outside total a origin len = pick (ltb a origin) true (ltb (origin + len) (a + total))
+
+-- 8: a store touching the first bytes
+unfoldable pub guarded : Bool → ℕ → Window → Bool
+guarded store a w = pick store (ltb a (w .origin + w .readonly)) false
+
+unfoldable pub admitOf : Window → ℕ → Transfer → ℕ → Answer
+admitOf w len t a =
+    pick (misaligned (t .ordered) (totalOf t) a) Misaligned
+    (pick (outside (totalOf t) a (w .origin) len) OutOfWindow
+    (pick (guarded (t .store) a w) ReadOnly
+    Done))

@@ -1,0 +1,4 @@
+pub mod Window
+pub mod Address
+pub mod Admission
+pub mod Plans

@@ -1,0 +1,56 @@
+// Whether an access may be made at an address: answers 6, 7 and 8, in their order.
+use crate::window::Window;
+use access::Transfer;
+use instruction::Answer;
+ghost use mathlib.Core.Path.{_≡_};
+ghost use Prim.Native.Nat.{_≤_, _+_};
+ghost use Rattle.plan.specs.Admission.{totalOf, misaligned, outside, guarded, admitOf};
+
+pub fn admission(t: Transfer, address: u64, window: Window, len: u64) -> Answer
+    ensures { λ r. ⌜ r ≡ admitOf window len t address ⌝ }
+{
+    let total = t.bytes as u64 + t.more as u64;
+    if is_misaligned(t.ordered, total, address) {
+        return Answer::Misaligned;
+    }
+    if is_outside(total, address, window.origin, len) {
+        return Answer::OutOfWindow;
+    }
+    if is_guarded(t.store, address, window) {
+        return Answer::ReadOnly;
+    }
+    Answer::Done
+}
+
+fn is_misaligned(ordered: bool, total: u64, address: u64) -> bool
+    requires { ⌜ total ≤ 8589934590 ⌝ }
+    ensures { λ r. ⌜ r ≡ misaligned ordered total address ⌝ }
+{
+    if ordered {
+        return 16 < address % 16 + total;
+    }
+    false
+}
+
+fn is_outside(total: u64, address: u64, origin: u64, len: u64) -> bool
+    ensures { λ r. ⌜ r ≡ outside total address origin len ⌝ }
+{
+    if address < origin {
+        return true;
+    }
+    let at = address - origin;
+    if len < at {
+        return true;
+    }
+    len - at < total
+}
+
+fn is_guarded(store: bool, address: u64, window: Window) -> bool
+    requires { ⌜ window .origin ≤ address ⌝ }
+    ensures { λ r. ⌜ r ≡ guarded store address window ⌝ }
+{
+    if store {
+        return address - window.origin < window.readonly;
+    }
+    false
+}

@@ -1,0 +1,43 @@
+// What an access is to do, before anything is changed: a refusal, or where it touches memory. A plan looks at
+// numbers alone, and at no byte of memory.
+mod address;
+mod admission;
+mod window;
+
+use access::Addressing;
+use access::Transfer;
+pub use address::Operands;
+use instruction::Answer;
+pub use window::Window;
+pub use window::is_bad;
+ghost use mathlib.Core.Path.{_≡_};
+ghost use Rattle.plan.specs.Admission.{admitOf};
+ghost use Rattle.plan.specs.Plans.{planOf};
+
+// A refusal has an answer and the address that it reports; a touch the address of the first byte, and the
+// number that is written back.
+pub enum Plan {
+    Refuse(Answer, u64),
+    Touch(u64, u64),
+}
+
+pub fn planned(
+    transfer: Transfer,
+    addressing: Addressing,
+    operands: Operands,
+    window: Window,
+    len: u64,
+) -> Plan
+    ensures { λ r. ⌜ r ≡ planOf (admitOf window len) transfer addressing operands ⌝ }
+{
+    if operands.tainted {
+        return Plan::Refuse(Answer::TaintedAddress, 0);
+    }
+    let sum = address::sum(addressing, operands);
+    let address = address::first_byte(addressing.post, operands.base, sum);
+    let answer = admission::admission(transfer, address, window, len);
+    if instruction::answer_number(answer) != 0 {
+        return Plan::Refuse(answer, address);
+    }
+    Plan::Touch(address, sum)
+}
