@@ -1,7 +1,7 @@
 // The bytes of a number at the start of a part of memory, and their taints. The part is lent from the first
 // byte of an access to the end of memory. A byte past the end reads 0 and is not written.
 ghost use mathlib.Core.Path.{_≡_};
-ghost use Prim.Native.Nat.{_<_, min};
+ghost use Prim.Native.Nat.{_<_, _^_, min};
 ghost use lib.ListN.{getD, set, replicate};
 ghost use lib.Seq.{sets};
 ghost use Rattle.memory.specs.Bytes.{bytesOf, joined, spanOf};
@@ -34,7 +34,7 @@ pub fn store_taint(part: &mut [u8], n: usize, taint: bool)
 
 // The number that the first n bytes make, at most 8 of them.
 pub fn load(part: &[u8], n: usize) -> u64
-    ensures { λ r. ⌜ r ≡ joined (spanOf (now (part .entry)) 0 (min n 8)) ⌝ }
+    ensures { λ r. ⌜ (r ≡ joined (spanOf (now (part .entry)) 0 (min n 8))) × (r < 256 ^ min n 8) ⌝ }
 {
     let mut i = at_most_8(n);
     let mut number: u64 = 0;

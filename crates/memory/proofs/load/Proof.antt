@@ -50,4 +50,4 @@ load-spec =
     (λ c.
     let l = c .before .loop in
     let e : l .i ≡ 0 = omega arith in
-    rw (e, sub-zero) at (l .inv .1)))
+    (rw (e, sub-zero) at (l .inv .1), rw (e, sub-zero) at (l .inv .2))))

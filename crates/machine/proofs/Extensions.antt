@@ -1,0 +1,35 @@
+-- Laws of numbers of n bytes. Assumes nothing.
+use Prim.Native.Nat.{ℕ, zero, suc, _+_, _-_, _*_, _%_, _^_, _≤_, _<_}
+use mathlib.Core.Path.{_≡_, refl, sym, _∙_}
+use native.Mathlib.Nat.{pow-suc, pow-le-pow-right, mul-suc, one-mul}
+use native.Mathlib.Omega.{arith}
+use lib.Dec.{lit<}
+use lib.Pow.{pow-add, pow-pos, shl-exact}
+use Rattle.memory.specs.Extension.{largest}
+
+two-256 : (n : ℕ) → 2 ^ (8 * n) ≡ 256 ^ n
+two-256 zero = refl
+two-256 (suc n) = rw (mul-suc, pow-add, two-256 n) (sym (pow-suc 256 n))
+
+-- a shift gives the number after the largest, while it fits
+pub shifted : {n : ℕ} → n < 8 → 1 * 2 ^ (8 * n) % 2 ^ 64 ≡ 256 ^ n
+shifted {n} h = shl-exact 1 (8 * n) 64 (lit< tt) (omega arith) ∙ one-mul (2 ^ (8 * n)) ∙ two-256 n
+
+positive : (n : ℕ) → 0 < 256 ^ n
+positive n = rw (← two-256 n) (pow-pos (8 * n))
+
+pub shifted-positive : {n : ℕ} → n < 8 → 1 ≤ 1 * 2 ^ (8 * n) % 2 ^ 64
+shifted-positive {n} h = rw (shifted h) (positive n)
+
+-- what is added to extend a number, and that the sum fits
+pub record Room (n extent v : ℕ) : Type 0 where
+  pub below : largest n ≤ largest extent
+  pub fits : v + (largest extent - largest n) < 2 ^ 64
+
+pub room : (n extent v : ℕ) → v < 256 ^ n → n ≤ extent → extent ≤ 8 → Room n extent v
+unfolding largest
+room n extent v h l e =
+    let up : 256 ^ n ≤ 256 ^ extent = pow-le-pow-right (lit< tt) l in
+    let top : 256 ^ extent ≤ 256 ^ 8 = pow-le-pow-right (lit< tt) e in
+    let some = positive n in
+    record { below = omega arith; fits = omega arith }

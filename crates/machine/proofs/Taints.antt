@@ -1,0 +1,91 @@
+-- The taints after a step are those of the taint rule. Assumes nothing.
+use Prim.Native.Nat.{ℕ, suc, _+_, _-_, _≤_, _<_}
+use mathlib.Core.Path.{_≡_, refl, _∙_}
+use mathlib.Core.Bool.{Bool, false}
+use mathlib.Core.List.{List, [], _∷_}
+use mathlib.Core.Logic.{_⊎_, inl, inr}
+use native.Mathlib.Omega.{arith}
+use lib.Dec.{eqb}
+use lib.ListN.{length, getD, set, replicate, length-replicate}
+use lib.Seq.{sets, getD-set-same, getD-set-other}
+use Rattle.bits.specs.Choice.{pick}
+use Rattle.bits.proofs.Choices.{pick-by}
+use Rattle.instruction.specs.declared.answer.Answer.{Answer}
+use Rattle.instruction.specs.Answers.{answerNumber}
+use Rattle.instruction.specs.Decoding.{classOf}
+use Rattle.access.specs.declared.transfer.Transfer.{Transfer}
+use Rattle.access.specs.declared.addressing.Addressing.{Addressing}
+use Rattle.access.specs.declared.Access.{Access}
+use Rattle.access.specs.declared.Access.the-variants.{Nothing, Moves}
+use Rattle.plan.specs.declared.window.Window.{Window}
+use Rattle.plan.specs.declared.Plan.{Plan}
+use Rattle.plan.specs.declared.Plan.the-variants.{Refuse, Touch}
+use Rattle.plan.specs.Window.{badWindow}
+use Rattle.plan.specs.Admission.{admitOf}
+use Rattle.plan.specs.Plans.{planOf}
+use Rattle.machine.specs.Rule.{Taints, moveRule, ruleOf, wordAccess, wordRule}
+use Rattle.machine.specs.Machine.{Machine, operandsOf, effectOf}
+use Rattle.machine.specs.Step.{Step, stopped, moved, performOf, accessStep, wordStep, stepOf}
+
+-- a step that moves leaves the taints that a rule gives at the address it reports
+abbrev pub Follows : (ℕ → Taints → Taints) → Machine → Step Machine → Type 0
+Follows rule m (stopped answer address) = Unit {0}
+Follows rule m (moved n code address) = n .taints ≡ rule address (m .taints)
+
+perform-follows : (origin : ℕ) (t : Transfer) (a : Addressing) (m : Machine) (p : Plan) → Follows (λ address. ruleOf (Moves t a) (address - origin)) m (performOf origin t a m p)
+unfolding effectOf
+perform-follows origin t a m (Refuse answer address) = tt
+perform-follows origin t a m (Touch address next) = refl
+
+access-follows : (origin : ℕ) (admit : Transfer → ℕ → Answer) (x : Access) (m : Machine) → Follows (λ address. ruleOf x (address - origin)) m (accessStep origin admit x m)
+access-follows origin admit Nothing m = refl
+access-follows origin admit (Moves t a) m = perform-follows origin t a m (planOf admit t a (operandsOf a m))
+
+-- under any admission
+pub word-follows : (origin : ℕ) (admit : Transfer → ℕ → Answer) (word : ℕ) (m : Machine) → Follows (wordRule origin word) m (wordStep origin admit word m)
+unfolding wordStep
+word-follows origin admit word m =
+    pick-by (Follows (wordRule origin word) m) (eqb (answerNumber (classOf word)) 0) (λ e. access-follows origin admit (wordAccess word) m) (λ e. tt)
+
+-- the taints after a step are those of the taint rule at its word and the address that it reports
+pub taints-by-rule : (w : Window) (word : ℕ) (m : Machine) → Follows (wordRule (w .origin) word) m (stepOf w word m)
+unfolding stepOf
+taints-by-rule w word m =
+    pick-by (Follows (wordRule (w .origin) word) m) (badWindow w (length (m .memory)) (length (m .taints .bytes)) (m .pc)) (λ e. tt) (λ e. word-follows (w .origin) (admitOf w (length (m .memory))) word m)
+
+-- ---- what the rule changes
+
+-- a register that is neither written back nor loaded keeps its taint
+pub register-kept : (t : Transfer) (written at : ℕ) (p : Taints) (slot : ℕ) → ¬ (slot ≡ written) → ¬ (slot ≡ t .target) → ¬ (slot ≡ t .second)
+    → getD (moveRule t written at p .registers) slot false ≡ getD (p .registers) slot false
+unfolding moveRule
+register-kept t written at p slot a b c =
+    pick-by (λ (u : List Bool). getD u slot false ≡ getD (p .registers) slot false) (t .store) (λ e. rw getD-set-other) (λ e. rw (getD-set-other, getD-set-other, getD-set-other))
+
+-- writeback leaves the base untainted; it is never loaded at once, or the word has answer 4
+pub base-untainted : (t : Transfer) (written at : ℕ) (p : Taints) → written < length (p .registers) → ¬ (written ≡ t .target) → ¬ (written ≡ t .second) → getD (moveRule t written at p .registers) written false ≡ false
+unfolding moveRule
+base-untainted t written at p h b c =
+    pick-by (λ (u : List Bool). getD u written false ≡ false) (t .store) (λ e. rw getD-set-same) (λ e. rw (getD-set-other, getD-set-other, getD-set-same))
+
+-- an index before n bytes, or behind them
+abbrev pub Apart : ℕ → ℕ → ℕ → Type 0
+Apart i at n = (i < at) ⊎ (at + n ≤ i)
+
+apart-next : (i at n : ℕ) → Apart i at (suc n) → Apart i (suc at) n × ¬ (i ≡ at)
+apart-next i at n (inl h) = (inl (omega arith), λ e. omega arith)
+apart-next i at n (inr h) = (inr (omega arith), λ e. omega arith)
+
+sets-kept : (vs ks : List ℕ) (at i : ℕ) → Apart i at (length vs) → getD (sets ks at vs) i 0 ≡ getD ks i 0
+sets-kept [] ks at i h = refl
+sets-kept (v ∷ vs) ks at i h =
+    let (more, other) = apart-next i at (length vs) h in
+    sets-kept vs (set ks at v) (suc at) i more ∙ getD-set-other ks at i v 0 other
+
+-- a byte that is not stored keeps its taint
+pub byte-kept : (t : Transfer) (written at : ℕ) (p : Taints) (i : ℕ) → Apart i at (t .bytes) → Apart i (at + t .bytes) (t .more) → getD (moveRule t written at p .bytes) i 0 ≡ getD (p .bytes) i 0
+unfolding moveRule
+byte-kept t written at p i a b =
+    pick-by (λ (k : List ℕ). getD k i 0 ≡ getD (p .bytes) i 0) (t .store)
+    (λ e. sets-kept (replicate (t .more) _) _ (at + t .bytes) i (rw length-replicate b) ∙ sets-kept (replicate (t .bytes) _) (p .bytes) at i (rw length-replicate a))
+    (λ e. refl)

@@ -1,0 +1,12 @@
+-- `machine::operands::base` meets its contract. Assumes nothing.
+use borrow.Author.Needs.{needs}
+use Rattle.machine.proofs.operands.base.Statement.{statement}
+use Rattle.machine.proofs.operands.base.Tie as tie
+
+pub base-spec : {M : Type 1} → statement M
+base-spec =
+    tie.close
+    (tie.spec
+    (λ c. rw (c .if1 .taken))
+    (λ c κs. search needs)
+    (λ c. rw (c .before .if1 .left) (c .get .ensures)))

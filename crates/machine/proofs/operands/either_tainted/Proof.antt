@@ -1,0 +1,13 @@
+-- `machine::operands::either_tainted` meets its contract. Assumes nothing.
+use borrow.Author.Needs.{needs}
+use Rattle.machine.proofs.operands.either_tainted.Statement.{statement}
+use Rattle.machine.proofs.operands.either_tainted.Tie as tie
+
+pub either-tainted-spec : {M : Type 1} → statement M
+either-tainted-spec =
+    tie.close
+    (tie.spec
+    (λ c κs. search needs)
+    (λ c. rw (← c .before .is-tainted .ensures, c .if1 .taken))
+    (λ c κs. search needs)
+    (λ c. rw (← c .before .before .is-tainted .ensures, c .before .if1 .left) (c .is-tainted2 .ensures)))

@@ -1,0 +1,24 @@
+-- `machine::step_word` meets its contract. Assumes nothing.
+use mathlib.Core.Path.{sym, _∙_}
+use borrow.Author.Tests.{eq-eqb, ne-eqb}
+use Rattle.access.proofs.Bounds.{bounded}
+use Rattle.machine.specs.Step.{wordStep}
+use borrow.Author.Needs.{needs}
+use Rattle.machine.proofs.step_word.Statement.{statement}
+use Rattle.machine.proofs.step_word.Tie as tie
+
+pub step-word-spec : {M : Type 1} → statement M
+unfolding wordStep
+step-word-spec =
+    tie.close
+    (tie.spec
+    (λ c κs. search needs)
+    (λ c κs. search needs)
+    (λ c κs. search needs)
+    (λ c. rw (← c .before .before .before .classify .ensures, ne-eqb _ 0 (λ h. c .before .if1 .taken (c .before .before .answer-number .ensures .0 ∙ h))) (c .refused .ensures _ _))
+    (λ c κs. search needs)
+    (λ c κs. search needs)
+    (λ c κs. (rw (c .before .before .access-of .ensures) (bounded _), c .before .before .before .before .before .before .before .before .before .before .pre))
+    (λ c. search needs)
+    (λ c. search needs)
+    (λ c. rw (← c .before .before .before .before .before .before .before .before .before .before .before .before .classify .ensures, eq-eqb _ 0 (sym (c .before .before .before .before .before .before .before .before .before .before .before .answer-number .ensures .0) ∙ c .before .before .before .before .before .before .before .before .before .before .if1 .left), ← c .before .before .before .before .before .before .before .before .before .decode .ensures, ← c .before .before .before .before .before .before .before .access-of .ensures) (c .before .before .before .before .step-access .ensures)))

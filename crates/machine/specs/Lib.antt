@@ -1,0 +1,4 @@
+pub mod Rule
+pub mod Machine
+pub mod Step
+pub mod Tests

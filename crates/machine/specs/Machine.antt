@@ -1,0 +1,77 @@
+-- The machine: what a step reads and changes, and what an access leaves of it: 01, "What a word says".
+use Prim.Native.Nat.{ℕ, _+_, _%_, _^_}
+use mathlib.Core.Bool.{Bool, true, false}
+use mathlib.Core.List.{List}
+use lib.ListN.{set, getD}
+use lib.Seq.{sets}
+use Rattle.bits.specs.Choice.{pick}
+use Rattle.memory.specs.Bytes.{bytesOf, joined, spanOf}
+use Rattle.memory.specs.Extension.{extendedOf}
+use Rattle.access.specs.declared.transfer.Transfer.{Transfer}
+use Rattle.access.specs.declared.addressing.Addressing.{Addressing}
+use Rattle.plan.specs.declared.address.Operands.{Operands}
+use Rattle.plan.specs.Admission.{totalOf}
+use Rattle.machine.specs.Rule.{Taints, moveRule}
+use Rattle.machine.specs.declared.State.{State}
+
+pub record Machine : Type 0 where
+  pub values : List ℕ
+  pub pc : ℕ
+  pub memory : List ℕ
+  pub taints : Taints
+
+-- the machine of a state and of the lent memory and taint bytes
+abbrev pub machineOf : State → List ℕ → List ℕ → Machine
+machineOf s memory taint =
+    record {
+      values = s .registers .value;
+      pc = s .pc;
+      memory = memory;
+      taints = record { registers = s .registers .taint; bytes = taint };
+    }
+
+-- what an access reads to form its address
+abbrev pub operandsIn : Addressing → List ℕ → List Bool → ℕ → Operands
+operandsIn a values taints pc =
+    record {
+      base = pick (a .relative) pc (getD values (a .base) 0);
+      index = getD values (a .index) 0;
+      tainted = pick (getD taints (a .base) false) true (getD taints (a .index) false);
+    }
+
+abbrev pub operandsOf : Addressing → Machine → Operands
+operandsOf a m = operandsIn a (m .values) (m .taints .registers) (m .pc)
+
+abbrev pub nextPc : ℕ → ℕ
+nextPc pc = (pc + 4) % 2 ^ 64
+
+-- a prefetch changes nothing but PC
+abbrev pub passedOver : Machine → Machine
+passedOver m = record { values = m .values; pc = nextPc (m .pc); memory = m .memory; taints = m .taints }
+
+-- writeback
+abbrev pub basedValues : ℕ → ℕ → List ℕ → List ℕ
+basedValues written next v = set v written next
+
+-- bytes are little-endian, and a pair puts Rt first
+abbrev pub loadedValues : Transfer → ℕ → List ℕ → List ℕ → List ℕ
+loadedValues t at v m =
+    set (set v (t .target) (extendedOf (t .bytes) (t .extent) (joined (spanOf m at (t .bytes))))) (t .second) (extendedOf (t .more) (t .extent) (joined (spanOf m (at + t .bytes) (t .more))))
+
+abbrev pub storedBytes : Transfer → ℕ → List ℕ → List ℕ → List ℕ
+storedBytes t at v m =
+    sets (sets m at (bytesOf (t .bytes) (getD v (t .target) 0))) (at + t .bytes) (bytesOf (t .more) (getD v (t .second) 0))
+
+-- what an access at an index leaves, with what it writes back
+unfoldable pub effectOf : Transfer → ℕ → ℕ → ℕ → Machine → Machine
+effectOf t written at next m =
+    record {
+      values = pick (t .store) (basedValues written next (m .values)) (loadedValues t at (basedValues written next (m .values)) (m .memory));
+      pc = nextPc (m .pc);
+      memory = pick (t .store) (storedBytes t at (m .values) (m .memory)) (m .memory);
+      taints = moveRule t written at (m .taints);
+    }
+
+-- bytes touched, both registers together, plus 64 for a store
+abbrev pub codeOf : Transfer → ℕ
+codeOf t = totalOf t + pick (t .store) 64 0

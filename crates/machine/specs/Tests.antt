@@ -1,0 +1,43 @@
+-- Answers 1 to 8 as 01's table has them, each by its own condition: 01, "Answer numbers".
+use Prim.Native.Nat.{ℕ, suc}
+use mathlib.Core.Bool.{Bool, false, not}
+use mathlib.Core.List.{List, [], _∷_}
+use lib.ListN.{length}
+use Rattle.bits.specs.Choice.{pick}
+use Rattle.instruction.specs.Table.{inSet}
+use Rattle.instruction.specs.Undefined.{undefined}
+use Rattle.instruction.specs.Unpredictable.{unpredictable}
+use Rattle.access.specs.declared.transfer.Transfer.{Transfer}
+use Rattle.access.specs.declared.addressing.Addressing.{Addressing}
+use Rattle.access.specs.declared.Access.{Access}
+use Rattle.access.specs.declared.Access.the-variants.{Nothing, Moves}
+use Rattle.plan.specs.declared.window.Window.{Window}
+use Rattle.plan.specs.Window.{badWindow}
+use Rattle.plan.specs.Address.{addressOf}
+use Rattle.plan.specs.Admission.{totalOf, misaligned, outside, guarded}
+use Rattle.machine.specs.Rule.{wordAccess}
+use Rattle.machine.specs.Machine.{Machine, operandsOf}
+
+-- 5 to 8, which a prefetch passes
+abbrev pub accessTests : Window → Access → Machine → List Bool
+accessTests w Nothing m = []
+accessTests w (Moves t a) m =
+    operandsOf a m .tainted
+    ∷ misaligned (t .ordered) (totalOf t) (addressOf a (operandsOf a m))
+    ∷ outside (totalOf t) (addressOf a (operandsOf a m)) (w .origin) (length (m .memory))
+    ∷ guarded (t .store) (addressOf a (operandsOf a m)) w
+    ∷ []
+
+-- 1 to 8
+abbrev pub tests : Window → ℕ → Machine → List Bool
+tests w word m =
+    badWindow w (length (m .memory)) (length (m .taints .bytes)) (m .pc)
+    ∷ not (inSet word)
+    ∷ undefined word
+    ∷ unpredictable word
+    ∷ accessTests w (wordAccess word) m
+
+-- the number of the first test that holds, and 0 where none does
+abbrev pub lowest : ℕ → List Bool → ℕ
+lowest n [] = 0
+lowest n (t ∷ ts) = pick t n (lowest (suc n) ts)
