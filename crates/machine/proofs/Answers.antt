@@ -6,7 +6,9 @@ use mathlib.Core.List.{List, []}
 use native.Mathlib.Omega.{arith}
 use lib.Dec.{eqb}
 use lib.ListN.{length}
+use borrow.Author.Tests.{eqb-false}
 use Rattle.bits.specs.Choice.{pick}
+use Rattle.bits.proofs.Choices.{pick-by}
 use Rattle.instruction.specs.declared.answer.Answer.{Answer}
 use Rattle.instruction.specs.declared.answer.Answer.the-variants.{Done, BadWindow, NotInSet, Undefined, Unpredictable, TaintedAddress, Misaligned, OutOfWindow, ReadOnly}
 use Rattle.instruction.specs.Answers.{answerNumber}
@@ -93,3 +95,27 @@ tainted-refused w word m t a e h =
     stopped-first true done = refl
     stopped-first false true = refl
     stopped-first false false = refl
+
+-- a step that stops gives no answer 0
+abbrev pub Refuses : {A : Type 0} → Step A → Type 0
+Refuses (stopped answer address) = ¬ (answerNumber answer ≡ 0)
+Refuses (moved n code address) = Unit {0}
+
+plan-refuses : (origin : ℕ) (t : Transfer) (a : Addressing) (m : Machine) (tainted done : Bool) (x s : ℕ) (answer : Answer) → eqb (answerNumber answer) 0 ≡ done
+    → Refuses (performOf origin t a m (pick tainted (Refuse TaintedAddress 0) (pick done (Touch x s) (Refuse answer x))))
+plan-refuses origin t a m true done x s answer e = λ h. omega arith
+plan-refuses origin t a m false true x s answer e = tt
+plan-refuses origin t a m false false x s answer e = eqb-false (answerNumber answer) 0 e
+
+access-refuses : (origin : ℕ) (admit : Transfer → ℕ → Answer) (x : Access) (m : Machine) → Refuses (accessStep origin admit x m)
+unfolding planOf
+access-refuses origin admit Nothing m = tt
+access-refuses origin admit (Moves t a) m =
+    let o = operandsOf a m in
+    plan-refuses origin t a m (o .tainted) (eqb (answerNumber (admit t (addressOf a o))) 0) (addressOf a o) (sumOf a o) (admit t (addressOf a o)) refl
+
+pub step-refuses : (w : Window) (word : ℕ) (m : Machine) → Refuses (stepOf w word m)
+unfolding stepOf wordStep
+step-refuses w word m =
+    pick-by Refuses (badWindow w (length (m .memory)) (length (m .taints .bytes)) (m .pc)) (λ e h. omega arith)
+    (λ e. pick-by Refuses (eqb (answerNumber (classOf word)) 0) (λ d. access-refuses (w .origin) (admitOf w (length (m .memory))) (wordAccess word) m) (λ d. eqb-false (answerNumber (classOf word)) 0 d))

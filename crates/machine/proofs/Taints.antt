@@ -13,6 +13,7 @@ use Rattle.bits.proofs.Choices.{pick-by}
 use Rattle.instruction.specs.declared.answer.Answer.{Answer}
 use Rattle.instruction.specs.Answers.{answerNumber}
 use Rattle.instruction.specs.Decoding.{classOf}
+use Rattle.memory.specs.Taints.{taintByte}
 use Rattle.access.specs.declared.transfer.Transfer.{Transfer}
 use Rattle.access.specs.declared.addressing.Addressing.{Addressing}
 use Rattle.access.specs.declared.Access.{Access}
@@ -27,31 +28,34 @@ use Rattle.machine.specs.Rule.{Taints, moveRule, ruleOf, wordAccess, wor
 use Rattle.machine.specs.Machine.{Machine, operandsOf, effectOf}
 use Rattle.machine.specs.Step.{Step, stopped, moved, performOf, accessStep, wordStep, stepOf}
 
--- a step that moves leaves the taints that a rule gives at the address it reports
-abbrev pub Follows : (ℕ → Taints → Taints) → Machine → Step Machine → Type 0
-Follows rule m (stopped answer address) = Unit {0}
-Follows rule m (moved n code address) = n .taints ≡ rule address (m .taints)
+-- a step that moves leaves of a part of the machine what a rule gives at the address it reports
+abbrev pub Follows : {A B : Type 0} → (A → B) → (ℕ → B → B) → A → Step A → Type 0
+Follows part rule m (stopped answer address) = Unit {0}
+Follows part rule m (moved n code address) = part n ≡ rule address (part m)
 
-perform-follows : (origin : ℕ) (t : Transfer) (a : Addressing) (m : Machine) (p : Plan) → Follows (λ address. ruleOf (Moves t a) (address - origin)) m (performOf origin t a m p)
+abbrev pub taintsIn : Machine → Taints
+taintsIn m = m .taints
+
+perform-follows : (origin : ℕ) (t : Transfer) (a : Addressing) (m : Machine) (p : Plan) → Follows taintsIn (λ address. ruleOf (Moves t a) (address - origin)) m (performOf origin t a m p)
 unfolding effectOf
 perform-follows origin t a m (Refuse answer address) = tt
 perform-follows origin t a m (Touch address next) = refl
 
-access-follows : (origin : ℕ) (admit : Transfer → ℕ → Answer) (x : Access) (m : Machine) → Follows (λ address. ruleOf x (address - origin)) m (accessStep origin admit x m)
+access-follows : (origin : ℕ) (admit : Transfer → ℕ → Answer) (x : Access) (m : Machine) → Follows taintsIn (λ address. ruleOf x (address - origin)) m (accessStep origin admit x m)
 access-follows origin admit Nothing m = refl
 access-follows origin admit (Moves t a) m = perform-follows origin t a m (planOf admit t a (operandsOf a m))
 
 -- under any admission
-pub word-follows : (origin : ℕ) (admit : Transfer → ℕ → Answer) (word : ℕ) (m : Machine) → Follows (wordRule origin word) m (wordStep origin admit word m)
+pub word-follows : (origin : ℕ) (admit : Transfer → ℕ → Answer) (word : ℕ) (m : Machine) → Follows taintsIn (wordRule origin word) m (wordStep origin admit word m)
 unfolding wordStep
 word-follows origin admit word m =
-    pick-by (Follows (wordRule origin word) m) (eqb (answerNumber (classOf word)) 0) (λ e. access-follows origin admit (wordAccess word) m) (λ e. tt)
+    pick-by (Follows taintsIn (wordRule origin word) m) (eqb (answerNumber (classOf word)) 0) (λ e. access-follows origin admit (wordAccess word) m) (λ e. tt)
 
 -- the taints after a step are those of the taint rule at its word and the address that it reports
-pub taints-by-rule : (w : Window) (word : ℕ) (m : Machine) → Follows (wordRule (w .origin) word) m (stepOf w word m)
+pub taints-by-rule : (w : Window) (word : ℕ) (m : Machine) → Follows taintsIn (wordRule (w .origin) word) m (stepOf w word m)
 unfolding stepOf
 taints-by-rule w word m =
-    pick-by (Follows (wordRule (w .origin) word) m) (badWindow w (length (m .memory)) (length (m .taints .bytes)) (m .pc)) (λ e. tt) (λ e. word-follows (w .origin) (admitOf w (length (m .memory))) word m)
+    pick-by (Follows taintsIn (wordRule (w .origin) word) m) (badWindow w (length (m .memory)) (length (m .taints .bytes)) (m .pc)) (λ e. tt) (λ e. word-follows (w .origin) (admitOf w (length (m .memory))) word m)
 
 -- ---- what the rule changes
 
@@ -87,5 +91,8 @@ pub byte-kept : (t : Transfer) (written at : ℕ) (p : Taints) (i : ℕ) → Apa
 unfolding moveRule
 byte-kept t written at p i a b =
     pick-by (λ (k : List ℕ). getD k i 0 ≡ getD (p .bytes) i 0) (t .store)
-    (λ e. sets-kept (replicate (t .more) _) _ (at + t .bytes) i (rw length-replicate b) ∙ sets-kept (replicate (t .bytes) _) (p .bytes) at i (rw length-replicate a))
+    (λ e.
+    let first = replicate (t .bytes) (taintByte (getD (p .registers) (t .target) false)) in
+    let second = replicate (t .more) (taintByte (getD (p .registers) (t .second) false)) in
+    sets-kept second (sets (p .bytes) at first) (at + t .bytes) i (rw length-replicate b) ∙ sets-kept first (p .bytes) at i (rw length-replicate a))
     (λ e. refl)

@@ -47,15 +47,15 @@ stepOf w word m =
     pick (badWindow w (length (m .memory)) (length (m .taints .bytes)) (m .pc)) (stopped BadWindow 0) (wordStep (w .origin) (admitOf w (length (m .memory))) word m)
 
 -- all that a step returns and leaves; a step that stops leaves the machine as it was
-pub record Outcome : Type 0 where
-  pub machine : Machine
+pub record Outcome (A : Type 0) : Type 0 where
+  pub machine : A
   pub answer : Answer
   pub code : ℕ
   pub address : ℕ
 
-abbrev pub outcome : Stepped → List ℕ → List ℕ → Outcome
+abbrev pub outcome : Stepped → List ℕ → List ℕ → Outcome Machine
 outcome r memory taint = record { machine = machineOf (r .state) memory taint; answer = r .answer; code = r .code; address = r .address }
 
-abbrev pub performed : Machine → Step Machine → Outcome
+abbrev pub performed : {A : Type 0} → A → Step A → Outcome A
 performed m (stopped answer address) = record { machine = m; answer = answer; code = 0; address = address }
 performed m (moved n code address) = record { machine = n; answer = Done; code = code; address = address }

@@ -1,0 +1,106 @@
+// A run: a step for each word of a list, up to the first refusal, with a trace of the steps done.
+use instruction::Answer;
+use machine::State;
+use plan::Window;
+ghost use mathlib.Core.Path.{_≡_};
+ghost use mathlib.Core.List.{List};
+ghost use Prim.Native.Nat.{ℕ, _*_, _≤_};
+ghost use lib.ListN.{length};
+ghost use Rattle.machine.specs.Rule.{Taints, wordRule};
+ghost use Rattle.machine.specs.Machine.{Machine, machineOf};
+ghost use Rattle.machine.specs.Step.{stepOf};
+ghost use Rattle.execution.specs.Walk.{walkOf, glue, notBegun, afterSteps};
+ghost use Rattle.execution.specs.Run.{machineRun, result};
+ghost use Rattle.execution.specs.Secrecy.{Same, ShowsRun};
+
+// What a run returns: how many steps were done, the answer, code and address of the last step tried, and the
+// state after the steps done.
+pub struct Ran {
+    pub state: State,
+    pub steps: usize,
+    pub answer: Answer,
+    pub code: u64,
+    pub address: u64,
+}
+
+// The steps, their order and all that they leave are those of the definition. The taints at the end are those
+// of the taint rule over the steps done. And whatever else the run could have started from that differs only
+// in what is tainted and in what the trace held: it would have shown the same.
+pub fn run(
+    words: &[u32],
+    state: State,
+    window: Window,
+    memory: &mut [u8],
+    taint: &mut [u8],
+    trace: &mut [u64],
+) -> Ran
+    ensures exact { λ r. ⌜ result r (now (memory .exit)) (now (taint .exit)) (now (trace .exit)) ≡ machineRun window (now (words .entry)) (machineOf state (now (memory .entry)) (now (taint .entry))) (now (trace .entry)) ⌝ }
+    ensures rule { λ r. ⌜ machineOf (r .state) (now (memory .exit)) (now (taint .exit)) .taints ≡ afterSteps (wordRule (window .origin)) (now (words .entry)) (now (trace .exit)) (r .steps) (machineOf state (now (memory .entry)) (now (taint .entry)) .taints) ⌝ }
+    ensures secret { λ r. ⌜ ((other : Machine) (trail : List ℕ) → Same (machineOf state (now (memory .entry)) (now (taint .entry))) other → length (now (trace .entry)) ≡ length trail
+        → ShowsRun Same (result r (now (memory .exit)) (now (taint .exit)) (now (trace .exit))) (machineRun window (now (words .entry)) other trail)) ⌝ }
+{
+    if plan::is_bad(window, memory.len() as u64, taint.len() as u64, state.pc) {
+        return not_begun(state, Answer::BadWindow);
+    }
+    if trace.len() / 2 < words.len() {
+        return not_begun(state, Answer::NoRoom);
+    }
+    walk(words, state, window, memory, taint, trace)
+}
+
+fn not_begun(state: State, answer: Answer) -> Ran
+    ensures { λ r. ⌜ ((m k t : List ℕ) → result r m k t ≡ notBegun answer (machineOf state m k) t) ⌝ }
+{
+    Ran {
+        state,
+        steps: 0,
+        answer,
+        code: 0,
+        address: 0,
+    }
+}
+
+// The steps of a run whose window and trace were tested.
+fn walk(
+    words: &[u32],
+    start: State,
+    window: Window,
+    memory: &mut [u8],
+    taint: &mut [u8],
+    trace: &mut [u64],
+) -> Ran
+    requires { ⌜ length (now words) * 2 ≤ length (now trace) ⌝ }
+    ensures { λ r. ⌜ result r (now (memory .exit)) (now (taint .exit)) (now (trace .exit)) ≡ glue 0 (now (trace .entry)) (walkOf (stepOf window) (now (words .entry)) (machineOf start (now (memory .entry)) (now (taint .entry))) 0 0) ⌝ }
+{
+    let mut state = start;
+    let mut code = 0;
+    let mut address = 0;
+    let mut i = 0;
+    while i < words.len() {
+        let stepped = machine::step(words[i], state, window, memory, taint);
+        let answer = stepped.answer;
+        let after = stepped.state;
+        state = after;
+        code = stepped.code;
+        address = stepped.address;
+        if instruction::answer_number(answer) != 0 {
+            return Ran {
+                state,
+                steps: i,
+                answer,
+                code,
+                address,
+            };
+        }
+        trace[i * 2] = code;
+        trace[i * 2 + 1] = address;
+        i += 1;
+    }
+    Ran {
+        state,
+        steps: i,
+        answer: Answer::Done,
+        code,
+        address,
+    }
+}
