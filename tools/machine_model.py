@@ -1,0 +1,325 @@
+"""A model of 01's step and run, to hold the proved ones against.
+
+It is written from 01 alone and shares no code with the crates or with the other scripts, so that an error would have
+to be made twice to stay unseen. Each rule is a method of its own: machine_mutants.py overrides one at a time.
+"""
+from typing import NamedTuple, Optional
+
+SPACE = 1 << 64
+# The trace before a run, in every place.
+UNTOUCHED = SPACE - 1
+# SP where it is the base, and the zero register elsewhere.
+LAST = 31
+
+LITERAL, PAIR, ORDERED, UNSCALED, POST, PRE, REGISTER, UNSIGNED = FAMILIES = (
+    'literal', 'pair', 'ordered', 'unscaled', 'post', 'pre', 'register', 'unsigned')
+NO_ALLOCATE, PAIR_POST, PAIR_OFFSET, PAIR_PRE = range(4)
+# What is done above the bytes that a load takes.
+ZEROS, SIGNED_64, SIGNED_32 = range(3)
+
+# 01's table, bit 31 first: a digit is fixed, and a letter stands for a bit of the field that NAMES gives it.
+ROWS = {
+    LITERAL: 'oo 011 0 00 iiiiiiiiiiiiiiiiiii ttttt',
+    PAIR: 'oo 101 0 0 yy L iiiiiii uuuuu nnnnn ttttt',
+    ORDERED: 'zz 011 0 01 oo 0 iiiiiiiii 00 nnnnn ttttt',
+    UNSCALED: 'zz 111 0 00 oo 0 iiiiiiiii 00 nnnnn ttttt',
+    POST: 'zz 111 0 00 oo 0 iiiiiiiii 01 nnnnn ttttt',
+    PRE: 'zz 111 0 00 oo 0 iiiiiiiii 11 nnnnn ttttt',
+    REGISTER: 'zz 111 0 00 oo 1 mmmmm ppp S 10 nnnnn ttttt',
+    UNSIGNED: 'zz 111 0 01 oo iiiiiiiiiiii nnnnn ttttt',
+}
+NAMES = {'z': 'size', 'o': 'opc', 'L': 'load', 'y': 'mode', 'i': 'imm', 'u': 'rt2', 'm': 'rm', 'p': 'option',
+         'S': 'scaled', 'n': 'rn', 't': 'rt'}
+
+
+def layout_of(row):
+    """The fixed bits of a row, as a mask and their value, and its fields, as (low, width) by name."""
+    letters = row.replace(' ', '')
+    assert len(letters) == 32
+    mask = int(''.join('01'[letter in '01'] for letter in letters), 2)
+    value = int(''.join(letter if letter in '01' else '0' for letter in letters), 2)
+    places = {name: (31 - letters.rindex(letter), letters.count(letter))
+              for letter, name in NAMES.items() if letter in letters}
+    return mask, value, places
+
+
+LAYOUTS = {family: layout_of(row) for family, row in ROWS.items()}
+
+
+def word_of(family, **fields):
+    """The word with these fields; a field may be given as a negative number, and one that is not given is 0."""
+    _, word, places = LAYOUTS[family]
+    for name, value in fields.items():
+        low, width = places[name]
+        word |= value % (1 << width) << low
+    return word
+
+
+def fields_of(family, word):
+    return {name: word >> low & (1 << width) - 1 for name, (low, width) in LAYOUTS[family][2].items()}
+
+
+def signed(value, bits):
+    """The signed number that so many bits stand for."""
+    return value - (1 << bits) if value >> bits - 1 else value
+
+
+class Access(NamedTuple):
+    """What an allocated word says."""
+    family: str
+    prefetch: bool
+    store: bool
+    above: int
+    # Bytes for one register.
+    width: int
+    # Rt, and Rt2 of a pair.
+    targets: tuple
+    # None for a literal, whose base is PC.
+    base: Optional[int] = None
+    index: Optional[int] = None
+    option: int = 0
+    shift: int = 0
+    # In bytes.
+    offset: int = 0
+    writeback: bool = False
+
+    def length(self):
+        return self.width * len(self.targets)
+
+
+class State:
+    """Everything that a step gets beside its word. The length of the window is that of the memory."""
+
+    def __init__(self, origin, readonly, pc, registers, tainted, memory, taint):
+        self.origin, self.readonly, self.pc = origin, readonly, pc
+        # X0 to X30 and SP.
+        self.registers, self.tainted = list(registers), [bool(taint) for taint in tainted]
+        self.memory, self.taint = bytearray(memory), bytearray(taint)
+
+    def copy(self):
+        return State(self.origin, self.readonly, self.pc, self.registers, self.tainted, self.memory, self.taint)
+
+    def end(self):
+        """As a whole number: it may be 2^64 or more."""
+        return self.origin + len(self.memory)
+
+
+class Outcome(NamedTuple):
+    """What a run returns and leaves."""
+    steps: int
+    answer: int
+    code: int
+    address: int
+    state: State
+    trace: list
+
+
+class Model:
+    # The tests in the order in which they are made, which is that of their answers.
+    ORDER = (1, 2, 3, 4, 5, 6, 7, 8)
+
+    # "The instructions we take".
+
+    def family_of(self, word):
+        for family, (mask, value, _) in LAYOUTS.items():
+            if word & mask == value:
+                return family
+        return None
+
+    def is_undefined(self, family, f):
+        if family == LITERAL:
+            return False
+        if family == PAIR:
+            if f['opc'] == 0b01:
+                return not (f['load'] == 1 and f['mode'] != NO_ALLOCATE)
+            return f['opc'] == 0b11
+        kind = f['size'], f['opc']
+        if kind in ((0b10, 0b11), (0b11, 0b11)):
+            return True
+        if kind == (0b11, 0b10) and family in (ORDERED, POST, PRE):
+            return True
+        return family == REGISTER and f['option'] & 0b010 == 0
+
+    # "What a word says".
+
+    def access_of(self, family, f):
+        if family == LITERAL:
+            width, above = {0b00: (4, ZEROS), 0b01: (8, ZEROS), 0b10: (4, SIGNED_64), 0b11: (0, ZEROS)}[f['opc']]
+            return Access(family, f['opc'] == 0b11, False, above, width, (f['rt'],), offset=signed(f['imm'], 19) * 4)
+        if family == PAIR:
+            width, above = {0b00: (4, ZEROS), 0b10: (8, ZEROS), 0b01: (4, SIGNED_64)}[f['opc']]
+            return Access(
+                family, False, f['load'] == 0, above, width, (f['rt'], f['rt2']), f['rn'],
+                offset=signed(f['imm'], 7) * width, writeback=f['mode'] in (PAIR_POST, PAIR_PRE))
+        prefetch = (f['size'], f['opc']) == (0b11, 0b10)
+        above = {0b00: ZEROS, 0b01: ZEROS, 0b10: SIGNED_64, 0b11: SIGNED_32}[f['opc']]
+        access = Access(family, prefetch, f['opc'] == 0b00, above, 1 << f['size'], (f['rt'],), f['rn'])
+        if family == REGISTER:
+            return access._replace(index=f['rm'], option=f['option'], shift=f['size'] if f['scaled'] else 0)
+        if family == UNSIGNED:
+            return access._replace(offset=f['imm'] << f['size'])
+        return access._replace(offset=signed(f['imm'], 9), writeback=family in (POST, PRE))
+
+    def is_post(self, access, f):
+        return access.family == POST or access.family == PAIR and f['mode'] == PAIR_POST
+
+    def read(self, state, number):
+        """The value and the taint of Rt, Rt2 or Rm."""
+        return (0, False) if number == LAST else (state.registers[number], state.tainted[number])
+
+    def read_index(self, state, access):
+        return self.read(state, access.index)
+
+    def write(self, state, number, value, tainted):
+        """To Rt or Rt2."""
+        if number != LAST:
+            self.set(state, number, value, tainted)
+
+    def set(self, state, number, value, tainted):
+        state.registers[number], state.tainted[number] = value, tainted
+
+    def base_of(self, state, access):
+        return state.pc if access.base is None else state.registers[access.base]
+
+    def index_of(self, state, access):
+        if access.index is None:
+            return 0
+        value, _ = self.read_index(state, access)
+        extended = {0b010: value % (1 << 32), 0b110: signed(value % (1 << 32), 32), 0b011: value, 0b111: value}
+        return extended[access.option] << access.shift
+
+    def moved_base(self, state, access):
+        """Base and offset, which is where a writeback leaves the base too."""
+        return (self.base_of(state, access) + access.offset + self.index_of(state, access)) % SPACE
+
+    def address_of(self, state, access, f):
+        return self.base_of(state, access) if self.is_post(access, f) else self.moved_base(state, access)
+
+    # "Answer numbers". A test after 3 is made of an access, and a prefetch has none.
+
+    def is_refused(self, answer, state, word, family, f, access, address):
+        if answer == 1:
+            return self.is_bad_window(state)
+        if answer == 2:
+            return family is None
+        if answer == 3:
+            return self.is_undefined(family, f)
+        if access.prefetch:
+            return False
+        return {4: self.is_unpredictable, 5: self.is_tainted, 6: self.is_misaligned, 7: self.is_outside,
+                8: self.is_read_only}[answer](state, access, address)
+
+    def is_bad_window(self, state):
+        return (state.end() > SPACE or state.readonly > len(state.memory) or len(state.taint) != len(state.memory)
+                or state.pc % 4 != 0)
+
+    def is_unpredictable(self, state, access, address):
+        if access.writeback and access.base != LAST and access.base in access.targets:
+            return True
+        return access.family == PAIR and not access.store and access.targets[0] == access.targets[1]
+
+    def is_tainted(self, state, access, address):
+        if access.base is None:
+            return False
+        return state.tainted[access.base] or access.index is not None and self.read_index(state, access)[1]
+
+    def is_misaligned(self, state, access, address):
+        return access.family == ORDERED and address // 16 != (address + self.span(access) - 1) // 16
+
+    def is_outside(self, state, access, address):
+        return not (state.origin <= address and address + self.span(access) <= state.end())
+
+    def is_read_only(self, state, access, address):
+        return access.store and address < state.origin + state.readonly
+
+    def span(self, access):
+        """Bytes of the whole access, as the tests take it."""
+        return access.length()
+
+    # "Memory, marks and the trace". 01's mark is our taint.
+
+    def extended(self, access, value, old):
+        """What a load writes, from the bytes as a number and from the register as it was."""
+        if access.above == ZEROS:
+            return value
+        return signed(value, 8 * access.width) % (SPACE if access.above == SIGNED_64 else 1 << 32)
+
+    def loaded_taint(self, taint):
+        return any(taint)
+
+    def stored_taint(self, tainted):
+        return 1 if tainted else 0
+
+    def part(self, access, k):
+        """Which part of a pair's bytes its k-th register has."""
+        return k
+
+    def load(self, state, access, address):
+        for k, number in enumerate(access.targets):
+            at = address - state.origin + self.part(access, k) * access.width
+            value = int.from_bytes(state.memory[at:at + access.width], 'little')
+            tainted = self.loaded_taint(state.taint[at:at + access.width])
+            self.write(state, number, self.extended(access, value, self.read(state, number)[0]), tainted)
+
+    def store(self, state, access, address):
+        for k, number in enumerate(access.targets):
+            at = address - state.origin + self.part(access, k) * access.width
+            value, tainted = self.read(state, number)
+            stored = value % (1 << 8 * access.width)
+            state.memory[at:at + access.width] = stored.to_bytes(access.width, 'little')
+            state.taint[at:at + access.width] = bytes([self.stored_taint(tainted)]) * access.width
+
+    def write_back(self, state, access, moved):
+        self.set(state, access.base, moved, False)
+
+    def next_pc(self, pc):
+        return (pc + 4) % SPACE
+
+    def code_of(self, access):
+        return access.length() + (64 if access.store else 0)
+
+    def refusal(self, answer, address):
+        """Answer, code and address."""
+        return answer, 0, 0 if answer <= 5 else address
+
+    def step(self, word, state):
+        """Answer, code and address. A step that is done changes the state, and a refused one changes nothing."""
+        family, f, access, address = self.family_of(word), None, None, None
+        if family is not None:
+            f = fields_of(family, word)
+            if not self.is_undefined(family, f):
+                access = self.access_of(family, f)
+                address = self.address_of(state, access, f)
+        for answer in self.ORDER:
+            if self.is_refused(answer, state, word, family, f, access, address):
+                return self.refusal(answer, address)
+        return self.done(state, access, address)
+
+    def done(self, state, access, address):
+        code = 0
+        if access.prefetch:
+            address = 0
+        else:
+            code = self.code_of(access)
+            moved = self.moved_base(state, access)
+            (self.store if access.store else self.load)(state, access, address)
+            if access.writeback:
+                self.write_back(state, access, moved)
+        state.pc = self.next_pc(state.pc)
+        return 0, code, address
+
+    def run(self, words, given, room):
+        """A run over the words with a trace of so many numbers."""
+        state, trace = given.copy(), [UNTOUCHED] * room
+        if self.is_bad_window(state):
+            return Outcome(0, 1, 0, 0, state, trace)
+        if room < 2 * len(words):
+            return Outcome(0, 10, 0, 0, state, trace)
+        steps, answer, code, address = 0, 0, 0, 0
+        for word in words:
+            answer, code, address = self.step(word, state)
+            if answer != 0:
+                break
+            trace[2 * steps:2 * steps + 2] = code, address
+            steps += 1
+        return Outcome(steps, answer, code, address, state, trace)
