@@ -1,0 +1,193 @@
+#!/usr/bin/env python3
+"""Writes crates/replay/stdin and crates/replay/stdout: machines and words, and what must become of them.
+
+    apt-get install python3-unicorn
+    python3 tools/replay_cases.py                   cases of one word
+    python3 tools/replay_cases.py --runs            and runs of many behind them
+    python3 tools/replay_cases.py --endings DIR     writes small inputs that end in each way, and what must come
+    python3 tools/replay_cases.py --self-check      counts the cases that tell each wrong machine from the right one
+
+What must come is the model's, which is written from 01 alone (machine_model.py). Every step that is done, prefetches
+too, is also done by Unicorn, and registers, memory, PC, address and length of the access have to be the same
+(machine_unicorn.py): the script stops at any difference, and there is none. Unicorn also has to refuse the words of
+answer 3, and to reach for the address that answers 6 to 8 give. Which words are 2, 3 and 4 is also held against
+crates/list/stdout, which LLVM and binutils have made. The other answers, windows, taints and the trace are the model's
+alone. None of it comes from this project's code.
+
+replay_format.py has the format. The stored input ends inside a case, and the option --endings makes the other endings.
+Made with unicorn 2.0.1 from Debian 12, in some ten seconds. The output is the same each time.
+"""
+import argparse
+import collections
+import os
+import random
+
+from machine_model import FAMILIES, Model, fields_of
+from machine_mutants import RUNS, SAME, SLIPS, WARNED
+from replay_format import bad_ending, case_bytes, case_lines, write_endings
+from replay_runs import all_runs, largest_case
+from replay_states import access_of, is_unpredictable, registers_of
+from replay_steps import all_steps, flaws_of
+
+STEPS_SEED, RUNS_SEED = 3, 4
+MODEL = Model()
+
+
+def path_of(crate, name):
+    return os.path.join(os.path.dirname(os.path.dirname(os.path.abspath(__file__))), 'crates', crate, name)
+
+
+def show(title, counts):
+    print(title)
+    for name, count in sorted(counts.items(), key=lambda item: str(item[0]).rjust(2)):
+        print('%7d  %s' % (count, name))
+
+
+def outcome_of(model, case):
+    return model.run(case.words, case.state, case.room)
+
+
+def write(cases, outcomes):
+    # The last case is cut: its last byte of taint is missing.
+    ending = case_bytes(len(cases), next(case for case in cases if case.state.taint))[:-1]
+    given = b''.join(case_bytes(number, case) for number, case in enumerate(cases)) + ending
+    expected = ''.join(case_lines(number, outcome) for number, outcome in enumerate(outcomes))
+    expected += bad_ending(len(cases), 'cut short')
+    os.makedirs(path_of('replay', ''), exist_ok=True)
+    for name, content in (('stdin', given), ('stdout', expected.encode())):
+        with open(path_of('replay', name), 'wb') as file:
+            file.write(content)
+        print('%s: %d bytes' % (name, len(content)))
+
+
+def agreed(holds, case, outcome):
+    if not holds:
+        raise SystemExit('no rule for %08x of answer %d in %s' % (
+            case.words[outcome.steps], outcome.answer, case.group))
+
+
+def confirm(cases, outcomes):
+    """Holds every done step against Unicorn."""
+    from machine_unicorn import compare, reaches, refuses_undefined
+    counts, skipped, refusals = collections.Counter(), collections.Counter(), collections.Counter()
+    for case, outcome in zip(cases, outcomes):
+        confirmed, prefetches, why = compare(MODEL, case)
+        counts['loads and stores'] += confirmed - prefetches
+        counts['prefetches'] += prefetches
+        if why:
+            skipped[why] += 1
+        if outcome.answer == 3:
+            agreed(refuses_undefined(case.words[outcome.steps], outcome.state), case, outcome)
+            refusals['undefined words'] += 1
+        if outcome.answer in (6, 7, 8):
+            agreed(reaches(case.words[outcome.steps], outcome.state, outcome.address), case, outcome)
+            refusals['addresses of answers 6 to 8'] += 1
+    show('steps that Unicorn confirms', counts)
+    show('refusals of which it confirms', refusals)
+    show('cases with no steps for it', skipped)
+    if counts['loads and stores'] < 5000:
+        raise SystemExit('too few')
+
+
+def sorted_as_listed():
+    """Holds the model's sorting of words against the stored listing, which is LLVM's and GNU's: how many words."""
+    with open(path_of('list', 'stdout')) as file:
+        lines = [line.rstrip('\n').split('\t') for line in file]
+    words = [(int(word, 16), int(answer)) for word, _, answer in lines if word != 'short']
+    for word, answer in words:
+        access = access_of(word)
+        if access is None:
+            found = 2 if MODEL.family_of(word) is None else 3
+        else:
+            found = 4 if is_unpredictable(word) else 0
+        if found != answer:
+            raise SystemExit('no rule for %08x, which the listing has as %d' % (word, answer))
+    return len(words)
+
+
+def show_coverage(cases, outcomes):
+    """What the least frequent choice, and the least frequent register in some place, have in done steps."""
+    chosen, placed = ({family: collections.Counter() for family in FAMILIES} for _ in range(2))
+    for case, outcome in zip(cases, outcomes):
+        for word in case.words[:outcome.steps]:
+            family = MODEL.family_of(word)
+            fields, places = fields_of(family, word), registers_of(family)
+            chosen[family][tuple(value for name, value in fields.items() if name not in places + ['imm'])] += 1
+            placed[family].update((name, fields[name]) for name in places)
+    for family in FAMILIES:
+        assert len(placed[family]) == 32 * len(registers_of(family))
+        print('%s: %d choices, the least done %d times; each register in each place at least %d times' % (
+            family, len(chosen[family]), min(chosen[family].values()), min(placed[family].values())))
+
+
+def show_flaws(cases):
+    """How many cases have each two flaws, the first of which has to be answered."""
+    pairs = collections.Counter()
+    for case in cases:
+        flaws = flaws_of(case) if len(case.words) == 1 else []
+        # 10 comes straight after 1.
+        order = sorted(flaws, key=lambda answer: 1.5 if answer == 10 else answer)
+        pairs.update('%d before %d' % (order[0], later) for later in order[1:])
+    show('cases of one word with several flaws', pairs)
+
+
+def comparable(outcome):
+    state = outcome.state
+    return (outcome.steps, outcome.answer, outcome.code, outcome.address, state.pc, state.registers, state.tainted,
+            state.memory, state.taint, outcome.trace)
+
+
+def differing(mutant, cases, right):
+    """How many cases a wrong machine gets wrong; one that it fails on is one of them."""
+    count = 0
+    for case, expected in zip(cases, right):
+        try:
+            count += comparable(outcome_of(mutant, case)) != expected
+        except (IndexError, KeyError, TypeError):
+            count += 1
+    return count
+
+
+def self_check(cases, outcomes, with_runs):
+    right = [comparable(outcome) for outcome in outcomes]
+    lists = [('warned of', WARNED), ('further', SLIPS)] + [('runs', RUNS)] * with_runs
+    unseen = []
+    for title, mutants in lists:
+        print(title)
+        for mutant in mutants:
+            count = differing(mutant(), cases, right)
+            print('%7d  %s' % (count, mutant.__name__))
+            unseen += [] if count else [mutant.__name__]
+    for mutant in SAME:
+        assert differing(mutant(), cases, right) == 0
+        print('      -  %s, which no input can show' % mutant.__name__)
+    if unseen:
+        raise SystemExit('not seen: %s' % unseen)
+
+
+def main():
+    parser = argparse.ArgumentParser()
+    parser.add_argument('--runs', action='store_true')
+    parser.add_argument('--endings', metavar='DIR')
+    parser.add_argument('--self-check', action='store_true')
+    options = parser.parse_args()
+    cases = all_steps(random.Random(STEPS_SEED))
+    if options.endings:
+        return write_endings(options.endings, MODEL, cases[0], largest_case(random.Random(RUNS_SEED)))
+    if options.runs:
+        cases += all_runs(random.Random(RUNS_SEED))
+    outcomes = [outcome_of(MODEL, case) for case in cases]
+    if options.self_check:
+        return self_check(cases, outcomes, options.runs)
+    print('%7d  words that the model sorts as the stored listing does' % sorted_as_listed())
+    confirm(cases, outcomes)
+    write(cases, outcomes)
+    show('cases by answer', collections.Counter(outcome.answer for outcome in outcomes))
+    show('cases by group', collections.Counter(case.group for case in cases))
+    show_flaws(cases)
+    show_coverage(cases, outcomes)
+    print('%d cases, %d steps done' % (len(cases), sum(outcome.steps for outcome in outcomes)))
+
+
+if __name__ == '__main__':
+    main()

@@ -1,0 +1,92 @@
+"""The input and output of the program `replay`: cases as bytes, and what must come as lines.
+
+A case, numbers little-endian: seven 64-bit numbers, which are W words, L bytes of memory, K bytes of taint, T numbers
+of trace, origin, r and PC; 32 64-bit numbers, X0 to X30 and SP; 32 bytes, their taints, where nonzero is tainted; W
+words of 4 bytes; L bytes; K bytes. The trace starts with 2^64 - 1 in every place.
+
+The lines of a case, fields parted by tabs:
+
+    case, its number from 0, steps, answer, code, address, PC
+    registers, 32 fields of 16 hex digits, each followed by * where tainted
+    memory, one field of hex digits
+    taint, one field of hex digits
+    trace, T numbers
+
+No memory or taint gives an empty field after its tab, and no trace gives `trace` alone, since it has no fields.
+
+A case over the limits gives the one line `case`, number, `too large`, and input that ends inside a case the one line
+`case`, number, `cut short`; nothing comes after either. The limits are looked at once the seven numbers are there, so
+a case over them needs no more, and fewer than seven numbers are cut short whatever they are.
+"""
+import os
+import struct
+from typing import NamedTuple
+
+from machine_model import State
+
+TAINTED = 1, 255, 2, 128
+MOST_WORDS, MOST_MEMORY, MOST_TAINT, MOST_TRACE = LIMITS = 512, 4096, 4096, 1024
+
+
+class Case(NamedTuple):
+    # What the case is for: the counts at the end go by it.
+    group: str
+    words: tuple
+    state: State
+    room: int = 2
+
+
+def header(words, memory, taint, room, origin=0, readonly=0, pc=0):
+    return struct.pack('<7Q', words, memory, taint, room, origin, readonly, pc)
+
+
+def case_bytes(number, case):
+    """The number only chooses what a tainted register's byte is: any value but 0 will do."""
+    state = case.state
+    return b''.join((
+        header(len(case.words), len(state.memory), len(state.taint), case.room, state.origin, state.readonly, state.pc),
+        struct.pack('<32Q', *state.registers),
+        bytes(TAINTED[(number + i) % 4] if tainted else 0 for i, tainted in enumerate(state.tainted)),
+        struct.pack('<%dI' % len(case.words), *case.words), state.memory, state.taint))
+
+
+def case_lines(number, outcome):
+    state = outcome.state
+    numbers = number, outcome.steps, outcome.answer, outcome.code, outcome.address, state.pc
+    registers = ('%016x%s' % (value, '*' if tainted else '')
+                 for value, tainted in zip(state.registers, state.tainted))
+    lines = [['case', *map(str, numbers)], ['registers', *registers], ['memory', state.memory.hex()],
+             ['taint', state.taint.hex()], ['trace', *map(str, outcome.trace)]]
+    return ''.join('\t'.join(fields) + '\n' for fields in lines)
+
+
+def bad_ending(number, why):
+    return 'case\t%d\t%s\n' % (number, why)
+
+
+def endings(model, case, largest):
+    """Inputs that end in each way, by name, with what must come: a good case, the ending, and bytes after it."""
+    whole, lines = case_bytes(0, case), case_lines(0, model.run(case.words, case.state, case.room))
+    cut = [('cut-after-%d-bytes' % length, whole[:length]) for length in (1, 8, 55, 56, 57, 311, 343, 346, 350)]
+    cut.append(('cut-by-the-last-byte', whole[:-1]))
+    yield 'nothing', b'', ''
+    yield 'one-case', whole, lines
+    yield 'at-the-limits', case_bytes(0, largest), case_lines(0, model.run(largest.words, largest.state, largest.room))
+    for name, ending in cut:
+        yield name, whole + ending, lines + bad_ending(1, 'cut short')
+        yield name + '-first', ending, bad_ending(0, 'cut short')
+    for i, name in enumerate(('words', 'memory', 'taint', 'trace')):
+        over = [limit + 1 if k == i else 1 for k, limit in enumerate(LIMITS)]
+        far = [(1 << 64) - 1 if k == i else 0 for k in range(4)]
+        # The rest of the case needn't be there, and if there is more, it isn't read.
+        yield 'too-many-%s' % name, whole + header(*over) + whole, lines + bad_ending(1, 'too large')
+        yield 'far-too-many-%s' % name, whole + header(*far), lines + bad_ending(1, 'too large')
+        yield 'cut-before-the-limits-%s' % name, header(*far)[:55], bad_ending(0, 'cut short')
+
+
+def write_endings(directory, model, case, largest):
+    os.makedirs(directory, exist_ok=True)
+    for name, given, expected in endings(model, case, largest):
+        for suffix, content in (('stdin', given), ('stdout', expected.encode())):
+            with open(os.path.join(directory, '%s.%s' % (name, suffix)), 'wb') as file:
+                file.write(content)

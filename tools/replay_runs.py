@@ -1,0 +1,194 @@
+"""Cases of many words, for the program `replay`.
+
+A run is made by doing it: each next word is one that the model takes where the run stands, until one is wanted that
+it refuses. Words after that one are never reached, and have to leave no mark.
+"""
+from machine_model import (
+    FAMILIES, LAST, LITERAL, ORDERED, PAIR, POST, PRE, REGISTER, SPACE, UNSCALED, UNSIGNED, State, word_of)
+from replay_format import MOST_MEMORY, MOST_TRACE, MOST_WORDS, Case
+from replay_states import MODEL, TAINTS, any_word, choices, prefetch_word, registers_of
+from replay_steps import bad_windows, spoiled, undefined_words, unpredictable_words
+
+# So far a base may be from the window to be led back into it.
+NEAR = 300
+
+
+def start(rng, length, pc=None, secret=False, readonly=None):
+    """A state with pointers into its window, small numbers for indexes, and some taint."""
+    origin = 4096 + rng.randrange(4000)
+    if pc is None and rng.randrange(8) == 0:
+        origin = rng.choice((0, SPACE - length, rng.getrandbits(60)))
+    registers = [rng.getrandbits(64) for _ in range(32)]
+    numbers = rng.sample(range(31), 16)
+    for number in numbers[:8] + [LAST]:
+        registers[number] = (origin + rng.randrange(length)) % SPACE
+    for number in numbers[8:12]:
+        registers[number] = (rng.getrandbits(32) << 32 | rng.randrange(8)) if rng.getrandbits(1) else rng.randrange(6)
+    tainted = [number not in numbers[:12] and number != LAST and rng.randrange(2 if secret else 5) == 0
+               for number in range(32)]
+    memory = bytes(rng.getrandbits(8) for _ in range(length))
+    taint = bytes(rng.choice(TAINTS) if rng.randrange(3 if secret else 8) == 0 else 0 for _ in range(length))
+    if pc is None:
+        pc = 4 * rng.randrange(250, 400) if origin >= 4096 else 4 * rng.randrange(1000, 2000)
+    if readonly is None:
+        readonly = rng.choice((0, 0, rng.randrange(length // 4 + 1)))
+    return State(origin, readonly, pc, registers, tainted, memory, taint)
+
+
+def aimed_word(rng, state):
+    """A word whose access may well be in the window."""
+    family = rng.choice(FAMILIES)
+    choice = rng.choice(choices(family))
+    fields = {name: rng.randrange(32) for name in registers_of(family)}
+    target = state.origin + rng.randrange(max(1, len(state.memory)))
+    if family == LITERAL:
+        return word_of(family, **fields, **choice, imm=(target - state.pc) // 4)
+    bases = [number for number in range(32) if not state.tainted[number]
+             and abs(state.registers[number] - state.origin) < NEAR]
+    if bases:
+        fields['rn'] = rng.choice(bases)
+    if family == REGISTER:
+        small = [number for number in range(32)
+                 if not state.tainted[number] and state.registers[number] % (1 << 32) < 64]
+        fields['rm'] = rng.choice(small + [LAST])
+        return word_of(family, **fields, **choice)
+    offset = target - state.registers[fields['rn']]
+    if family in (POST, PRE, UNSCALED, ORDERED):
+        width = 1
+    else:
+        width = 1 << choice['size'] if family == UNSIGNED else 8 if choice['opc'] == 2 else 4
+    return word_of(family, **fields, **choice, imm=offset // width)
+
+
+def refused_word(rng, state, answer):
+    """One that gets this answer, or, where none is found, any other that is refused."""
+    for attempt in range(400):
+        if answer == 2:
+            word = rng.getrandbits(32)
+        elif answer == 3:
+            word = rng.choice(list(undefined_words(rng)))
+        elif answer == 4:
+            word = rng.choice(list(unpredictable_words(rng)))
+        elif attempt % 2:
+            word = aimed_word(rng, state)
+        else:
+            word = any_word(rng, rng.choice((PAIR, ORDERED, PRE, REGISTER)), rn=rng.randrange(32))
+        found = MODEL.step(word, state.copy())[0]
+        if found == answer or found and attempt > 300:
+            return word
+    return 0x91000000
+
+
+def next_word(rng, state):
+    """A word that is done here."""
+    for _ in range(60):
+        word = aimed_word(rng, state)
+        if rng.randrange(16) == 0:
+            word = prefetch_word(rng, rng.choice((LITERAL, UNSCALED, REGISTER)))
+        if MODEL.step(word, state.copy())[0] == 0:
+            return word
+    return prefetch_word(rng, UNSIGNED)
+
+
+def words_from(rng, given, done, refused=None, more=0):
+    """So many words that are done, then one of a refusal if wanted, then so many that nothing reaches."""
+    state, words = given.copy(), []
+    for _ in range(done):
+        words.append(next_word(rng, state))
+        MODEL.step(words[-1], state)
+    if refused:
+        words.append(refused_word(rng, state, refused))
+    return tuple(words) + tuple(aimed_word(rng, state) for _ in range(more))
+
+
+def any_run(rng, group, done, refused=None, more=0, extra=0, **how):
+    length = rng.choice((16, 24, 32, 32, 48))
+    given = start(rng, length, readonly=length // 2 if refused == 8 else None, **how)
+    words = words_from(rng, given, done, refused, more)
+    return Case(group, words, given, 2 * len(words) + extra)
+
+
+def largest_case(rng):
+    """One at all of the program's limits."""
+    given = start(rng, MOST_MEMORY)
+    return Case('at the limits', words_from(rng, given, MOST_WORDS), given, MOST_TRACE)
+
+
+def done_runs(rng):
+    for _ in range(480):
+        yield any_run(rng, 'run to the end', rng.randrange(2, 14), extra=rng.choice((0, 0, 0, 1, 3)))
+    for length in (64, 100, 200, 300):
+        yield any_run(rng, 'long run', length)
+    yield any_run(rng, 'longest run', MOST_WORDS)
+    yield largest_case(rng)
+
+
+def refused_runs(rng):
+    for i in range(600):
+        yield any_run(rng, 'refused in the middle', rng.randrange(0, 12), 2 + i % 7, rng.randrange(3))
+    yield any_run(rng, 'long run refused at its end', 120, 7)
+
+
+def short_traces(rng):
+    for _ in range(80):
+        case = any_run(rng, 'trace too short', rng.randrange(1, 9), rng.choice((None, 3, 7)))
+        yield case._replace(room=rng.choice((0, 1, 2, case.room - 1, case.room - 2, case.room // 2)))
+
+
+def empty_runs(rng):
+    for i in range(40):
+        yield any_run(rng, 'no words', 0, extra=i % 4)
+    for spoil in bad_windows() * 2:
+        case = any_run(rng, 'no words, answer 1', 0, extra=rng.randrange(3))
+        yield case._replace(state=spoiled(case.state, spoil))
+
+
+def bad_window_runs(rng):
+    for spoil in bad_windows() * 3:
+        case = any_run(rng, 'answer 1 at the start', rng.randrange(1, 6))
+        room = case.room if rng.getrandbits(1) else rng.randrange(case.room)
+        yield case._replace(state=spoiled(case.state, spoil), room=room)
+
+
+def wrapping_runs(rng):
+    """PC goes past 2^64 on the way."""
+    for _ in range(60):
+        yield any_run(rng, 'PC past the end', rng.randrange(2, 9), rng.choice((None, None, 5, 7)),
+                      pc=SPACE - 4 * rng.randrange(1, 6))
+
+
+# Demand 3.
+
+def with_other_secrets(rng, given):
+    """The same state but for what is tainted in it."""
+    other = given.copy()
+    other.registers = [rng.choice((rng.getrandbits(64), given.origin)) if tainted else value
+                       for value, tainted in zip(given.registers, given.tainted)]
+    other.memory = bytearray(rng.getrandbits(8) if taint else byte for byte, taint in zip(given.memory, given.taint))
+    return other
+
+
+def seen(outcome):
+    """What two runs that differ in tainted values only must have in common."""
+    state = outcome.state
+    return (outcome.steps, outcome.answer, outcome.code, outcome.address, state.pc, state.taint, state.tainted,
+            outcome.trace, [value for value, tainted in zip(state.registers, state.tainted) if not tainted],
+            [byte for byte, taint in zip(state.memory, state.taint) if not taint])
+
+
+def secret_runs(rng):
+    """Two and two: all that is tainted at the start differs."""
+    for i in range(170):
+        case = any_run(rng, 'pair of runs', rng.randrange(2, 14), 5 if i % 4 == 0 else rng.choice((None, None, 7)),
+                       more=rng.randrange(2), secret=True)
+        twin = case._replace(state=with_other_secrets(rng, case.state))
+        assert seen(MODEL.run(case.words, case.state, case.room)) == seen(MODEL.run(twin.words, twin.state, twin.room))
+        yield case
+        yield twin
+
+
+def all_runs(rng):
+    cases = []
+    for group in (done_runs, refused_runs, short_traces, empty_runs, bad_window_runs, wrapping_runs, secret_runs):
+        cases += group(rng)
+    return cases
