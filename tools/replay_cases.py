@@ -2,8 +2,7 @@
 """Writes crates/replay/stdin and crates/replay/stdout: machines and words, and what must become of them.
 
     apt-get install python3-unicorn
-    python3 tools/replay_cases.py                   cases of one word
-    python3 tools/replay_cases.py --runs            and runs of many behind them
+    python3 tools/replay_cases.py                   cases of one word, and runs of many behind them
     python3 tools/replay_cases.py --endings DIR     writes small inputs that end in each way, and what must come
     python3 tools/replay_cases.py --self-check      counts the cases that tell each wrong machine from the right one
 
@@ -148,9 +147,9 @@ def differing(mutant, cases, right):
     return count
 
 
-def self_check(cases, outcomes, with_runs):
+def self_check(cases, outcomes):
     right = [comparable(outcome) for outcome in outcomes]
-    lists = [('warned of', WARNED), ('further', SLIPS)] + [('runs', RUNS)] * with_runs
+    lists = [('warned of', WARNED), ('further', SLIPS)] + [('runs', RUNS)]
     unseen = []
     for title, mutants in lists:
         print(title)
@@ -167,18 +166,16 @@ def self_check(cases, outcomes, with_runs):
 
 def main():
     parser = argparse.ArgumentParser()
-    parser.add_argument('--runs', action='store_true')
     parser.add_argument('--endings', metavar='DIR')
     parser.add_argument('--self-check', action='store_true')
     options = parser.parse_args()
     cases = all_steps(random.Random(STEPS_SEED))
     if options.endings:
         return write_endings(options.endings, MODEL, cases[0], largest_case(random.Random(RUNS_SEED)))
-    if options.runs:
-        cases += all_runs(random.Random(RUNS_SEED))
+    cases += all_runs(random.Random(RUNS_SEED))
     outcomes = [outcome_of(MODEL, case) for case in cases]
     if options.self_check:
-        return self_check(cases, outcomes, options.runs)
+        return self_check(cases, outcomes)
     print('%7d  words that the model sorts as the stored listing does' % sorted_as_listed())
     confirm(cases, outcomes)
     write(cases, outcomes)

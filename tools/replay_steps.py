@@ -13,8 +13,8 @@ from replay_states import (
     MODEL, SIZED, TAINTS, WITH_PREFETCH, access_of, any_address, any_immediate, any_word, choices, equal_registers,
     immediates, is_unpredictable, prefetch_word, registers_of, sized_choices, state_for)
 
-# Done cases for each choice of an instruction; 32 lets every register stand in every place.
-EACH = {LITERAL: 40, PAIR: 34, REGISTER: 20, **{family: 32 for family in SIZED}}
+# Done cases for each choice of an instruction. The runs add more of each, so that every register stands in every place.
+EACH = {LITERAL: 20, PAIR: 17, REGISTER: 10, **{family: 16 for family in SIZED}}
 
 
 def step(group, word, state, room=2):
