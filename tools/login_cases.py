@@ -1,0 +1,46 @@
+#!/usr/bin/env python3
+"""Writes examples/login.cases: three cases for the program `replay` that docs/SECRECY.md and the README show.
+
+    python3 tools/login_cases.py && target/bin/replay < examples/login.cases
+
+Memory is 32 bytes from address 4096. It holds a password, whose bytes are tainted, and room for a copy at 4112.
+
+0. A plugin loads the password's length from address 4128, where there is no memory.
+1. A plugin loads the first byte of the password, copies it, and takes it as an index.
+2. The same with another password.
+"""
+import os
+
+from machine_model import State
+from replay_format import Case, case_bytes
+
+ORIGIN, COPY = 4096, 4112
+LOAD_LENGTH = 0xf9401003  # ldr x3, [x0, #32]
+LOAD = 0x39400002  # ldrb w2, [x0]
+STORE = 0x39000022  # strb w2, [x1]
+USE = 0x386268a4  # ldrb w4, [x5, x2]
+
+
+def state(password):
+    memory = bytearray(32)
+    memory[:len(password)] = password
+    taint = bytearray(32)
+    taint[:len(password)] = bytes([1]) * len(password)
+    registers = [0] * 32
+    registers[0], registers[1], registers[3], registers[5] = ORIGIN, COPY, 0x5555, ORIGIN
+    return State(ORIGIN, 0, 0x10000, registers, [False] * 32, memory, taint)
+
+
+def main():
+    cases = [
+        Case('length', (LOAD_LENGTH,), state(b'sesame42'), 2),
+        Case('secret', (LOAD, STORE, USE), state(b'sesame42'), 6),
+        Case('secret', (LOAD, STORE, USE), state(b'open1234'), 6),
+    ]
+    folder = os.path.join(os.path.dirname(os.path.dirname(os.path.abspath(__file__))), 'examples')
+    with open(os.path.join(folder, 'login.cases'), 'wb') as file:
+        file.write(b''.join(case_bytes(number, case) for number, case in enumerate(cases)))
+
+
+if __name__ == '__main__':
+    main()
