@@ -201,6 +201,46 @@ module _ {A B : Type 0} (part : A → B) (rule : ℕ → ℕ → B → B) (f : �
     pub run-rule : part (runOf bad f ws m trace .machine) ≡ afterSteps rule ws (runOf bad f ws m trace .trace) (runOf bad f ws m trace .steps) (part m)
     run-rule = run-rule-at (bad m) (ltb (length trace) (length ws * 2)) refl refl
 
+-- ---- what a refused run keeps
+
+-- the second walk does what the first has done, and is not refused
+pub record Keeps {A : Type 0} (t u : Walked A) : Type 0 where
+  pub machine : t .machine ≡ u .machine
+  pub numbers : t .numbers ≡ u .numbers
+  pub steps : t .steps ≡ u .steps
+  pub done : u .answer ≡ Done
+
+module _ {A : Type 0} (f : ℕ → A → Step A) where
+  go-keeps : (w : ℕ) (ws : List ℕ) (m : A) (c a : ℕ) (s : Step A) → f w m ≡ s → ((n : A) (d b : ℕ) → Keeps (walkOf f ws n d b) (walkOf f (take (walkOf f ws n d b .steps) ws) n d b))
+      → Keeps (goOn m (walkOf f ws) s) (walkOf f (take (goOn m (walkOf f ws) s .steps) (w ∷ ws)) m c a)
+  unfolding walkOf
+  go-keeps w ws m c a (stopped answer address) e k = record { machine = refl; numbers = refl; steps = refl; done = refl }
+  go-keeps w ws m c a (moved n code address) e k =
+      let t = k n code address in
+      rw e (record { machine = t .machine; numbers = rw (← t .numbers); steps = ap suc (t .steps); done = t .done })
+
+  -- the steps done are those of the list's beginning, run alone
+  pub walk-keeps : (ws : List ℕ) (m : A) (c a : ℕ) → Keeps (walkOf f ws m c a) (walkOf f (take (walkOf f ws m c a .steps) ws) m c a)
+  unfolding walkOf
+  walk-keeps [] m c a = record { machine = refl; numbers = refl; steps = refl; done = refl }
+  walk-keeps (w ∷ ws) m c a = go-keeps w ws m c a (f w m) refl (walk-keeps ws)
+
+  module _ (bad : A → Bool) (ws : List ℕ) (m : A) (trace : List ℕ) where
+    abbrev Kept : Result A → Type 0
+    Kept t = (t .machine ≡ walkOf f (take (t .steps) ws) m 0 0 .machine) × (walkOf f (take (t .steps) ws) m 0 0 .answer ≡ Done)
+
+    keeps-at : (y z : Bool) → bad m ≡ y → ltb (length trace) (length ws * 2) ≡ z → Kept (runOf bad f ws m trace)
+    unfolding runOf walkOf
+    keeps-at true z e g = rw e (refl, refl)
+    keeps-at false true e g = rw (e, g) (refl, refl)
+    keeps-at false false e g =
+        let t = walk-keeps ws m 0 0 in
+        rw (e, g, zero-add) (t .machine, t .done)
+
+    -- a run leaves the machine that the steps done leave, run alone and not refused
+    pub run-keeps : Kept (runOf bad f ws m trace)
+    run-keeps = keeps-at (bad m) (ltb (length trace) (length ws * 2)) refl refl
+
 -- ---- the three ways that a run goes
 
 module _ {A : Type 0} (bad : A → Bool) (f : ℕ → A → Step A) (ws : List ℕ) (m : A) (trace : List ℕ) {t : Result A} where
