@@ -5,13 +5,11 @@ use mathlib.Core.Path.{_≡_, refl}
 use mathlib.Core.Bool.{Bool, true, false, _&&_}
 use lib.Dec.{leb, eqb}
 use borrow.Author.Tests.{leb-true}
-use Rattle.bits.specs.Choice.{pick}
 use Rattle.bits.proofs.Choices.{pick-by, both}
 use Rattle.instruction.specs.declared.family.Instruction.{Instruction}
 use Rattle.instruction.specs.declared.family.Family.{Family}
 use Rattle.instruction.specs.declared.family.Family.the-variants.{Empty, Literal, Pair, Ordered, Unscaled, PostIndex, PreIndex, Register, Unsigned}
 use Rattle.instruction.specs.declared.family.LiteralOperands.{LiteralOperands}
-use Rattle.instruction.specs.declared.family.PairOperands.{PairOperands}
 use Rattle.instruction.specs.declared.operation.SizedOp.{SizedOp}
 use Rattle.instruction.specs.declared.operation.SizedOp.the-variants.{StoreByte, LoadByte, LoadSignedByte64, LoadSignedByte32, StoreHalf, LoadHalf, LoadSignedHalf64, LoadSignedHalf32, StoreWord, LoadWord, LoadSignedWord64, StoreDouble, LoadDouble, Prefetch}
 use Rattle.instruction.specs.declared.operation.PairOp.{PairOp}
@@ -26,7 +24,7 @@ use Rattle.access.specs.declared.addressing.Addressing.{Addressing}
 use Rattle.access.specs.declared.Access.{Access}
 use Rattle.access.specs.declared.Access.the-variants.{Nothing, Moves}
 use Rattle.access.specs.Transfers.{extentOf, sizedTransfer, literalTransfer, pairTransfer}
-use Rattle.access.specs.Addressings.{based, offsetMode, preMode, postMode, pairedMode, shiftOf, indexedMode, literalMode}
+use Rattle.access.specs.Addressings.{based, pairedMode, shiftOf, indexedMode, literalMode}
 use Rattle.access.specs.Accesses.{isPrefetch, sizedAccess, literalMoves, literalAccess, pairAccess, familyAccess, accessOf}
 
 pub record Bounded (t : Transfer) (a : Addressing) : Type 0 where

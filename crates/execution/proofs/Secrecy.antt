@@ -1,7 +1,7 @@
 -- Demand 3, and the taints of a run. Assumes nothing.
-use Prim.Native.Nat.{ℕ, zero, suc, _-_}
-use mathlib.Core.Path.{_≡_, refl, sym, ap, _∙_}
-use mathlib.Core.Bool.{Bool, true, false}
+use Prim.Native.Nat.{ℕ, zero, suc}
+use mathlib.Core.Path.{_≡_, refl, ap}
+use mathlib.Core.Bool.{Bool, false}
 use mathlib.Core.List.{List}
 use native.Mathlib.Omega.{arith}
 use lib.ListN.{length, getD}
@@ -12,7 +12,7 @@ use Rattle.machine.specs.Rule.{Taints, wordRule}
 use Rattle.machine.specs.Machine.{Machine}
 use Rattle.machine.specs.Step.{stepOf}
 use Rattle.machine.proofs.Taints.{taintsIn, taints-by-rule}
-use Rattle.secrecy.specs.Alike.{Agree, Alike}
+use Rattle.secrecy.specs.Alike.{Alike}
 use Rattle.secrecy.proofs.Steps.{untainted-parts, bad-alike, step-alike}
 use Rattle.execution.specs.Walk.{Result, afterSteps}
 use Rattle.execution.specs.Run.{bad, machineRun}

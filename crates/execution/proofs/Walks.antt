@@ -9,8 +9,6 @@ use borrow.Author.Tests.{ltb-false}
 use lib.Dec.{ltb}
 use lib.ListN.{length, take, drop, getD, set, drop-of-length-le}
 use lib.Seq.{sets, sets-eq, take-append-seam, take-length, drop-cons, getD-take}
-use Rattle.bits.specs.Choice.{pick}
-use Rattle.instruction.specs.declared.answer.Answer.{Answer}
 use Rattle.instruction.specs.declared.answer.Answer.the-variants.{Done, BadWindow, NoRoom}
 use Rattle.instruction.specs.Answers.{answerNumber}
 use Rattle.machine.specs.Step.{Step, stopped, moved, Outcome, performed}

@@ -1,8 +1,7 @@
 -- Demand 3: 01, "Demand 3 is one claim about the whole list of a run". 01's marks are taints.
-use Prim.Native.Nat.{ℕ, _*_}
+use Prim.Native.Nat.{_*_}
 use mathlib.Core.Path.{_≡_}
 use mathlib.Core.Bool.{false}
-use mathlib.Core.List.{List}
 use lib.ListN.{length, getD, take}
 use Rattle.machine.specs.Machine.{Machine}
 use Rattle.secrecy.specs.Alike.{Agree}

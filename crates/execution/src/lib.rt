@@ -6,7 +6,7 @@ ghost use mathlib.Core.Path.{_≡_};
 ghost use mathlib.Core.List.{List};
 ghost use Prim.Native.Nat.{ℕ, _*_, _≤_};
 ghost use lib.ListN.{length};
-ghost use Rattle.machine.specs.Rule.{Taints, wordRule};
+ghost use Rattle.machine.specs.Rule.{wordRule};
 ghost use Rattle.machine.specs.Machine.{Machine, machineOf};
 ghost use Rattle.machine.specs.Step.{stepOf};
 ghost use Rattle.execution.specs.Walk.{walkOf, glue, notBegun, afterSteps};

@@ -1,8 +1,7 @@
 -- What a step answers, and that a refused one changes nothing. Assumes nothing.
 use Prim.Native.Nat.{ℕ}
-use mathlib.Core.Path.{_≡_, refl, sym, ap, _∙_}
+use mathlib.Core.Path.{_≡_, refl, sym, ap}
 use mathlib.Core.Bool.{Bool, true, false, not}
-use mathlib.Core.List.{List, []}
 use native.Mathlib.Omega.{arith}
 use lib.Dec.{eqb}
 use lib.ListN.{length}
@@ -21,7 +20,6 @@ use Rattle.access.specs.declared.addressing.Addressing.{Addressing}
 use Rattle.access.specs.declared.Access.{Access}
 use Rattle.access.specs.declared.Access.the-variants.{Nothing, Moves}
 use Rattle.plan.specs.declared.window.Window.{Window}
-use Rattle.plan.specs.declared.Plan.{Plan}
 use Rattle.plan.specs.declared.Plan.the-variants.{Refuse, Touch}
 use Rattle.plan.specs.Window.{badWindow}
 use Rattle.plan.specs.Address.{sumOf, addressOf}

@@ -1,14 +1,12 @@
 -- Answers 1 to 8 as 01's table has them, each by its own condition: 01, "Answer numbers".
 use Prim.Native.Nat.{ℕ, suc}
-use mathlib.Core.Bool.{Bool, false, not}
+use mathlib.Core.Bool.{Bool, not}
 use mathlib.Core.List.{List, [], _∷_}
 use lib.ListN.{length}
 use Rattle.bits.specs.Choice.{pick}
 use Rattle.instruction.specs.Table.{inSet}
 use Rattle.instruction.specs.Undefined.{undefined}
 use Rattle.instruction.specs.Unpredictable.{unpredictable}
-use Rattle.access.specs.declared.transfer.Transfer.{Transfer}
-use Rattle.access.specs.declared.addressing.Addressing.{Addressing}
 use Rattle.access.specs.declared.Access.{Access}
 use Rattle.access.specs.declared.Access.the-variants.{Nothing, Moves}
 use Rattle.plan.specs.declared.window.Window.{Window}

@@ -14,8 +14,8 @@ ghost use Rattle.memory.specs.Bytes.{bytesOf, joined, spanOf};
 ghost use Rattle.memory.specs.Extension.{extendedOf};
 ghost use Rattle.memory.specs.Taints.{anyTainted, taintByte};
 ghost use Rattle.plan.specs.Admission.{totalOf};
-ghost use Rattle.machine.specs.Rule.{loadedTaints, storedTaints, basedTaints};
-ghost use Rattle.machine.specs.Machine.{machineOf, nextPc, loadedValues, storedBytes, basedValues, effectOf, codeOf};
+ghost use Rattle.machine.specs.Rule.{loadedTaints, storedTaints};
+ghost use Rattle.machine.specs.Machine.{machineOf, nextPc, loadedValues, storedBytes, effectOf, codeOf};
 ghost use Rattle.machine.specs.Step.{outcome, performed, moved};
 
 // The state with the program counter at the next word.

@@ -16,9 +16,8 @@ ghost use mathlib.Core.List.{List};
 ghost use lib.ListN.{length};
 ghost use Rattle.access.proofs.Bounds.{Within, Bounded};
 ghost use Rattle.plan.specs.Admission.{admitOf};
-ghost use Rattle.machine.specs.Machine.{machineOf, operandsOf, nextPc, passedOver};
+ghost use Rattle.machine.specs.Machine.{machineOf, passedOver};
 ghost use Rattle.machine.specs.Step.{stopped, moved, accessStep, wordStep, stepOf, outcome, performed};
-ghost use Rattle.plan.specs.Plans.{planOf};
 
 #[repr(C)]
 pub struct State {

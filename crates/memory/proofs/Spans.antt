@@ -1,5 +1,5 @@
 -- Laws of bytes stored and joined one by one, and of a part that is lent from an index to the end. Assumes nothing.
-use Prim.Native.Nat.{ℕ, zero, suc, _+_, _-_, _*_, _/_, _%_, _^_, _≤_, _<_, min}
+use Prim.Native.Nat.{ℕ, zero, suc, _+_, _-_, _*_, _/_, _%_, _^_, _≤_, _<_}
 use mathlib.Core.Path.{_≡_, refl}
 use mathlib.Core.List.{List, [], _∷_, _++_, append-nil}
 use mathlib.Core.Bool.{true}
@@ -10,7 +10,7 @@ use lib.Dec.{lit<}
 use lib.ListN.{length, take, drop, getD, set, replicate, take-append-drop, length-drop, drop-of-length-le}
 use lib.Seq.{sets, drop-set-add, take-set-le, getD-drop, take-all}
 use borrow.Rule.Slice.PartMut.{midOf, putMid}
-use Rattle.memory.specs.Bytes.{bytesOf, joined, spanOf}
+use Rattle.memory.specs.Bytes.{bytesOf, spanOf}
 use Rattle.memory.specs.Taints.{anyTainted}
 
 -- one turn fewer is left

@@ -4,7 +4,7 @@ use access::Transfer;
 use instruction::Answer;
 ghost use mathlib.Core.Path.{_≡_};
 ghost use Prim.Native.Nat.{_≤_, _+_};
-ghost use Rattle.plan.specs.Admission.{totalOf, misaligned, outside, guarded, admitOf};
+ghost use Rattle.plan.specs.Admission.{misaligned, outside, guarded, admitOf};
 
 pub fn admission(t: Transfer, address: u64, window: Window, len: u64) -> Answer
     ensures { λ r. ⌜ r ≡ admitOf window len t address ⌝ }

@@ -14,19 +14,18 @@ use Rattle.instruction.specs.Undefined.{undefined, allocated}
 use Rattle.instruction.specs.Unpredictable.{unpredictable}
 use Rattle.instruction.specs.Decoding.{decodeOf, classOf}
 use Rattle.instruction.proofs.Sorts.{exactly-one}
-use Rattle.plan.specs.declared.window.Window.{Window}
 use Rattle.machine.specs.Machine.{Machine}
 use Rattle.machine.specs.Step.{stepOf, performed}
 use Rattle.machine.specs.Tests.{lowest}
 use Rattle.machine.proofs.Answers.{answers-exact, refused-unchanged, tainted-refused}
 use Rattle.execution.specs.Walk.{Walked, glue, notBegun, walkOf, runOf}
-use Rattle.execution.specs.Run.{bad, machineRun}
+use Rattle.execution.specs.Run.{bad}
 use Rattle.execution.proofs.Walks.{run-keeps}
 use Rattle.execution.proofs.Secrecy.{demand-3 as demand-3-of-runs, taints-of-run}
 use Rattle.encoder.proofs.RoundTrip.{encode-exact}
 use Rattle.text.specs.Writing.{Outcome, wordText, copied, writeOf}
 use Rattle.reader.proofs.Triangle.{triangle}
-use Rattle.promises.specs.Demands.{stepAnswer, Demand1, Demand2, Demand3}
+use Rattle.promises.specs.Demands.{Demand1, Demand2, Demand3}
 
 decode-answer : (member wrong : Bool) → answerNumber (pick member (pick wrong Undefined Done) NotInSet) ≡ lowest 2 (not member ∷ wrong ∷ [])
 decode-answer true true = refl

@@ -21,7 +21,6 @@ use Rattle.access.specs.declared.addressing.Addressing.{Addressing}
 use Rattle.access.specs.declared.Access.{Access}
 use Rattle.access.specs.declared.Access.the-variants.{Nothing, Moves}
 use Rattle.plan.specs.declared.window.Window.{Window}
-use Rattle.plan.specs.declared.address.Operands.{Operands}
 use Rattle.plan.specs.declared.Plan.{Plan}
 use Rattle.plan.specs.declared.Plan.the-variants.{Refuse, Touch}
 use Rattle.plan.specs.Window.{badWindow}
@@ -30,8 +29,8 @@ use Rattle.plan.specs.Plans.{planOf}
 use Rattle.plan.proofs.Tests.{plan-tainted, touch-admitted, same-lengths}
 use Rattle.machine.specs.Rule.{moveRule, wordAccess}
 use Rattle.machine.specs.Machine.{Machine, operandsOf, effectOf}
-use Rattle.machine.specs.Step.{Step, stopped, moved, performOf, accessStep, wordStep, stepOf}
-use Rattle.secrecy.specs.Alike.{Agree, Alike, Shows}
+use Rattle.machine.specs.Step.{stopped, performOf, accessStep, wordStep, stepOf}
+use Rattle.secrecy.specs.Alike.{Alike, Shows}
 use Rattle.secrecy.proofs.Agreement.{agree-sets, Seen, span-taints, store-alike, span-alike, set-alike}
 
 -- what is untainted together is untainted by itself

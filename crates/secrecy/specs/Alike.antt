@@ -5,7 +5,6 @@ use mathlib.Core.Path.{_≡_}
 use mathlib.Core.Bool.{Bool, false}
 use mathlib.Core.List.{List}
 use lib.ListN.{length, getD}
-use Rattle.instruction.specs.declared.answer.Answer.{Answer}
 use Rattle.memory.specs.Taints.{tainted}
 use Rattle.machine.specs.Machine.{Machine}
 use Rattle.machine.specs.Step.{Step, stopped, moved}

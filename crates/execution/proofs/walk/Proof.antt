@@ -5,7 +5,7 @@ use mathlib.Core.Path.{_≡_, sym, _∙_}
 use native.Mathlib.Omega.{arith}
 use lib.ListN.{length, drop, getD, length-set}
 use Rattle.machine.specs.Machine.{Machine, machineOf}
-use Rattle.machine.specs.Step.{Outcome, outcome, performed, stepOf}
+use Rattle.machine.specs.Step.{Outcome, outcome, stepOf}
 use Rattle.machine.proofs.Answers.{step-refuses}
 use Rattle.execution.specs.Walk.{walkOf, glue}
 use Rattle.execution.proofs.Walks.{walk-more, walk-stop, walk-end}

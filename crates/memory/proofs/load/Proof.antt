@@ -1,5 +1,5 @@
 -- `memory::load` meets its contract. The loop's invariant: the number of the bytes passed, from the top. Assumes nothing.
-use Prim.Native.Nat.{_+_, _*_, _≤_, _<_, _-_, _^_, min}
+use Prim.Native.Nat.{_≤_, _<_, _-_, _^_, min}
 use mathlib.Core.Path.{_≡_, refl}
 use native.Mathlib.Nat.{sub-zero, sub-self}
 use native.Mathlib.Omega.{arith}
