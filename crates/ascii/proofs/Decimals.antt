@@ -30,6 +30,11 @@ dec-more n h g = simp (le-ltb n 10 h) (ap (λ (l : List ℕ). l ++ ((48 + n % 10
 pub dec-two : (n : ℕ) → 10 ≤ n → n < 100 → dec n ≡ (48 + n / 10) ∷ (48 + n % 10) ∷ []
 dec-two n h k = dec-more n h (omega arith) ∙ ap (λ (l : List ℕ). l ++ ((48 + n % 10) ∷ [])) (dec-one (n / 10) (omega arith))
 
+pub dec-three : (n : ℕ) → 100 ≤ n → n < 1000 → dec n ≡ (48 + n / 100) ∷ (48 + n / 10 % 10) ∷ (48 + n % 10) ∷ []
+dec-three n h k =
+    let e : n / 10 / 10 ≡ n / 100 = omega arith in
+    rw (dec-more n (omega arith) (omega arith), dec-two (n / 10) (omega arith) (omega arith), e)
+
 short-step : (f m d : ℕ) (l : List ℕ) (b : Bool) → length l ≤ f → length (pick b (m ∷ []) (l ++ (d ∷ []))) ≤ suc f
 short-step f m d l true h = omega arith
 short-step f m d l false h = omega (arith, length-append l (d ∷ []))

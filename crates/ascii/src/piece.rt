@@ -1,7 +1,8 @@
 // Pieces of text, each put into a line at a position. They return the position behind the piece. What the
 // line has no room for is left out.
+ghost use Prim.Native.Nat.{_<_};
 ghost use mathlib.Core.List.{[], _∷_};
-ghost use Rattle.ascii.specs.Ascii.{dec, signedDec};
+ghost use Rattle.ascii.specs.Ascii.{dec, signedDec, unpacked};
 ghost use Rattle.ascii.specs.Puts.{Puts};
 
 pub fn put_byte(line: &mut [u8], at: usize, byte: u8) -> usize
@@ -12,6 +13,52 @@ pub fn put_byte(line: &mut [u8], at: usize, byte: u8) -> usize
         return at + 1;
     }
     at
+}
+
+// Two bytes, or three, four or eight, where there is room for all are put without a test of each.
+pub fn put_two(line: &mut [u8], at: usize, a: u8, b: u8) -> usize
+    ensures { λ r. ⌜ Puts (now (line .entry)) at (a ∷ b ∷ []) (now (line .exit)) r ⌝ }
+{
+    if line.len() >= 2 {
+        if at <= line.len() - 2 {
+            line[at] = a;
+            line[at + 1] = b;
+            return at + 2;
+        }
+    }
+    let next = put_byte(line, at, a);
+    put_byte(line, next, b)
+}
+
+pub fn put_three(line: &mut [u8], at: usize, a: u8, b: u8, c: u8) -> usize
+    ensures { λ r. ⌜ Puts (now (line .entry)) at (a ∷ b ∷ c ∷ []) (now (line .exit)) r ⌝ }
+{
+    if line.len() >= 3 {
+        if at <= line.len() - 3 {
+            line[at] = a;
+            line[at + 1] = b;
+            line[at + 2] = c;
+            return at + 3;
+        }
+    }
+    let next = put_two(line, at, a, b);
+    put_byte(line, next, c)
+}
+
+pub fn put_four(line: &mut [u8], at: usize, a: u8, b: u8, c: u8, d: u8) -> usize
+    ensures { λ r. ⌜ Puts (now (line .entry)) at (a ∷ b ∷ c ∷ d ∷ []) (now (line .exit)) r ⌝ }
+{
+    if line.len() >= 4 {
+        if at <= line.len() - 4 {
+            line[at] = a;
+            line[at + 1] = b;
+            line[at + 2] = c;
+            line[at + 3] = d;
+            return at + 4;
+        }
+    }
+    let next = put_two(line, at, a, b);
+    put_two(line, next, c, d)
 }
 
 pub fn put_text(line: &mut [u8], at: usize, piece: &[u8]) -> usize
@@ -35,15 +82,40 @@ pub fn put_decimal(line: &mut [u8], at: usize, n: u64) -> usize
     if n < 100 {
         return put_two(line, at, (48 + n / 10) as u8, (48 + n % 10) as u8);
     }
-    let next = put_decimal(line, at, n / 10);
+    if n < 1000 {
+        return put_three(
+            line,
+            at,
+            (48 + n / 100) as u8,
+            (48 + n / 10 % 10) as u8,
+            (48 + n % 10) as u8,
+        );
+    }
+    put_long(line, at, n)
+}
+
+fn put_long(line: &mut [u8], at: usize, n: u64) -> usize
+    ensures { λ r. ⌜ Puts (now (line .entry)) at (dec n) (now (line .exit)) r ⌝ }
+{
+    if n < 10 {
+        return put_byte(line, at, (48 + n) as u8);
+    }
+    let next = put_long(line, at, n / 10);
     put_byte(line, next, (48 + n % 10) as u8)
 }
 
-fn put_two(line: &mut [u8], at: usize, first: u8, second: u8) -> usize
-    ensures { λ r. ⌜ Puts (now (line .entry)) at (first ∷ second ∷ []) (now (line .exit)) r ⌝ }
+// A number behind a byte: the letter of a register, or a sign.
+pub fn put_lettered(line: &mut [u8], at: usize, letter: u8, n: u64) -> usize
+    ensures { λ r. ⌜ Puts (now (line .entry)) at (letter ∷ dec n) (now (line .exit)) r ⌝ }
 {
-    let next = put_byte(line, at, first);
-    put_byte(line, next, second)
+    if n < 10 {
+        return put_two(line, at, letter, (48 + n) as u8);
+    }
+    if n < 100 {
+        return put_three(line, at, letter, (48 + n / 10) as u8, (48 + n % 10) as u8);
+    }
+    let next = put_byte(line, at, letter);
+    put_decimal(line, next, n)
 }
 
 pub fn put_signed(line: &mut [u8], at: usize, n: i64) -> usize
@@ -51,8 +123,44 @@ pub fn put_signed(line: &mut [u8], at: usize, n: i64) -> usize
 {
     let far = bits::magnitude(n);
     if n < 0 {
-        let next = put_byte(line, at, b'-');
-        return put_decimal(line, next, far);
+        return put_lettered(line, at, b'-', far);
     }
     put_decimal(line, at, far)
+}
+
+// Up to eight bytes that are packed into a number, the first byte lowest.
+pub fn put_packed(line: &mut [u8], at: usize, packed: u64) -> usize
+    ensures { λ r. ⌜ Puts (now (line .entry)) at (unpacked packed) (now (line .exit)) r ⌝ }
+{
+    if packed < 0x1_0000_0000 {
+        return put_half(line, at, packed);
+    }
+    let next = put_four(
+        line,
+        at,
+        (packed % 256) as u8,
+        (packed / 0x100 % 256) as u8,
+        (packed / 0x1_0000 % 256) as u8,
+        (packed / 0x100_0000 % 256) as u8,
+    );
+    put_half(line, next, packed / 0x1_0000_0000)
+}
+
+fn put_half(line: &mut [u8], at: usize, packed: u64) -> usize
+    requires { ⌜ packed < 0x1_0000_0000 ⌝ }
+    ensures { λ r. ⌜ Puts (now (line .entry)) at (unpacked packed) (now (line .exit)) r ⌝ }
+{
+    let a = (packed % 256) as u8;
+    if packed < 0x100 {
+        return put_byte(line, at, a);
+    }
+    let b = (packed / 0x100 % 256) as u8;
+    if packed < 0x1_0000 {
+        return put_two(line, at, a, b);
+    }
+    let c = (packed / 0x1_0000 % 256) as u8;
+    if packed < 0x100_0000 {
+        return put_three(line, at, a, b, c);
+    }
+    put_four(line, at, a, b, c, (packed / 0x100_0000) as u8)
 }

@@ -1,6 +1,5 @@
 -- `ascii::piece::put_signed` meets its contract. Assumes nothing.
 use mir.Facts.{toZ-ofZ}
-use Rattle.ascii.proofs.Pieces.{after}
 use Rattle.ascii.proofs.Decimals.{signed-minus, signed-plus}
 use borrow.Author.Needs.{needs}
 use Rattle.ascii.proofs.piece.put_signed.Statement.{statement}
@@ -12,11 +11,10 @@ put-signed-spec =
     (tie.spec
     (λ c κs. search needs)
     (λ c κs. search needs)
-    (λ c κs. search needs)
     (λ c. search needs)
     (λ c.
-    rw (signed-minus (toZ-ofZ (c .before .before .before .before .before .before .before .before .before .before .before .fits .n)) (c .before .before .before .before .before .before .before .before .if1 .taken) (c .before .before .before .before .before .before .before .before .before .magnitude .ensures))
-    (after (c .before .before .before .before .before .before .put-byte .ensures) (c .before .before .put-decimal .ensures)))
+    rw (signed-minus (toZ-ofZ (c .before .before .before .before .before .before .before .fits .n)) (c .before .before .before .before .if1 .taken) (c .before .before .before .before .before .magnitude .ensures))
+    (c .before .before .put-lettered .ensures))
     (λ c κs. search needs)
     (λ c. search needs)
-    (λ c. rw (signed-plus (toZ-ofZ (c .before .before .before .before .before .before .before .fits .n)) (c .before .before .before .before .if1 .left) (c .before .before .before .before .before .magnitude .ensures)) (c .before .before .put-decimal2 .ensures)))
+    (λ c. rw (signed-plus (toZ-ofZ (c .before .before .before .before .before .before .before .fits .n)) (c .before .before .before .before .if1 .left) (c .before .before .before .before .before .magnitude .ensures)) (c .before .before .put-decimal .ensures)))
