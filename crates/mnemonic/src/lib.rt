@@ -1,10 +1,11 @@
-// Mnemonics, put into a line.
+// Mnemonics. The letters of each are packed into one number, the first letter lowest.
 use instruction::LiteralOp;
 use instruction::PairMode;
 use instruction::PairOp;
 use instruction::SizedOp;
+ghost use mathlib.Core.Path.{_≡_};
 ghost use Rattle.mnemonic.specs.Mnemonics.{plainName, unscaledName, orderedName, sizedName, literalName, noAllocateName, allocateName, pairName};
-ghost use Rattle.ascii.specs.Puts.{Puts};
+ghost use Rattle.ascii.specs.Ascii.{unpacked};
 
 // The stems of the mnemonics with a size: str and ldr, stur and ldur, stlur and ldapur.
 pub enum Stem {
@@ -13,121 +14,121 @@ pub enum Stem {
     Order,
 }
 
-pub fn put_sized_name(line: &mut [u8], at: usize, stem: Stem, op: SizedOp) -> usize
-    ensures { λ r. ⌜ Puts (now (line .entry)) at (sizedName stem op) (now (line .exit)) r ⌝ }
+pub fn sized_name(stem: Stem, op: SizedOp) -> u64
+    ensures { λ r. ⌜ unpacked r ≡ sizedName stem op ⌝ }
 {
     match stem {
-        Stem::Plain => put_plain_name(line, at, op),
-        Stem::Unscale => put_unscaled_name(line, at, op),
-        Stem::Order => put_ordered_name(line, at, op),
+        Stem::Plain => plain_name(op),
+        Stem::Unscale => unscaled_name(op),
+        Stem::Order => ordered_name(op),
     }
 }
 
-fn put_plain_name(line: &mut [u8], at: usize, op: SizedOp) -> usize
-    ensures { λ r. ⌜ Puts (now (line .entry)) at (plainName op) (now (line .exit)) r ⌝ }
+fn plain_name(op: SizedOp) -> u64
+    ensures { λ r. ⌜ unpacked r ≡ plainName op ⌝ }
 {
     match op {
-        SizedOp::StoreByte => ascii::put_text(line, at, b"strb"),
-        SizedOp::LoadByte => ascii::put_text(line, at, b"ldrb"),
-        SizedOp::LoadSignedByte64 => ascii::put_text(line, at, b"ldrsb"),
-        SizedOp::LoadSignedByte32 => ascii::put_text(line, at, b"ldrsb"),
-        SizedOp::StoreHalf => ascii::put_text(line, at, b"strh"),
-        SizedOp::LoadHalf => ascii::put_text(line, at, b"ldrh"),
-        SizedOp::LoadSignedHalf64 => ascii::put_text(line, at, b"ldrsh"),
-        SizedOp::LoadSignedHalf32 => ascii::put_text(line, at, b"ldrsh"),
-        SizedOp::StoreWord => ascii::put_text(line, at, b"str"),
-        SizedOp::LoadWord => ascii::put_text(line, at, b"ldr"),
-        SizedOp::LoadSignedWord64 => ascii::put_text(line, at, b"ldrsw"),
-        SizedOp::StoreDouble => ascii::put_text(line, at, b"str"),
-        SizedOp::LoadDouble => ascii::put_text(line, at, b"ldr"),
-        SizedOp::Prefetch => ascii::put_text(line, at, b"prfm"),
+        SizedOp::StoreByte => 0x6272_7473, // strb
+        SizedOp::LoadByte => 0x6272_646c, // ldrb
+        SizedOp::LoadSignedByte64 => 0x62_7372_646c, // ldrsb
+        SizedOp::LoadSignedByte32 => 0x62_7372_646c, // ldrsb
+        SizedOp::StoreHalf => 0x6872_7473, // strh
+        SizedOp::LoadHalf => 0x6872_646c, // ldrh
+        SizedOp::LoadSignedHalf64 => 0x68_7372_646c, // ldrsh
+        SizedOp::LoadSignedHalf32 => 0x68_7372_646c, // ldrsh
+        SizedOp::StoreWord => 0x72_7473, // str
+        SizedOp::LoadWord => 0x72_646c, // ldr
+        SizedOp::LoadSignedWord64 => 0x77_7372_646c, // ldrsw
+        SizedOp::StoreDouble => 0x72_7473, // str
+        SizedOp::LoadDouble => 0x72_646c, // ldr
+        SizedOp::Prefetch => 0x6d66_7270, // prfm
     }
 }
 
-fn put_unscaled_name(line: &mut [u8], at: usize, op: SizedOp) -> usize
-    ensures { λ r. ⌜ Puts (now (line .entry)) at (unscaledName op) (now (line .exit)) r ⌝ }
+fn unscaled_name(op: SizedOp) -> u64
+    ensures { λ r. ⌜ unpacked r ≡ unscaledName op ⌝ }
 {
     match op {
-        SizedOp::StoreByte => ascii::put_text(line, at, b"sturb"),
-        SizedOp::LoadByte => ascii::put_text(line, at, b"ldurb"),
-        SizedOp::LoadSignedByte64 => ascii::put_text(line, at, b"ldursb"),
-        SizedOp::LoadSignedByte32 => ascii::put_text(line, at, b"ldursb"),
-        SizedOp::StoreHalf => ascii::put_text(line, at, b"sturh"),
-        SizedOp::LoadHalf => ascii::put_text(line, at, b"ldurh"),
-        SizedOp::LoadSignedHalf64 => ascii::put_text(line, at, b"ldursh"),
-        SizedOp::LoadSignedHalf32 => ascii::put_text(line, at, b"ldursh"),
-        SizedOp::StoreWord => ascii::put_text(line, at, b"stur"),
-        SizedOp::LoadWord => ascii::put_text(line, at, b"ldur"),
-        SizedOp::LoadSignedWord64 => ascii::put_text(line, at, b"ldursw"),
-        SizedOp::StoreDouble => ascii::put_text(line, at, b"stur"),
-        SizedOp::LoadDouble => ascii::put_text(line, at, b"ldur"),
-        SizedOp::Prefetch => ascii::put_text(line, at, b"prfum"),
+        SizedOp::StoreByte => 0x62_7275_7473, // sturb
+        SizedOp::LoadByte => 0x62_7275_646c, // ldurb
+        SizedOp::LoadSignedByte64 => 0x6273_7275_646c, // ldursb
+        SizedOp::LoadSignedByte32 => 0x6273_7275_646c, // ldursb
+        SizedOp::StoreHalf => 0x68_7275_7473, // sturh
+        SizedOp::LoadHalf => 0x68_7275_646c, // ldurh
+        SizedOp::LoadSignedHalf64 => 0x6873_7275_646c, // ldursh
+        SizedOp::LoadSignedHalf32 => 0x6873_7275_646c, // ldursh
+        SizedOp::StoreWord => 0x7275_7473, // stur
+        SizedOp::LoadWord => 0x7275_646c, // ldur
+        SizedOp::LoadSignedWord64 => 0x7773_7275_646c, // ldursw
+        SizedOp::StoreDouble => 0x7275_7473, // stur
+        SizedOp::LoadDouble => 0x7275_646c, // ldur
+        SizedOp::Prefetch => 0x6d_7566_7270, // prfum
     }
 }
 
-fn put_ordered_name(line: &mut [u8], at: usize, op: SizedOp) -> usize
-    ensures { λ r. ⌜ Puts (now (line .entry)) at (orderedName op) (now (line .exit)) r ⌝ }
+fn ordered_name(op: SizedOp) -> u64
+    ensures { λ r. ⌜ unpacked r ≡ orderedName op ⌝ }
 {
     match op {
-        SizedOp::StoreByte => ascii::put_text(line, at, b"stlurb"),
-        SizedOp::LoadByte => ascii::put_text(line, at, b"ldapurb"),
-        SizedOp::LoadSignedByte64 => ascii::put_text(line, at, b"ldapursb"),
-        SizedOp::LoadSignedByte32 => ascii::put_text(line, at, b"ldapursb"),
-        SizedOp::StoreHalf => ascii::put_text(line, at, b"stlurh"),
-        SizedOp::LoadHalf => ascii::put_text(line, at, b"ldapurh"),
-        SizedOp::LoadSignedHalf64 => ascii::put_text(line, at, b"ldapursh"),
-        SizedOp::LoadSignedHalf32 => ascii::put_text(line, at, b"ldapursh"),
-        SizedOp::StoreWord => ascii::put_text(line, at, b"stlur"),
-        SizedOp::LoadWord => ascii::put_text(line, at, b"ldapur"),
-        SizedOp::LoadSignedWord64 => ascii::put_text(line, at, b"ldapursw"),
-        SizedOp::StoreDouble => ascii::put_text(line, at, b"stlur"),
-        SizedOp::LoadDouble => ascii::put_text(line, at, b"ldapur"),
-        SizedOp::Prefetch => ascii::put_text(line, at, b"prfum"),
+        SizedOp::StoreByte => 0x6272_756c_7473, // stlurb
+        SizedOp::LoadByte => 0x62_7275_7061_646c, // ldapurb
+        SizedOp::LoadSignedByte64 => 0x6273_7275_7061_646c, // ldapursb
+        SizedOp::LoadSignedByte32 => 0x6273_7275_7061_646c, // ldapursb
+        SizedOp::StoreHalf => 0x6872_756c_7473, // stlurh
+        SizedOp::LoadHalf => 0x68_7275_7061_646c, // ldapurh
+        SizedOp::LoadSignedHalf64 => 0x6873_7275_7061_646c, // ldapursh
+        SizedOp::LoadSignedHalf32 => 0x6873_7275_7061_646c, // ldapursh
+        SizedOp::StoreWord => 0x72_756c_7473, // stlur
+        SizedOp::LoadWord => 0x7275_7061_646c, // ldapur
+        SizedOp::LoadSignedWord64 => 0x7773_7275_7061_646c, // ldapursw
+        SizedOp::StoreDouble => 0x72_756c_7473, // stlur
+        SizedOp::LoadDouble => 0x7275_7061_646c, // ldapur
+        SizedOp::Prefetch => 0x6d_7566_7270, // prfum
     }
 }
 
-pub fn put_literal_name(line: &mut [u8], at: usize, op: LiteralOp) -> usize
-    ensures { λ r. ⌜ Puts (now (line .entry)) at (literalName op) (now (line .exit)) r ⌝ }
+pub fn literal_name(op: LiteralOp) -> u64
+    ensures { λ r. ⌜ unpacked r ≡ literalName op ⌝ }
 {
     match op {
-        LiteralOp::LiteralWord => ascii::put_text(line, at, b"ldr"),
-        LiteralOp::LiteralDouble => ascii::put_text(line, at, b"ldr"),
-        LiteralOp::LiteralSignedWord => ascii::put_text(line, at, b"ldrsw"),
-        LiteralOp::LiteralPrefetch => ascii::put_text(line, at, b"prfm"),
+        LiteralOp::LiteralWord => 0x72_646c, // ldr
+        LiteralOp::LiteralDouble => 0x72_646c, // ldr
+        LiteralOp::LiteralSignedWord => 0x77_7372_646c, // ldrsw
+        LiteralOp::LiteralPrefetch => 0x6d66_7270, // prfm
     }
 }
 
-pub fn put_pair_name(line: &mut [u8], at: usize, mode: PairMode, op: PairOp) -> usize
-    ensures { λ r. ⌜ Puts (now (line .entry)) at (pairName mode op) (now (line .exit)) r ⌝ }
+pub fn pair_name(mode: PairMode, op: PairOp) -> u64
+    ensures { λ r. ⌜ unpacked r ≡ pairName mode op ⌝ }
 {
     match mode {
-        PairMode::NoAllocate => put_no_allocate_name(line, at, op),
-        PairMode::Post => put_allocate_name(line, at, op),
-        PairMode::Offset => put_allocate_name(line, at, op),
-        PairMode::Pre => put_allocate_name(line, at, op),
+        PairMode::NoAllocate => no_allocate_name(op),
+        PairMode::Post => allocate_name(op),
+        PairMode::Offset => allocate_name(op),
+        PairMode::Pre => allocate_name(op),
     }
 }
 
-fn put_no_allocate_name(line: &mut [u8], at: usize, op: PairOp) -> usize
-    ensures { λ r. ⌜ Puts (now (line .entry)) at (noAllocateName op) (now (line .exit)) r ⌝ }
+fn no_allocate_name(op: PairOp) -> u64
+    ensures { λ r. ⌜ unpacked r ≡ noAllocateName op ⌝ }
 {
     match op {
-        PairOp::StoreWords => ascii::put_text(line, at, b"stnp"),
-        PairOp::LoadWords => ascii::put_text(line, at, b"ldnp"),
-        PairOp::LoadSignedWords => ascii::put_text(line, at, b"ldpsw"),
-        PairOp::StoreDoubles => ascii::put_text(line, at, b"stnp"),
-        PairOp::LoadDoubles => ascii::put_text(line, at, b"ldnp"),
+        PairOp::StoreWords => 0x706e_7473, // stnp
+        PairOp::LoadWords => 0x706e_646c, // ldnp
+        PairOp::LoadSignedWords => 0x77_7370_646c, // ldpsw
+        PairOp::StoreDoubles => 0x706e_7473, // stnp
+        PairOp::LoadDoubles => 0x706e_646c, // ldnp
     }
 }
 
-fn put_allocate_name(line: &mut [u8], at: usize, op: PairOp) -> usize
-    ensures { λ r. ⌜ Puts (now (line .entry)) at (allocateName op) (now (line .exit)) r ⌝ }
+fn allocate_name(op: PairOp) -> u64
+    ensures { λ r. ⌜ unpacked r ≡ allocateName op ⌝ }
 {
     match op {
-        PairOp::StoreWords => ascii::put_text(line, at, b"stp"),
-        PairOp::LoadWords => ascii::put_text(line, at, b"ldp"),
-        PairOp::LoadSignedWords => ascii::put_text(line, at, b"ldpsw"),
-        PairOp::StoreDoubles => ascii::put_text(line, at, b"stp"),
-        PairOp::LoadDoubles => ascii::put_text(line, at, b"ldp"),
+        PairOp::StoreWords => 0x70_7473, // stp
+        PairOp::LoadWords => 0x70_646c, // ldp
+        PairOp::LoadSignedWords => 0x77_7370_646c, // ldpsw
+        PairOp::StoreDoubles => 0x70_7473, // stp
+        PairOp::LoadDoubles => 0x70_646c, // ldp
     }
 }

@@ -1,5 +1,6 @@
 // The line of an instruction, put into a buffer at a position.
 use crate::operand;
+use crate::operand::Operand;
 use crate::register;
 use crate::tail;
 use instruction::Family;
@@ -12,9 +13,9 @@ use instruction::PairOperands;
 use instruction::SizedOp;
 use mnemonic::Stem;
 ghost use mathlib.Core.List.{_++_};
-ghost use Rattle.ascii.specs.Ascii.{asc};
-ghost use Rattle.mnemonic.specs.Mnemonics.{plainName, sizedName, literalName, pairName};
-ghost use Rattle.text.specs.Operands.{sizedOperand, literalOperand, pairOperand};
+ghost use Rattle.ascii.specs.Ascii.{asc, unpacked};
+ghost use Rattle.mnemonic.specs.Mnemonics.{plainName, sizedName};
+ghost use Rattle.text.specs.Operands.{sizedOperand};
 ghost use Rattle.ascii.specs.Puts.{Puts};
 ghost use Rattle.text.specs.Texts.{frontText, baseText, offsetTail, postTail, preTail, indexTail, literalText, pairText, sizedText, familyText};
 
@@ -37,51 +38,43 @@ pub fn put_family(line: &mut [u8], at: usize, family: Family) -> usize
 fn put_literal(line: &mut [u8], at: usize, op: LiteralOp, o: LiteralOperands) -> usize
     ensures { λ r. ⌜ Puts (now (line .entry)) at (literalText op o) (now (line .exit)) r ⌝ }
 {
-    let sign = put_literal_front(line, at, op, o.target);
+    let name = mnemonic::literal_name(op);
+    let sign = put_front(line, at, name, operand::literal_operand(op), o.target);
     let number = ascii::put_byte(line, sign, b'#');
     ascii::put_signed(line, number, o.offset)
-}
-
-fn put_literal_front(line: &mut [u8], at: usize, op: LiteralOp, target: u32) -> usize
-    ensures { λ r. ⌜ Puts (now (line .entry)) at (frontText (literalName op) (literalOperand op) target) (now (line .exit)) r ⌝ }
-{
-    let space = mnemonic::put_literal_name(line, at, op);
-    let first = ascii::put_byte(line, space, b' ');
-    let comma = register::put_operand(line, first, operand::literal_operand(op), target);
-    ascii::put_text(line, comma, b", ")
 }
 
 fn put_pair(line: &mut [u8], at: usize, op: PairOp, o: PairOperands) -> usize
     ensures { λ r. ⌜ Puts (now (line .entry)) at (pairText op o) (now (line .exit)) r ⌝ }
 {
     let mode = o.mode;
-    let second = put_pair_front(line, at, op, o);
-    let comma = register::put_operand(line, second, operand::pair_operand(op), o.second);
-    let base = ascii::put_text(line, comma, b", [");
+    let name = mnemonic::pair_name(mode, op);
+    let kind = operand::pair_operand(op);
+    let second = put_front(line, at, name, kind, o.first);
+    let comma = register::put_operand(line, second, kind, o.second);
+    let base = ascii::put_three(line, comma, b',', b' ', b'[');
     let end = register::put_base(line, base, o.base);
     tail::put_pair_tail(line, end, mode, o.offset)
-}
-
-fn put_pair_front(line: &mut [u8], at: usize, op: PairOp, o: PairOperands) -> usize
-    ensures { λ r. ⌜ Puts (now (line .entry)) at (frontText (pairName (o .mode) op) (pairOperand op) (o .first)) (now (line .exit)) r ⌝ }
-{
-    let mode = o.mode;
-    let space = mnemonic::put_pair_name(line, at, mode, op);
-    let first = ascii::put_byte(line, space, b' ');
-    let comma = register::put_operand(line, first, operand::pair_operand(op), o.first);
-    ascii::put_text(line, comma, b", ")
 }
 
 // The line of a family with a size, up to its base.
 fn put_start(line: &mut [u8], at: usize, stem: Stem, op: SizedOp, target: u32, base: u32) -> usize
     ensures { λ r. ⌜ Puts (now (line .entry)) at (frontText (sizedName stem op) (sizedOperand op) target ++ asc "[" ++ baseText base) (now (line .exit)) r ⌝ }
 {
-    let space = mnemonic::put_sized_name(line, at, stem, op);
-    let first = ascii::put_byte(line, space, b' ');
-    let comma = register::put_operand(line, first, operand::sized_operand(op), target);
-    let open = ascii::put_text(line, comma, b", ");
+    let name = mnemonic::sized_name(stem, op);
+    let open = put_front(line, at, name, operand::sized_operand(op), target);
     let register = ascii::put_byte(line, open, b'[');
     register::put_base(line, register, base)
+}
+
+// A mnemonic, packed, and the first operand.
+fn put_front(line: &mut [u8], at: usize, name: u64, kind: Operand, register: u32) -> usize
+    ensures { λ r. ⌜ Puts (now (line .entry)) at (frontText (unpacked name) kind register) (now (line .exit)) r ⌝ }
+{
+    let space = ascii::put_packed(line, at, name);
+    let first = ascii::put_byte(line, space, b' ');
+    let comma = register::put_operand(line, first, kind, register);
+    ascii::put_two(line, comma, b',', b' ')
 }
 
 fn put_offset(line: &mut [u8], at: usize, stem: Stem, op: SizedOp, o: OffsetOperands) -> usize

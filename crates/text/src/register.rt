@@ -7,11 +7,10 @@ ghost use Rattle.text.specs.Texts.{registerText, baseText, operandText};
 pub fn put_register(line: &mut [u8], at: usize, letter: u8, register: u32) -> usize
     ensures { λ r. ⌜ Puts (now (line .entry)) at (registerText letter register) (now (line .exit)) r ⌝ }
 {
-    let next = ascii::put_byte(line, at, letter);
     if register == 31 {
-        return ascii::put_text(line, next, b"zr");
+        return ascii::put_three(line, at, letter, b'z', b'r');
     }
-    ascii::put_decimal(line, next, register as u64)
+    ascii::put_lettered(line, at, letter, register as u64)
 }
 
 // Register 31 is the stack pointer.
@@ -19,10 +18,9 @@ pub fn put_base(line: &mut [u8], at: usize, register: u32) -> usize
     ensures { λ r. ⌜ Puts (now (line .entry)) at (baseText register) (now (line .exit)) r ⌝ }
 {
     if register == 31 {
-        return ascii::put_text(line, at, b"sp");
+        return ascii::put_two(line, at, b's', b'p');
     }
-    let next = ascii::put_byte(line, at, b'x');
-    ascii::put_decimal(line, next, register as u64)
+    ascii::put_lettered(line, at, b'x', register as u64)
 }
 
 pub fn put_operand(line: &mut [u8], at: usize, operand: Operand, register: u32) -> usize
@@ -31,13 +29,6 @@ pub fn put_operand(line: &mut [u8], at: usize, operand: Operand, register: u32) 
     match operand {
         Operand::Narrow => put_register(line, at, b'w', register),
         Operand::Wide => put_register(line, at, b'x', register),
-        Operand::Hint => put_hint(line, at, register),
+        Operand::Hint => ascii::put_lettered(line, at, b'#', register as u64),
     }
-}
-
-fn put_hint(line: &mut [u8], at: usize, hint: u32) -> usize
-    ensures { λ r. ⌜ Puts (now (line .entry)) at (operandText Operand.Hint hint) (now (line .exit)) r ⌝ }
-{
-    let next = ascii::put_byte(line, at, b'#');
-    ascii::put_decimal(line, next, hint as u64)
 }

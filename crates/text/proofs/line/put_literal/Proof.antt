@@ -16,7 +16,11 @@ put-literal-spec =
     (λ c κs. search needs)
     (λ c κs. search needs)
     (λ c κs. search needs)
+    (λ c κs. search needs)
+    (λ c κs. search needs)
     (λ c. search needs)
     (λ c.
-    let f : SFits w64 (c .before .before .before .before .before .before .before .before .before .before .before .before .before .before .args .o .offset) = search needs in
-    after (after (c .before .before .before .before .before .before .before .before .before .before .before .put-literal-front .ensures) (c .before .before .before .before .before .before .before .put-byte .ensures)) (rw (toZ-ofZ f) at (c .before .before .put-signed .ensures))))
+    let f : SFits w64 (c .before .before .before .before .before .before .before .before .before .before .before .before .before .before .before .before .args .o .offset) = search needs in
+    after
+    (after (rw (c .before .before .before .before .before .before .before .before .before .before .before .before .before .before .literal-name .ensures, c .before .before .before .before .before .before .before .before .before .before .before .before .literal-operand .ensures) at (c .before .before .before .before .before .before .before .before .before .before .before .put-front .ensures)) (c .before .before .before .before .before .before .before .put-byte .ensures))
+    (rw (toZ-ofZ f) at (c .before .before .put-signed .ensures))))

@@ -16,16 +16,18 @@ put-pair-spec =
     (λ c κs. search needs)
     (λ c κs. search needs)
     (λ c κs. search needs)
-    (λ c. search needs)
+    (λ c κs. search needs)
     (λ c κs. search needs)
     (λ c κs. search needs)
     (λ c κs. search needs)
     (λ c. search needs)
     (λ c.
     let f : SFits w64 (c .before .before .before .before .before .before .before .before .before .before .before .before .before .before .before .before .before .before .before .before .before .before .before .before .args .o .offset) = search needs in
+    let e = c .before .before .before .before .before .before .before .before .before .before .before .before .before .before .before .before .before .before .before .before .before .pair-operand .ensures in
     after
     (after
-    (after (after (c .before .before .before .before .before .before .before .before .before .before .before .before .before .before .before .before .before .before .before .before .before .put-pair-front .ensures) (rw (c .before .before .before .before .before .before .before .before .before .before .before .before .before .before .before .before .before .pair-operand .ensures) at (c .before .before .before .before .before .before .before .before .before .before .before .before .before .before .before .before .put-operand .ensures)))
-    (c .before .before .before .before .before .before .before .before .before .before .before .put-text .ensures))
+    (after
+    (after (rw (c .before .before .before .before .before .before .before .before .before .before .before .before .before .before .before .before .before .before .before .before .before .before .pair-name .ensures, e) at (c .before .before .before .before .before .before .before .before .before .before .before .before .before .before .before .before .before .before .before .put-front .ensures)) (rw e at (c .before .before .before .before .before .before .before .before .before .before .before .before .before .before .before .put-operand .ensures)))
+    (c .before .before .before .before .before .before .before .before .before .before .before .put-three .ensures))
     (c .before .before .before .before .before .before .before .put-base .ensures))
     (rw (toZ-ofZ f) at (c .before .before .put-pair-tail .ensures))))

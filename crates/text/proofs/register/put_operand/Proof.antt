@@ -18,4 +18,4 @@ put-operand-spec =
     (λ c. search needs)
     (λ c. rw (c .before .before .before .before .enum-told2 .given .1) (c .before .before .put-register2 .ensures))
     (λ c. search needs)
-    (λ c. rw (c .before .before .before .before .enum-told3 .given .1) (c .before .before .put-hint .ensures)))
+    (λ c. rw (c .before .before .before .before .enum-told3 .given .1) (c .before .before .put-lettered .ensures)))

@@ -1,7 +1,6 @@
 -- `text::register::put_register` meets its contract. Assumes nothing.
 use borrow.Author.Tests.{eq-eqb, ne-eqb}
 use Rattle.text.specs.Texts.{registerText}
-use Rattle.ascii.proofs.Pieces.{after}
 use borrow.Author.Needs.{needs}
 use Rattle.text.proofs.register.put_register.Statement.{statement}
 use Rattle.text.proofs.register.put_register.Tie as tie
@@ -13,9 +12,7 @@ put-register-spec =
     (tie.spec
     (λ c κs. search needs)
     (λ c. search needs)
+    (λ c. simp (eq-eqb _ _ (c .before .before .before .before .if1 .taken)) (c .before .before .put-three .ensures))
     (λ c κs. search needs)
     (λ c. search needs)
-    (λ c. simp (eq-eqb _ _ (c .before .before .before .before .before .if1 .taken)) (after (c .before .before .before .before .before .before .before .before .put-byte .ensures) (c .before .before .put-text .ensures)))
-    (λ c κs. search needs)
-    (λ c. search needs)
-    (λ c. simp (ne-eqb _ _ (c .before .before .before .before .if1 .left)) (after (c .before .before .before .before .before .before .before .put-byte .ensures) (c .before .before .put-decimal .ensures))))
+    (λ c. simp (ne-eqb _ _ (c .before .before .before .before .if1 .left)) (c .before .before .put-lettered .ensures)))

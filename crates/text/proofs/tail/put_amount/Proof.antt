@@ -11,9 +11,8 @@ unfolding amountText
 put-amount-spec =
     tie.close
     (tie.spec
-    (λ c. search needs)
     (λ c κs. search needs)
     (λ c κs. search needs)
     (λ c. search needs)
-    (λ c. simp (eq-eqb _ _ (c .before .before .before .before .before .before .before .before .before .if1 .taken)) (after (c .before .before .before .before .before .before .put-text .ensures) (c .before .before .put-decimal .ensures)))
+    (λ c. simp (eq-eqb _ _ (c .before .before .before .before .before .before .before .before .if1 .taken)) (after (c .before .before .before .before .before .before .put-byte .ensures) (c .before .before .put-lettered .ensures)))
     (λ c. simp (ne-eqb _ _ (c .if1 .left)) (nothing _ _)))

@@ -14,10 +14,11 @@ put-extend-spec =
     (λ c κs. search needs)
     (λ c. search needs)
     (λ c. rw (c .before .before .before .before .if1 .taken) (c .before .before .put-shift .ensures))
-    (λ c. search needs)
+    (λ c κs. search needs)
     (λ c κs. search needs)
     (λ c κs. search needs)
     (λ c κs. search needs)
     (λ c. search needs)
     (λ c.
-    simp (ne-eqb _ _ (c .before .before .before .before .before .before .before .before .before .before .before .before .before .if1 .left)) (after (after (c .before .before .before .before .before .before .before .before .before .before .put-text .ensures) (c .before .before .before .before .before .before .put-extend-name .ensures)) (c .before .before .put-amount .ensures))))
+    simp (ne-eqb _ _ (c .before .before .before .before .before .before .before .before .before .before .before .before .before .if1 .left))
+    (after (after (c .before .before .before .before .before .before .before .before .before .before .before .put-two .ensures) (rw (c .before .before .before .before .before .before .before .extend-name .ensures) at (c .before .before .before .before .before .before .put-packed .ensures))) (c .before .before .put-amount .ensures))))

@@ -13,12 +13,11 @@ put-index-tail-spec =
     (λ c. search needs)
     (λ c. search needs)
     (λ c κs. search needs)
-    (λ c. search needs)
     (λ c κs. search needs)
     (λ c κs. search needs)
     (λ c κs. search needs)
     (λ c κs. search needs)
     (λ c. search needs)
     (λ c.
-    after (after (after (c .before .before .before .before .before .before .before .before .before .before .before .before .before .before .put-text .ensures) (c .before .before .before .before .before .before .before .before .before .before .put-register .ensures)) (rw (c .before .before .before .before .before .before .before .before .before .before .before .before .before .before .before .before .before .size-field .ensures .0) at (c .before .before .before .before .before .before .put-extend .ensures)))
+    after (after (after (c .before .before .before .before .before .before .before .before .before .before .before .before .before .before .put-two .ensures) (c .before .before .before .before .before .before .before .before .before .before .put-register .ensures)) (rw (c .before .before .before .before .before .before .before .before .before .before .before .before .before .before .before .before .size-field .ensures .0) at (c .before .before .before .before .before .before .put-extend .ensures)))
     (c .before .before .put-byte .ensures)))

@@ -13,13 +13,13 @@ put-offset-tail-spec =
     (λ c κs. search needs)
     (λ c κs. search needs)
     (λ c. search needs)
-    (λ c. rw (offset-hidden (toZ-ofZ (c .before .before .before .before .before .before .before .fits .offset)) (c .before .before .before .before .before .magnitude .ensures) (c .before .before .before .before .if1 .taken)) (c .before .before .put-byte .ensures))
-    (λ c. search needs)
+    (λ c.
+    rw (offset-hidden (toZ-ofZ (c .before .before .before .before .before .before .before .fits .offset)) (c .before .before .before .before .before .magnitude .ensures) (c .before .before .before .before .if1 .taken)) (c .before .before .put-byte .ensures))
     (λ c κs. search needs)
     (λ c κs. search needs)
     (λ c κs. search needs)
     (λ c. search needs)
     (λ c.
-    let e = toZ-ofZ (c .before .before .before .before .before .before .before .before .before .before .before .before .before .before .before .before .fits .offset) in
-    rw (offset-shown e (c .before .before .before .before .before .before .before .before .before .before .before .before .before .before .magnitude .ensures) (c .before .before .before .before .before .before .before .before .before .before .before .before .before .if1 .left))
-    (after (after (c .before .before .before .before .before .before .before .before .before .before .put-text .ensures) (rw e at (c .before .before .before .before .before .before .put-signed .ensures))) (c .before .before .put-byte2 .ensures))))
+    let e = toZ-ofZ (c .before .before .before .before .before .before .before .before .before .before .before .before .before .before .before .fits .offset) in
+    rw (offset-shown e (c .before .before .before .before .before .before .before .before .before .before .before .before .before .magnitude .ensures) (c .before .before .before .before .before .before .before .before .before .before .before .before .if1 .left))
+    (after (after (c .before .before .before .before .before .before .before .before .before .before .put-three .ensures) (rw e at (c .before .before .before .before .before .before .put-signed .ensures))) (c .before .before .put-byte2 .ensures))))

@@ -11,8 +11,7 @@ unfolding postTail
 put-post-tail-spec =
     tie.close
     (tie.spec
-    (λ c. search needs)
     (λ c κs. search needs)
     (λ c κs. search needs)
     (λ c. search needs)
-    (λ c. after (c .before .before .before .before .before .before .put-text .ensures) (rw (toZ-ofZ (c .before .before .before .before .before .before .before .before .before .before .fits .offset)) at (c .before .before .put-signed .ensures))))
+    (λ c. after (c .before .before .before .before .before .before .put-four .ensures) (rw (toZ-ofZ (c .before .before .before .before .before .before .before .before .before .fits .offset)) at (c .before .before .put-signed .ensures))))

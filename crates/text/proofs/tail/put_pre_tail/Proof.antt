@@ -11,11 +11,8 @@ unfolding preTail
 put-pre-tail-spec =
     tie.close
     (tie.spec
-    (λ c. search needs)
     (λ c κs. search needs)
     (λ c κs. search needs)
-    (λ c. search needs)
     (λ c κs. search needs)
     (λ c. search needs)
-    (λ c.
-    after (after (c .before .before .before .before .before .before .before .before .before .before .before .put-text .ensures) (rw (toZ-ofZ (c .before .before .before .before .before .before .before .before .before .before .before .before .before .before .before .fits .offset)) at (c .before .before .before .before .before .before .before .put-signed .ensures))) (c .before .before .put-text2 .ensures)))
+    (λ c. after (after (c .before .before .before .before .before .before .before .before .before .before .put-three .ensures) (rw (toZ-ofZ (c .before .before .before .before .before .before .before .before .before .before .before .before .before .fits .offset)) at (c .before .before .before .before .before .before .put-signed .ensures))) (c .before .before .put-two .ensures)))

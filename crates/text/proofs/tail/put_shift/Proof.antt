@@ -11,9 +11,9 @@ unfolding extendText
 put-shift-spec =
     tie.close
     (tie.spec
-    (λ c. search needs)
     (λ c κs. search needs)
     (λ c κs. search needs)
+    (λ c κs. search needs)
     (λ c. search needs)
-    (λ c. simp (eq-eqb _ _ (c .before .before .before .before .before .before .before .before .before .if1 .taken)) (after (c .before .before .before .before .before .before .put-text .ensures) (c .before .before .put-amount .ensures)))
+    (λ c. simp (eq-eqb _ _ (c .before .before .before .before .before .before .before .before .before .before .before .before .if1 .taken)) (after (after (c .before .before .before .before .before .before .before .before .before .before .put-two .ensures) (c .before .before .before .before .before .before .put-three .ensures)) (c .before .before .put-amount .ensures)))
     (λ c. simp (ne-eqb _ _ (c .if1 .left)) (nothing _ _)))

@@ -1,0 +1,21 @@
+-- `mnemonic::allocate_name` meets its contract. Assumes nothing.
+use Rattle.ascii.specs.Ascii.{unpacked}
+use borrow.Author.Needs.{needs}
+use Rattle.mnemonic.proofs.allocate_name.Statement.{statement}
+use Rattle.mnemonic.proofs.allocate_name.Tie as tie
+
+pub allocate-name-spec : {M : Type 1} → statement M
+unfolding unpacked
+allocate-name-spec =
+    tie.close
+    (tie.spec
+    (λ c. search needs)
+    (λ c. search needs)
+    (λ c. search needs)
+    (λ c. search needs)
+    (λ c. search needs)
+    (λ c. rw (c .enum-told .given .1))
+    (λ c. rw (c .enum-told2 .given .1))
+    (λ c. rw (c .enum-told3 .given .1))
+    (λ c. rw (c .enum-told4 .given .1))
+    (λ c. rw (c .enum-told5 .given .1)))
