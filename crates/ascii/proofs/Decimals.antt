@@ -35,6 +35,12 @@ dec-three n h k =
     let e : n / 10 / 10 ≡ n / 100 = omega arith in
     rw (dec-more n (omega arith) (omega arith), dec-two (n / 10) (omega arith) (omega arith), e)
 
+pub dec-four : (n : ℕ) → 1000 ≤ n → n < 10000 → dec n ≡ (48 + n / 1000) ∷ (48 + n / 100 % 10) ∷ (48 + n / 10 % 10) ∷ (48 + n % 10) ∷ []
+dec-four n h k =
+    let e : n / 10 / 10 ≡ n / 100 = omega arith in
+    let f : n / 10 / 100 ≡ n / 1000 = omega arith in
+    rw (dec-more n (omega arith) (omega arith), dec-three (n / 10) (omega arith) (omega arith), e, f)
+
 short-step : (f m d : ℕ) (l : List ℕ) (b : Bool) → length l ≤ f → length (pick b (m ∷ []) (l ++ (d ∷ []))) ≤ suc f
 short-step f m d l true h = omega arith
 short-step f m d l false h = omega (arith, length-append l (d ∷ []))

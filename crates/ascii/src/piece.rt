@@ -91,6 +91,16 @@ pub fn put_decimal(line: &mut [u8], at: usize, n: u64) -> usize
             (48 + n % 10) as u8,
         );
     }
+    if n < 10000 {
+        return put_four(
+            line,
+            at,
+            (48 + n / 1000) as u8,
+            (48 + n / 100 % 10) as u8,
+            (48 + n / 10 % 10) as u8,
+            (48 + n % 10) as u8,
+        );
+    }
     put_long(line, at, n)
 }
 

@@ -1,8 +1,9 @@
 -- What each return of the decoder shows, over plain values. Assumes nothing.
 use Prim.Native.Nat.{ℕ, _*_}
-use mathlib.Core.Path.{_≡_, sym, ap, _∙_}
+use mathlib.Core.Path.{_≡_, refl, sym, ap, _∙_}
 use mathlib.Core.Bool.{Bool, true, false, _||_, not}
 use lib.IntN.{ℤ, pos}
+use Rattle.bits.specs.Choice.{pick}
 use Rattle.bits.specs.Fields.{field}
 use Rattle.bits.specs.Signed.{signedOf}
 use Rattle.instruction.specs.declared.answer.Answer.{Answer}
@@ -17,7 +18,7 @@ use Rattle.instruction.specs.Undefined.{undefinedIn, undefined, allocated}
 use Rattle.instruction.specs.Unpredictable.{unpredictableIn, unpredictable}
 use Rattle.instruction.specs.Operations.{modeAt, pairBytes, sizedBytes}
 use Rattle.instruction.specs.Instructions.{familyIn, instructionOf, literalIn, pairIn, signedIn, unsignedIn}
-use Rattle.instruction.specs.Decoding.{decodeOf, empty}
+use Rattle.instruction.specs.Decoding.{decodeOf, classOf, empty}
 
 -- an arm of a match on a line
 pub by-line : {A : Type 0} (f : Line → A) {l k : Line} {r : A} → l ≡ k → r ≡ f k → r ≡ f l
@@ -82,6 +83,12 @@ module _ (w : ℕ) {l : Line} (e : l ≡ lineOf w) where
   unfolding decodeOf allocated instructionOf
   decoded-is s u p = rw (s, u, p, e)
 
+  -- the answer is the class
+  pub examined-is : {a : Answer} {f : Family} → inSet w ≡ true → undefined w ≡ false → a ≡ pick (unpredictableIn l w) Answer.Unpredictable Answer.Done → f ≡ familyIn l w
+      → (a ≡ classOf w) × (record { family = f } ≡ decodeOf w .instruction)
+  unfolding classOf decodeOf unpredictable allocated instructionOf
+  examined-is s u q p = rw (s, u, q, p, e) (refl, refl)
+
 pub not-in-set : (w : ℕ) {r : Decoded} → inSet w ≡ false → (r .answer ≡ Answer.NotInSet) × (r .instruction ≡ empty) → r ≡ decodeOf w
 unfolding decodeOf allocated
 not-in-set w s p = rw s (λ i. record { answer = p .0 i; instruction = p .1 i })
@@ -89,3 +96,13 @@ not-in-set w s p = rw s (λ i. record { answer = p .0 i; instruction = p .1 i })
 pub is-undefined : (w : ℕ) {r : Decoded} → inSet w ≡ true → undefined w ≡ true → (r .answer ≡ Answer.Undefined) × (r .instruction ≡ empty) → r ≡ decodeOf w
 unfolding decodeOf allocated
 is-undefined w s u p = rw (s, u) (λ i. record { answer = p .0 i; instruction = p .1 i })
+
+module _ (w : ℕ) {r : Decoded} where
+  pub examined-outside : inSet w ≡ false → (r .answer ≡ Answer.NotInSet) × (r .instruction ≡ empty) → (r .answer ≡ classOf w) × (r .instruction ≡ decodeOf w .instruction)
+  unfolding classOf decodeOf allocated
+  examined-outside s p = rw s p
+
+  pub examined-undefined : inSet w ≡ true → undefined w ≡ true → (r .answer ≡ Answer.Undefined) × (r .instruction ≡ empty)
+      → (r .answer ≡ classOf w) × (r .instruction ≡ decodeOf w .instruction)
+  unfolding classOf decodeOf allocated
+  examined-undefined s u p = rw (s, u) p

@@ -3,11 +3,13 @@ mod family;
 mod line;
 mod undefined;
 mod unpredictable;
+mod view;
 
 use instruction::Answer;
 use instruction::Decoded;
 use instruction::Family;
 use instruction::Instruction;
+pub use view::examine;
 ghost use mathlib.Core.Path.{_≡_};
 ghost use Rattle.instruction.specs.Undefined.{allocated};
 ghost use Rattle.instruction.specs.Decoding.{decodeOf, classOf, empty};

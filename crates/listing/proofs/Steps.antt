@@ -11,20 +11,20 @@ use lib.ListN.{length, drop, getD, length-append, length-drop}
 use lib.Seq.{drop-cons}
 use Rattle.bits.specs.Choice.{pick}
 use Rattle.instruction.specs.declared.answer.Answer.the-variants.{Done, NotInSet, Undefined, Unpredictable}
-use Rattle.instruction.specs.declared.answer.Decoded.{Decoded}
+use Rattle.instruction.specs.declared.family.Instruction.{Instruction}
 use Rattle.instruction.specs.Answers.{answerNumber}
 use Rattle.instruction.specs.Table.{inSet}
 use Rattle.instruction.specs.Unpredictable.{unpredictable}
 use Rattle.instruction.specs.Undefined.{undefined, allocated}
 use Rattle.instruction.specs.Instructions.{instructionOf}
-use Rattle.instruction.specs.Decoding.{decodeOf, classOf}
+use Rattle.instruction.specs.Decoding.{decodeOf, classOf, empty}
 use Rattle.text.specs.Texts.{textOf}
 use Rattle.ascii.specs.Ascii.{asc}
 use Rattle.ascii.specs.Puts.{Puts}
 use Rattle.text.specs.Writing.{wordText}
 use Rattle.text.proofs.Lengths.{word-text-short}
 use Rattle.ascii.proofs.Pieces.{after, nothing}
-use Rattle.listing.specs.Listing.{hex4, hex8, contentText, answerText, lineText, shortText, wordOf, listingOf, wordAt}
+use Rattle.listing.specs.Listing.{hex4, hex8, contentText, contentFor, answerText, lineText, shortText, wordOf, listingOf, wordAt}
 
 -- ---- the next word
 
@@ -60,33 +60,23 @@ left-over bs i h =
 
 -- ---- a word's own text, or a dash
 
--- a word is allocated where its answer is neither 2 nor 3
-class-is : (s u p : Bool) → (let n = answerNumber (pick s (pick u Undefined (pick p Unpredictable Done)) NotInSet) in
-    (n ≡ 2 → (s && not u) ≡ false) × (n ≡ 3 → (s && not u) ≡ false) × (¬ (n ≡ 2) → ¬ (n ≡ 3) → (s && not u) ≡ true))
-class-is true true p = ((λ e. refl), (λ e. refl), (λ a b. absurd (b refl)))
-class-is true false true = ((λ e. absurd (omega arith)), (λ e. absurd (omega arith)), (λ a b. refl))
-class-is true false false = ((λ e. absurd (omega arith)), (λ e. absurd (omega arith)), (λ a b. refl))
-class-is false u p = ((λ e. refl), (λ e. refl), (λ a b. absurd (a refl)))
+-- by what is known of the word: whether it is of the set, undefined, unpredictable
+content-by : (s u p : Bool) (t : Instruction) → contentFor (answerNumber (pick s (pick u Undefined (pick p Unpredictable Done)) NotInSet)) (pick (s && not u) t empty)
+    ≡ pick (s && not u) (textOf t) (asc "-")
+unfolding contentFor
+content-by true true p t = refl
+content-by true false true t = refl
+content-by true false false t = refl
+content-by false u p t = refl
 
-has-text : (w n : ℕ) → n ≡ answerNumber (classOf w) → ¬ (n ≡ 2) → ¬ (n ≡ 3) → allocated w ≡ true
-unfolding allocated classOf
-has-text w n e a b = class-is (inSet w) (undefined w) (unpredictable w) .2 (λ h. a (e ∙ h)) (λ h. b (e ∙ h))
+pub content-is : (w : ℕ) {n : ℕ} {i : Instruction} → n ≡ answerNumber (classOf w) → i ≡ decodeOf w .instruction → contentFor n i ≡ contentText w
+unfolding contentText wordText decodeOf classOf allocated
+content-is w e q = rw (e, q) (content-by (inSet w) (undefined w) (unpredictable w) (instructionOf w))
 
-module _ (w : ℕ) {n : ℕ} (e : n ≡ answerNumber (classOf w)) {xs ys : List ℕ} {at m : ℕ} where
-  pub content-outside : n ≡ 2 → Puts xs at (asc "-") ys m → Puts xs at (contentText w) ys m
-  unfolding contentText allocated classOf
-  content-outside h p = rw (class-is (inSet w) (undefined w) (unpredictable w) .0 (sym e ∙ h)) p
-
-  pub content-undefined : n ≡ 3 → Puts xs at (asc "-") ys m → Puts xs at (contentText w) ys m
-  unfolding contentText allocated classOf
-  content-undefined h p = rw (class-is (inSet w) (undefined w) (unpredictable w) .1 (sym e ∙ h)) p
-
-  pub content-is : ¬ (n ≡ 2) → ¬ (n ≡ 3) → {d : Decoded} → d ≡ decodeOf w → Puts xs at (textOf (d .instruction)) ys m → Puts xs at (contentText w) ys m
-  unfolding contentText wordText decodeOf
-  content-is a b {d} q p =
-      let g = has-text w n e a b in
-      let i : d .instruction ≡ instructionOf w = ap (λ (x : Decoded). x .instruction) q ∙ rw g in
-      rw (g, ← i) p
+-- the answer and the newline, put with the tab before them
+pub ends : {xs p ys zs : List ℕ} {at m n a d e : ℕ} → Puts xs at p ys m → Puts ys m (a ∷ d ∷ e ∷ []) zs n
+    → Puts xs at (p ++ (a ∷ []) ++ (d ∷ e ∷ [])) zs n
+ends {p = p} {a = a} {d = d} {e = e} h k = rw (append-assoc p (a ∷ []) (d ∷ e ∷ [])) (after h k)
 
 -- ---- lengths
 

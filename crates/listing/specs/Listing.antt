@@ -4,16 +4,18 @@ use mathlib.Core.List.{List, [], _∷_, _++_}
 use lib.Dec.{ltb, eqb}
 use lib.ListN
 use Rattle.bits.specs.Choice.{pick}
+use Rattle.instruction.specs.declared.family.Instruction.{Instruction}
 use Rattle.instruction.specs.Answers.{answerNumber}
 use Rattle.instruction.specs.Undefined.{allocated}
 use Rattle.instruction.specs.Decoding.{classOf}
 use Rattle.ascii.specs.Ascii.{asc}
+use Rattle.text.specs.Texts.{textOf}
 use Rattle.text.specs.Writing.{wordText, Outcome, copied}
 use Rattle.listing.specs.declared.Listed.{Listed}
 
 -- a digit in lower case
 unfoldable pub hexDigit : ℕ → ℕ
-hexDigit n = pick (ltb n 10) (48 + n) (87 + n)
+hexDigit n = ListN.getD (asc "0123456789abcdef") n 0
 
 -- the four digits of a number of 16 bits
 unfoldable pub hex4 : ℕ → List ℕ
@@ -25,6 +27,10 @@ hex8 w = hex4 (w / 65536) ++ hex4 (w / 1 % 65536)
 -- the text of an allocated word, or a dash
 unfoldable pub contentText : ℕ → List ℕ
 contentText w = pick (allocated w) (wordText w) (asc "-")
+
+-- the same by the number of the word's answer and by its instruction
+unfoldable pub contentFor : ℕ → Instruction → List ℕ
+contentFor number i = pick (eqb number 2) (asc "-") (pick (eqb number 3) (asc "-") (textOf i))
 
 -- the answer 0, 2, 3 or 4 of a word, and the end of its line
 unfoldable pub answerText : ℕ → List ℕ

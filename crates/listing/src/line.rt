@@ -1,22 +1,22 @@
 // One line of a listing, put into an output at a position.
+use instruction::Instruction;
 ghost use mathlib.Core.Path.{_≡_};
 ghost use lib.ListN.{length};
 ghost use Prim.Native.Nat.{_<_, _%_};
-ghost use Rattle.instruction.specs.Answers.{answerNumber};
-ghost use Rattle.instruction.specs.Decoding.{classOf};
 ghost use Rattle.ascii.specs.Puts.{Puts};
-ghost use Rattle.listing.specs.Listing.{hexDigit, hex4, hex8, contentText, lineText, shortText};
+ghost use Rattle.listing.specs.Listing.{hexDigit, hex4, hex8, contentFor, lineText, shortText};
 
 pub fn put_line(output: &mut [u8], at: usize, word: u32) -> usize
     ensures { λ r. ⌜ Puts (now (output .entry)) at (lineText word) (now (output .exit)) r ⌝ }
 {
-    let number = instruction::answer_number(decoder::classify(word));
+    let examined = decoder::examine(word);
+    let answer = examined.answer;
+    let instruction = examined.instruction;
+    let number = instruction::answer_number(answer);
     let tab = put_hex(output, at, word);
     let text = ascii::put_byte(output, tab, b'\t');
-    let end = put_content(output, text, word, number);
-    let digit = ascii::put_byte(output, end, b'\t');
-    let newline = ascii::put_byte(output, digit, (48 + number) as u8);
-    ascii::put_byte(output, newline, b'\n')
+    let end = put_content(output, text, number, instruction);
+    ascii::put_three(output, end, b'\t', (48 + number) as u8, b'\n')
 }
 
 fn put_hex(output: &mut [u8], at: usize, word: u32) -> usize
@@ -29,26 +29,27 @@ fn put_hex(output: &mut [u8], at: usize, word: u32) -> usize
 fn put_hex4(output: &mut [u8], at: usize, n: u32) -> usize
     ensures { λ r. ⌜ Puts (now (output .entry)) at (hex4 n) (now (output .exit)) r ⌝ }
 {
-    let second = ascii::put_byte(output, at, hex_digit(n / 4096 % 16));
-    let third = ascii::put_byte(output, second, hex_digit(n / 256 % 16));
-    let fourth = ascii::put_byte(output, third, hex_digit(n / 16 % 16));
-    ascii::put_byte(output, fourth, hex_digit(n / 1 % 16))
+    ascii::put_four(
+        output,
+        at,
+        hex_digit(n / 4096 % 16),
+        hex_digit(n / 256 % 16),
+        hex_digit(n / 16 % 16),
+        hex_digit(n / 1 % 16),
+    )
 }
 
 fn hex_digit(n: u32) -> u8
     requires { ⌜ n < 16 ⌝ }
     ensures { λ r. ⌜ r ≡ hexDigit n ⌝ }
 {
-    if n < 10 {
-        return (48 + n) as u8;
-    }
-    (87 + n) as u8
+    let digits = b"0123456789abcdef";
+    digits[n as usize]
 }
 
-// Words of answers 2 and 3 have no text.
-fn put_content(output: &mut [u8], at: usize, word: u32, number: u32) -> usize
-    requires { ⌜ number ≡ answerNumber (classOf word) ⌝ }
-    ensures { λ r. ⌜ Puts (now (output .entry)) at (contentText word) (now (output .exit)) r ⌝ }
+// The text of an instruction by the number of its word's answer: words of answers 2 and 3 have none.
+fn put_content(output: &mut [u8], at: usize, number: u32, instruction: Instruction) -> usize
+    ensures { λ r. ⌜ Puts (now (output .entry)) at (contentFor number instruction) (now (output .exit)) r ⌝ }
 {
     if number == 2 {
         return ascii::put_byte(output, at, b'-');
@@ -56,8 +57,6 @@ fn put_content(output: &mut [u8], at: usize, word: u32, number: u32) -> usize
     if number == 3 {
         return ascii::put_byte(output, at, b'-');
     }
-    let decoded = decoder::decode(word);
-    let instruction = decoded.instruction;
     text::put(output, at, instruction)
 }
 
@@ -69,9 +68,8 @@ pub fn put_short(output: &mut [u8], at: usize, count: usize) -> usize
         return at;
     }
     let dash = ascii::put_text(output, at, b"short");
-    let digit = ascii::put_text(output, dash, b"\t-\t");
-    let end = ascii::put_byte(output, digit, (48 + n) as u8);
-    ascii::put_byte(output, end, b'\n')
+    let digit = ascii::put_three(output, dash, b'\t', b'-', b'\t');
+    ascii::put_two(output, digit, (48 + n) as u8, b'\n')
 }
 
 pub fn line_length(word: u32) -> usize

@@ -1,6 +1,6 @@
 -- `ascii::piece::put_decimal` meets its contract. Assumes nothing.
 use borrow.Author.Needs.{needs}
-use Rattle.ascii.proofs.Decimals.{dec-one, dec-two, dec-three}
+use Rattle.ascii.proofs.Decimals.{dec-one, dec-two, dec-three, dec-four}
 use Rattle.ascii.proofs.piece.put_decimal.Statement.{statement}
 use Rattle.ascii.proofs.piece.put_decimal.Tie as tie
 
@@ -29,6 +29,19 @@ put-decimal-spec =
     (λ c κs. search needs)
     (λ c. search needs)
     (λ c. rw (dec-three _ (c .before .before .before .before .before .if2 .left) (c .before .before .before .before .if3 .taken)) (c .before .before .put-three .ensures))
+    (λ c. search needs)
+    (λ c. search needs)
+    (λ c. search needs)
+    (λ c. search needs)
+    (λ c. search needs)
+    (λ c. search needs)
+    (λ c. search needs)
+    (λ c. search needs)
+    (λ c κs. search needs)
+    (λ c. search needs)
+    (λ c.
+    rw (dec-four _ (c .before .before .before .before .before .if3 .left) (c .before .before .before .before .if4 .taken))
+    (c .before .before .put-four .ensures))
     (λ c κs. search needs)
     (λ c. search needs)
     (λ c. search needs))
