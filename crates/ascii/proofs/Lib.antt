@@ -1,3 +1,4 @@
 pub mod Pieces
 pub mod Decimals
 pub mod Packs
+pub mod Lettered

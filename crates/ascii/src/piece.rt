@@ -1,7 +1,10 @@
 // Pieces of text, each put into a line at a position. They return the position behind the piece. What the
 // line has no room for is left out.
-ghost use Prim.Native.Nat.{_<_};
+ghost use Prim.Native.Nat.{_<_, _≤_};
+ghost use mathlib.Core.Path.{_≡_};
 ghost use mathlib.Core.List.{[], _∷_};
+ghost use lib.Dec.{ltb};
+ghost use Rattle.bits.specs.Choice.{pick};
 ghost use Rattle.ascii.specs.Ascii.{dec, signedDec, unpacked};
 ghost use Rattle.ascii.specs.Puts.{Puts};
 
@@ -118,14 +121,49 @@ fn put_long(line: &mut [u8], at: usize, n: u64) -> usize
 pub fn put_lettered(line: &mut [u8], at: usize, letter: u8, n: u64) -> usize
     ensures { λ r. ⌜ Puts (now (line .entry)) at (letter ∷ dec n) (now (line .exit)) r ⌝ }
 {
-    if n < 10 {
-        return put_two(line, at, letter, (48 + n) as u8);
-    }
     if n < 100 {
-        return put_three(line, at, letter, (48 + n / 10) as u8, (48 + n % 10) as u8);
+        return put_lettered_two(line, at, letter, n);
     }
     let next = put_byte(line, at, letter);
     put_decimal(line, next, n)
+}
+
+// One digit or two. Which, is as good as random, so that no branch depends on it: the byte where a second digit
+// would stand is written in any case, if need be with what it holds.
+fn put_lettered_two(line: &mut [u8], at: usize, letter: u8, n: u64) -> usize
+    requires { ⌜ n < 100 ⌝ }
+    ensures { λ r. ⌜ Puts (now (line .entry)) at (letter ∷ dec n) (now (line .exit)) r ⌝ }
+{
+    if line.len() >= 3 {
+        if at <= line.len() - 3 {
+            let ones = (48 + n % 10) as u8;
+            line[at] = letter;
+            line[at + 1] = by_size(n, ones, (48 + n / 10) as u8);
+            line[at + 2] = by_size(n, line[at + 2], ones);
+            return at + lettered_length(n);
+        }
+    }
+    let next = put_byte(line, at, letter);
+    put_decimal(line, next, n)
+}
+
+fn by_size(n: u64, short: u8, long: u8) -> u8
+    ensures { λ r. ⌜ r ≡ pick (ltb n 10) short long ⌝ }
+{
+    if n < 10 {
+        return short;
+    }
+    long
+}
+
+// The bytes of a letter and one digit or two.
+fn lettered_length(n: u64) -> usize
+    ensures { λ r. ⌜ (r ≡ pick (ltb n 10) 2 3) × (r ≤ 3) ⌝ }
+{
+    if n < 10 {
+        return 2;
+    }
+    3
 }
 
 pub fn put_signed(line: &mut [u8], at: usize, n: i64) -> usize
