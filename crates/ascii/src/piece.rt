@@ -18,7 +18,7 @@ pub fn put_byte(line: &mut [u8], at: usize, byte: u8) -> usize
     at
 }
 
-// Two bytes, or three, four or eight, where there is room for all are put without a test of each.
+// Two bytes, or three or four, need one test where there is room for all of them.
 pub fn put_two(line: &mut [u8], at: usize, a: u8, b: u8) -> usize
     ensures { λ r. ⌜ Puts (now (line .entry)) at (a ∷ b ∷ []) (now (line .exit)) r ⌝ }
 {
@@ -107,6 +107,7 @@ pub fn put_decimal(line: &mut [u8], at: usize, n: u64) -> usize
     put_long(line, at, n)
 }
 
+// A number of any length.
 fn put_long(line: &mut [u8], at: usize, n: u64) -> usize
     ensures { λ r. ⌜ Puts (now (line .entry)) at (dec n) (now (line .exit)) r ⌝ }
 {
@@ -128,8 +129,8 @@ pub fn put_lettered(line: &mut [u8], at: usize, letter: u8, n: u64) -> usize
     put_decimal(line, next, n)
 }
 
-// One digit or two. Which, is as good as random, so that no branch depends on it: the byte where a second digit
-// would stand is written in any case, if need be with what it holds.
+// One digit or two. Which of them is as good as random, so that no branch depends on it: the byte where a second
+// digit would stand is written in any case, with what it holds where there is none.
 fn put_lettered_two(line: &mut [u8], at: usize, letter: u8, n: u64) -> usize
     requires { ⌜ n < 100 ⌝ }
     ensures { λ r. ⌜ Puts (now (line .entry)) at (letter ∷ dec n) (now (line .exit)) r ⌝ }
