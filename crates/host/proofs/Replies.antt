@@ -1,0 +1,17 @@
+-- Laws of answers by number. Assumes nothing.
+use Prim.Native.Nat.{ℕ}
+use mathlib.Core.Path.{_≡_, ap, _∙_}
+use mathlib.Core.List.{List}
+use mathlib.Core.Logic.{inl, inr}
+use Rattle.instruction.specs.Answers.{answerNumber}
+use Rattle.text.specs.Writing.{Outcome}
+use Rattle.reader.specs.declared.Reading.{Reading}
+use Rattle.reader.specs.Reading.{ReadOf}
+use Rattle.host.specs.Replies.{numbered, ReadAs}
+
+pub numbered-by : {o p : Outcome} {n : ℕ} → n ≡ answerNumber (o .answer) → o ≡ p → record { answer = n; length = o .length; buffer = o .buffer } ≡ numbered p
+numbered-by e same = rw (e, same)
+
+pub read-as : (t : List ℕ) (r : Reading) {n : ℕ} → n ≡ answerNumber (r .answer) → ReadOf t r → ReadAs t (record { answer = n; word = r .word })
+read-as t r e (inl (done, line)) = inl (e ∙ ap answerNumber done, line)
+read-as t r e (inr (none, zero, never)) = inr (e ∙ ap answerNumber none, zero, never)

@@ -1,0 +1,29 @@
+-- What writing, listing and reading a text give a host: the definitions of the crates below, with each answer by
+-- its number.
+use Prim.Native.Nat.{ℕ}
+use mathlib.Core.Path.{_≡_}
+use mathlib.Core.List.{List}
+use mathlib.Core.Logic.{_⊎_}
+use Rattle.instruction.specs.Answers.{answerNumber}
+use Rattle.text.specs.Writing.{Outcome}
+use Rattle.reader.specs.Reading.{LineOf}
+use Rattle.host.specs.declared.TextReply.{TextReply}
+use Rattle.host.specs.declared.WordReply.{WordReply}
+
+-- what is returned, and what the buffer holds after it
+pub record Numbered : Type 0 where
+  pub answer : ℕ
+  pub length : ℕ
+  pub buffer : List ℕ
+
+abbrev pub textOutcome : TextReply → List ℕ → Numbered
+textOutcome r buffer = record { answer = r .answer; length = r .length; buffer = buffer }
+
+abbrev pub numbered : Outcome → Numbered
+numbered o = record { answer = answerNumber (o .answer); length = o .length; buffer = o .buffer }
+
+-- the allocated word whose line a text is, or 9 where there is none
+abbrev pub ReadAs : List ℕ → WordReply → Type 0
+ReadAs t r =
+    ((r .answer ≡ 0) × LineOf (r .word) t)
+    ⊎ ((r .answer ≡ 9) × (r .word ≡ 0) × ((w : ℕ) → ¬ LineOf w t))

@@ -1,0 +1,128 @@
+// The machine, the text, the reader and the listing for a host in another language. Only numbers and lent
+// slices cross: an answer as its number, and the registers as a slice that is copied in and out.
+mod file;
+
+use instruction::Answer;
+use plan::Window;
+ghost use mathlib.Core.Path.{_≡_};
+ghost use Rattle.instruction.specs.Answers.{answerNumber};
+ghost use Rattle.text.specs.Writing.{writeOf};
+ghost use Rattle.listing.specs.Listing.{listOf};
+ghost use Rattle.host.specs.Replies.{textOutcome, numbered, ReadAs};
+ghost use Rattle.host.specs.Hosting.{hosted, hostRun};
+
+// What a run returns beside what it leaves in the slices.
+#[repr(C)]
+pub struct RunReply {
+    pub steps: u64,
+    pub answer: u64,
+    pub code: u64,
+    pub address: u64,
+}
+
+// The length is 0 where the answer is not.
+#[repr(C)]
+pub struct TextReply {
+    pub answer: u64,
+    pub length: u64,
+}
+
+// The word is 0 where the answer is not.
+#[repr(C)]
+pub struct WordReply {
+    pub answer: u64,
+    pub word: u64,
+}
+
+// A run from registers that cross as 33 numbers, x0 to x30, sp and pc, with a flag for the taint of each but pc.
+// Slices too short for them are refused with 10. Where the run is not begun, nothing is changed.
+#[no_mangle]
+pub extern "C" fn milestarling_run(
+    words: &[u32],
+    registers: &mut [u64],
+    flags: &mut [u8],
+    origin: u64,
+    readonly: u64,
+    memory: &mut [u8],
+    taint: &mut [u8],
+    trace: &mut [u64],
+) -> RunReply
+    ensures { λ r. ⌜ hosted r (now (registers .exit)) (now (flags .exit)) (now (memory .exit)) (now (taint .exit)) (now (trace .exit))
+        ≡ hostRun (record { origin = origin; readonly = readonly }) (now (words .entry)) (now (registers .entry)) (now (flags .entry)) (now (memory .entry)) (now (taint .entry)) (now (trace .entry)) ⌝ }
+{
+    if registers.len() < 33 {
+        return no_room();
+    }
+    if flags.len() < 32 {
+        return no_room();
+    }
+    let state = file::state_in(registers, flags);
+    let window = Window { origin, readonly };
+    let ran = execution::run(words, state, window, memory, taint, trace);
+    let answer = ran.answer;
+    let number = answer_number(answer);
+    let after = ran.state;
+    file::put_back(number, after, registers, flags);
+    RunReply {
+        steps: ran.steps as u64,
+        answer: number,
+        code: ran.code,
+        address: ran.address,
+    }
+}
+
+// The text of a word, at the start of a buffer.
+#[no_mangle]
+pub extern "C" fn milestarling_text(word: u32, buffer: &mut [u8]) -> TextReply
+    ensures { λ r. ⌜ textOutcome r (now (buffer .exit)) ≡ numbered (writeOf word (now (buffer .entry))) ⌝ }
+{
+    let written = text::write(word, buffer);
+    let answer = written.answer;
+    TextReply {
+        answer: answer_number(answer),
+        length: written.length as u64,
+    }
+}
+
+// The word whose line a text is.
+#[no_mangle]
+pub extern "C" fn milestarling_word(text: &[u8]) -> WordReply
+    ensures { λ r. ⌜ ReadAs (now (text .entry)) r ⌝ }
+{
+    let reading = reader::read(text);
+    let answer = reading.answer;
+    WordReply {
+        answer: answer_number(answer),
+        word: reading.word as u64,
+    }
+}
+
+// The listing of bytes, at the start of an output.
+#[no_mangle]
+pub extern "C" fn milestarling_list(bytes: &[u8], output: &mut [u8]) -> TextReply
+    ensures { λ r. ⌜ textOutcome r (now (output .exit)) ≡ numbered (listOf (now (bytes .entry)) (now (output .entry))) ⌝ }
+{
+    let listed = listing::list(bytes, output);
+    let answer = listed.answer;
+    TextReply {
+        answer: answer_number(answer),
+        length: listed.length as u64,
+    }
+}
+
+fn no_room() -> RunReply
+    ensures { λ r. ⌜ r ≡ record { steps = 0; answer = 10; code = 0; address = 0 } ⌝ }
+{
+    RunReply {
+        steps: 0,
+        answer: 10,
+        code: 0,
+        address: 0,
+    }
+}
+
+fn answer_number(answer: Answer) -> u64
+    ensures { λ r. ⌜ r ≡ answerNumber answer ⌝ }
+{
+    instruction::answer_number(answer) as u64
+}
