@@ -1,0 +1,70 @@
+/*
+ * Runs the start of a login plugin in a window of 64 bytes, in which the length of a password is a secret, and shows
+ * the step that is refused because its address would tell the secret.
+ */
+#include <inttypes.h>
+#include <stdio.h>
+#include <string.h>
+
+#include "milestarling.h"
+
+#define COUNT 4
+
+static const char *const lines[COUNT] = {
+    "stp x29, x30, [sp, #-32]!",
+    "ldr w1, [x0, #8]",
+    "str w1, [sp, #16]",
+    "ldrb w2, [x0, w1, uxtw]",
+};
+
+static void print(const uint8_t *text, uint64_t length)
+{
+    fwrite(text, 1, (size_t)length, stdout);
+}
+
+int main(void)
+{
+    uint32_t words[COUNT];
+    uint8_t bytes[4 * COUNT];
+    for (size_t i = 0; i < COUNT; i++) {
+        const uint8_t *line = (const uint8_t *)lines[i];
+        struct milestarling_word_reply read = milestarling_word(line, strlen(lines[i]));
+        if (read.answer != MILESTARLING_DONE) {
+            printf("%s: answer %" PRIu64 "\n", lines[i], read.answer);
+            return 1;
+        }
+        words[i] = (uint32_t)read.word;
+        for (size_t k = 0; k < 4; k++)
+            bytes[4 * i + k] = (uint8_t)(words[i] >> (8 * k));
+    }
+
+    uint8_t output[1024];
+    struct milestarling_text_reply listed = milestarling_list(bytes, sizeof bytes, output, sizeof output);
+    print(output, listed.length);
+
+    /* x0 points to the password's record, whose length stands at 8 and is tainted; the stack ends with memory. */
+    uint64_t registers[33] = {0};
+    uint8_t register_taints[32] = {0};
+    uint8_t memory[64] = {0};
+    uint8_t taint[64] = {0};
+    uint64_t trace[2 * COUNT];
+    registers[0] = 0x1000;
+    registers[31] = 0x1000 + sizeof memory;
+    registers[32] = 0x8000;
+    memory[8] = 5;
+    memset(taint + 8, 1, 4);
+    struct milestarling_run_reply ran = milestarling_run(
+        words, COUNT, registers, 33, register_taints, 32, 0x1000, 0, memory, sizeof memory, taint, sizeof taint, trace, 2 * COUNT);
+
+    for (uint64_t i = 0; i < ran.steps; i++)
+        printf("code %" PRIu64 ", address 0x%" PRIx64 "\n", trace[2 * i], trace[2 * i + 1]);
+    printf("steps %" PRIu64 ", answer %" PRIu64 ", pc 0x%" PRIx64 "\n", ran.steps, ran.answer, registers[32]);
+    printf("w1 is %" PRIu64 ", taint %d; the byte at 48 is %d, taint %d\n", registers[1], register_taints[1], memory[48], taint[48]);
+    if (ran.answer == MILESTARLING_TAINTED_ADDRESS) {
+        struct milestarling_text_reply written = milestarling_text(words[ran.steps], output, sizeof output);
+        printf("refused: ");
+        print(output, written.length);
+        printf("\n");
+    }
+    return 0;
+}

@@ -1,0 +1,102 @@
+/*
+ * Milestarling for C: the loads and stores of an AArch64 emulator, their text, and their listing.
+ *
+ * Build the library with `rt staticlib host`, and link target/staticlib/libhost.a.
+ *
+ * A slice is a pointer and the number of its elements. The pointer is never null, even where the length is 0, and
+ * a slice that isn't const overlaps no other slice of the call. Beyond that no function has a condition to meet.
+ */
+#ifndef MILESTARLING_H
+#define MILESTARLING_H
+
+#include <stddef.h>
+#include <stdint.h>
+
+/* What a call answers. Of those that apply to a step, the lowest is given. */
+enum milestarling_answer {
+    MILESTARLING_DONE = 0,
+    /* memory that ends above the address space or is shorter than its read-only part, a taint slice of another
+       length than memory, or a pc that isn't a multiple of 4 */
+    MILESTARLING_BAD_WINDOW = 1,
+    /* the word is no load or store that Milestarling knows */
+    MILESTARLING_NOT_IN_SET = 2,
+    /* the word is among the loads and stores, and is undefined */
+    MILESTARLING_UNDEFINED = 3,
+    /* the word's effect is unpredictable */
+    MILESTARLING_UNPREDICTABLE = 4,
+    /* the address would depend on a tainted register */
+    MILESTARLING_TAINTED_ADDRESS = 5,
+    /* an ordered access that isn't inside one block of 16 bytes */
+    MILESTARLING_MISALIGNED = 6,
+    /* an access that isn't inside memory */
+    MILESTARLING_OUT_OF_WINDOW = 7,
+    /* a store to the read-only part */
+    MILESTARLING_READ_ONLY = 8,
+    /* the text is no instruction's line */
+    MILESTARLING_NO_SUCH_TEXT = 9,
+    /* a slice is too short for what belongs there */
+    MILESTARLING_NO_ROOM = 10,
+    /* no word encodes the instruction: no function below answers this */
+    MILESTARLING_NO_SUCH_INSTRUCTION = 11
+};
+
+/* The steps done, and of the last step tried its answer, code and address, as in the trace. */
+struct milestarling_run_reply {
+    uint64_t steps;
+    uint64_t answer;
+    uint64_t code;
+    uint64_t address;
+};
+
+/* The length is 0 where the answer isn't. */
+struct milestarling_text_reply {
+    uint64_t answer;
+    uint64_t length;
+};
+
+/* The word is 0 where the answer isn't. */
+struct milestarling_word_reply {
+    uint64_t answer;
+    uint64_t word;
+};
+
+/*
+ * Does a step for each word, in order, up to the first that is refused. A refused step changes nothing.
+ *
+ * registers        33 numbers: x0 to x30, sp, pc
+ * register_taints  32 bytes, for x0 to x30 and sp: on the way in any byte but 0 is a taint, on the way out each is 0 or 1
+ * origin           the address of memory's first byte
+ * readonly         how many bytes at the start of memory aren't stored to
+ * taint            a byte for each byte of memory, tainted where it isn't 0
+ * trace            two numbers for each word, of which those of the steps done are written: the code, which is the
+ *                  number of bytes moved, plus 64 for a store, or 0 for a prefetch; and the address
+ *
+ * Answers 0 to 8, or 10 where registers, register_taints or trace is too short. With answers 1 and 10 nothing is
+ * changed in any slice. A longer slice keeps its rest.
+ */
+struct milestarling_run_reply milestarling_run(
+    const uint32_t *words, size_t words_length,
+    uint64_t *registers, size_t registers_length,
+    uint8_t *register_taints, size_t register_taints_length,
+    uint64_t origin, uint64_t readonly,
+    uint8_t *memory, size_t memory_length,
+    uint8_t *taint, size_t taint_length,
+    uint64_t *trace, size_t trace_length);
+
+/*
+ * Writes the line of text of a word to the start of a buffer, without a zero at its end. Answers 0, 2, 3 or 10;
+ * the buffer changes only with 0. A buffer of 128 bytes suffices for every line.
+ */
+struct milestarling_text_reply milestarling_text(uint32_t word, uint8_t *buffer, size_t buffer_length);
+
+/* The word whose line a text is. Answers 0 or 9. */
+struct milestarling_word_reply milestarling_word(const uint8_t *text, size_t text_length);
+
+/*
+ * Writes the listing of little-endian words to the start of an output: a line for each with the word, its text and
+ * its answer 0, 2, 3 or 4, and a line for bytes that are left over. Answers 0 or 10; the output changes only with 0.
+ */
+struct milestarling_text_reply milestarling_list(
+    const uint8_t *bytes, size_t bytes_length, uint8_t *output, size_t output_length);
+
+#endif
