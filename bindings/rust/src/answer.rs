@@ -1,0 +1,188 @@
+use std::error::Error;
+use std::fmt;
+
+/// An answer, with its number in document 01.
+///
+/// ```
+/// use milestarling::Answer;
+///
+/// assert_eq!(Answer::OutOfWindow.number(), 7);
+/// assert_eq!(Answer::try_from(8), Ok(Answer::ReadOnly));
+/// assert!(Answer::try_from(12).is_err());
+/// assert_eq!(Answer::TaintedAddress.to_string(), "the address would come from a secret value");
+/// ```
+#[derive(Clone, Copy, Debug, PartialEq, Eq, PartialOrd, Ord, Hash)]
+#[repr(u8)]
+pub enum Answer {
+    /// It was done.
+    Done = 0,
+    /// The window, the number of taint bytes or PC is wrong.
+    BadWindow = 1,
+    /// The word is no load or store that this machine takes.
+    NotInSet = 2,
+    /// The word is one of the loads and stores that Arm left undefined.
+    Undefined = 3,
+    /// The word is allocated, and its registers collide.
+    Unpredictable = 4,
+    /// The base or the index register is tainted.
+    TaintedAddress = 5,
+    /// An ordered access crosses the border of a 16-byte block.
+    Misaligned = 6,
+    /// The access isn't wholly inside the window.
+    OutOfWindow = 7,
+    /// A store touches the read-only beginning of the window.
+    ReadOnly = 8,
+    /// The text isn't the line of any word.
+    NoSuchText = 9,
+    /// A lent buffer or trace is too short.
+    NoRoom = 10,
+    /// No word has this instruction.
+    NoSuchInstruction = 11,
+}
+
+impl Answer {
+    /// All answers, in the order of their numbers.
+    pub const ALL: [Answer; 12] = [
+        Answer::Done,
+        Answer::BadWindow,
+        Answer::NotInSet,
+        Answer::Undefined,
+        Answer::Unpredictable,
+        Answer::TaintedAddress,
+        Answer::Misaligned,
+        Answer::OutOfWindow,
+        Answer::ReadOnly,
+        Answer::NoSuchText,
+        Answer::NoRoom,
+        Answer::NoSuchInstruction,
+    ];
+
+    /// The number in document 01.
+    pub const fn number(self) -> u8 {
+        self as u8
+    }
+
+    /// Whether this is any answer but [`Answer::Done`].
+    pub const fn is_refusal(self) -> bool {
+        !matches!(self, Answer::Done)
+    }
+
+    /// The answer of a number that the library gave. It is proved to give no others.
+    pub(crate) fn of_reply(number: u64) -> Answer {
+        Answer::try_from(number).expect("libhost.a is of another version: it gave an unknown answer")
+    }
+}
+
+/// What is wrong, in words for a help desk.
+impl fmt::Display for Answer {
+    fn fmt(&self, f: &mut fmt::Formatter<'_>) -> fmt::Result {
+        f.pad(match self {
+            Answer::Done => "done",
+            Answer::BadWindow => "the memory window, the number of its taint bytes or the program counter is wrong",
+            Answer::NotInSet => "the word is no load or store that this machine takes",
+            Answer::Undefined => "the word is an undefined load or store",
+            Answer::Unpredictable => "the word names the same register twice where it must not",
+            Answer::TaintedAddress => "the address would come from a secret value",
+            Answer::Misaligned => "the ordered access crosses the border of a 16-byte block",
+            Answer::OutOfWindow => "the access isn't wholly inside the memory window",
+            Answer::ReadOnly => "the store touches read-only memory",
+            Answer::NoSuchText => "the text isn't the line of any load or store",
+            Answer::NoRoom => "the buffer or the trace lent is too short",
+            Answer::NoSuchInstruction => "no word has this instruction",
+        })
+    }
+}
+
+/// A number that is no answer's.
+#[derive(Clone, Copy, Debug, PartialEq, Eq)]
+pub struct UnknownAnswer(
+    /// The number.
+    pub u64,
+);
+
+impl fmt::Display for UnknownAnswer {
+    fn fmt(&self, f: &mut fmt::Formatter<'_>) -> fmt::Result {
+        write!(f, "{} is no answer's number", self.0)
+    }
+}
+
+impl Error for UnknownAnswer {}
+
+impl TryFrom<u64> for Answer {
+    type Error = UnknownAnswer;
+
+    fn try_from(number: u64) -> Result<Answer, UnknownAnswer> {
+        let place = usize::try_from(number).ok();
+        place.and_then(|place| Answer::ALL.get(place)).copied().ok_or(UnknownAnswer(number))
+    }
+}
+
+impl From<Answer> for u8 {
+    fn from(answer: Answer) -> u8 {
+        answer.number()
+    }
+}
+
+/// An answer other than [`Answer::Done`], as an error.
+///
+/// Of a run it says how many steps were done before it: their effects stay, and the refused step has none.
+///
+/// ```
+/// use milestarling::{Answer, Machine, Window};
+///
+/// let mut machine = Machine::new(Window::at(4096), vec![0; 16], vec![0; 16]);
+/// let refusal = machine.step(0xf9400020).unwrap_err(); // ldr x0, [x1], with 0 in x1
+/// assert_eq!(refusal.answer(), Answer::OutOfWindow);
+/// assert_eq!(refusal.address(), Some(0));
+/// assert_eq!(refusal.to_string(), "refused (7): the access isn't wholly inside the memory window, at address 0x0");
+/// ```
+#[derive(Clone, Copy, Debug, PartialEq, Eq)]
+pub struct Refusal {
+    answer: Answer,
+    steps: usize,
+    address: u64,
+}
+
+impl Refusal {
+    /// Of a call that does no steps.
+    pub(crate) fn new(answer: Answer) -> Refusal {
+        Refusal::after(0, answer, 0)
+    }
+
+    pub(crate) fn after(steps: usize, answer: Answer, address: u64) -> Refusal {
+        debug_assert!(answer.is_refusal());
+        Refusal { answer, steps, address }
+    }
+
+    /// Why.
+    pub fn answer(&self) -> Answer {
+        self.answer
+    }
+
+    /// The steps of the run that were done before it.
+    pub fn steps(&self) -> usize {
+        self.steps
+    }
+
+    /// The address of the access that was refused, for the answers that come after an address is known.
+    pub fn address(&self) -> Option<u64> {
+        let known = matches!(self.answer, Answer::Misaligned | Answer::OutOfWindow | Answer::ReadOnly);
+        known.then_some(self.address)
+    }
+}
+
+impl fmt::Display for Refusal {
+    fn fmt(&self, f: &mut fmt::Formatter<'_>) -> fmt::Result {
+        write!(f, "refused ({}): {}", self.answer.number(), self.answer)?;
+        if let Some(address) = self.address() {
+            write!(f, ", at address {address:#x}")?;
+        }
+        match self.steps {
+            0 => Ok(()),
+            1 => f.write_str(", after 1 step"),
+            steps => write!(f, ", after {steps} steps"),
+        }
+    }
+}
+
+impl Error for Refusal {}

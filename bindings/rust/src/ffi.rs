@@ -1,0 +1,89 @@
+//! The only unsafe code: the four functions of `libhost.a`, and their safe forms over slices.
+
+#![allow(unsafe_code)]
+
+use crate::raw::{RunReply, TextReply, WordReply};
+
+extern "C" {
+    fn milestarling_run(
+        words: *const u32,
+        words_len: usize,
+        registers: *mut u64,
+        registers_len: usize,
+        register_taints: *mut u8,
+        register_taints_len: usize,
+        origin: u64,
+        readonly: u64,
+        memory: *mut u8,
+        memory_len: usize,
+        taint: *mut u8,
+        taint_len: usize,
+        trace: *mut u64,
+        trace_len: usize,
+    ) -> RunReply;
+    fn milestarling_text(word: u32, buffer: *mut u8, buffer_len: usize) -> TextReply;
+    fn milestarling_word(text: *const u8, text_len: usize) -> WordReply;
+    fn milestarling_list(bytes: *const u8, bytes_len: usize, output: *mut u8, output_len: usize) -> TextReply;
+}
+
+// All four are proved for any numbers and any slices, without a trap and without an endless loop. What is left for a
+// caller to see to is what a slice promises: its bytes are there, and nobody else writes them, or reads what a `&mut`
+// lends, during the call. A Rust slice promises just that, so these functions are safe.
+
+#[allow(clippy::too_many_arguments)]
+#[inline]
+pub(crate) fn run(
+    words: &[u32],
+    registers: &mut [u64],
+    register_taints: &mut [u8],
+    origin: u64,
+    readonly: u64,
+    memory: &mut [u8],
+    taint: &mut [u8],
+    trace: &mut [u64],
+) -> RunReply {
+    // SAFETY: each pointer and length come from one slice.
+    unsafe {
+        milestarling_run(
+            words.as_ptr(),
+            words.len(),
+            registers.as_mut_ptr(),
+            registers.len(),
+            register_taints.as_mut_ptr(),
+            register_taints.len(),
+            origin,
+            readonly,
+            memory.as_mut_ptr(),
+            memory.len(),
+            taint.as_mut_ptr(),
+            taint.len(),
+            trace.as_mut_ptr(),
+            trace.len(),
+        )
+    }
+}
+
+#[inline]
+pub(crate) fn text(word: u32, buffer: &mut [u8]) -> TextReply {
+    // SAFETY: pointer and length come from one slice.
+    unsafe { milestarling_text(word, buffer.as_mut_ptr(), buffer.len()) }
+}
+
+#[inline]
+pub(crate) fn word(text: &[u8]) -> WordReply {
+    // SAFETY: pointer and length come from one slice.
+    unsafe { milestarling_word(text.as_ptr(), text.len()) }
+}
+
+#[inline]
+pub(crate) fn list(bytes: &[u8], output: &mut [u8]) -> TextReply {
+    // SAFETY: each pointer and length come from one slice.
+    unsafe { milestarling_list(bytes.as_ptr(), bytes.len(), output.as_mut_ptr(), output.len()) }
+}
+
+/// The trace as the library writes it, two numbers for each step.
+#[inline]
+pub(crate) fn rows(trace: &mut [crate::Access]) -> &mut [u64] {
+    // SAFETY: an `Access` is two `u64` in C's layout, without padding, and any two numbers are one.
+    unsafe { std::slice::from_raw_parts_mut(trace.as_mut_ptr().cast(), trace.len() * 2) }
+}
