@@ -1,0 +1,312 @@
+//! "Lines of text", from the line to the word.
+//!
+//! A line is taken apart by its grammar, from left to right, and every piece has exactly one spelling. Nothing is
+//! printed and compared, so that a fault of the writer can't hide in the reader.
+
+use super::NO_SUCH_TEXT;
+use Kind::*;
+
+#[derive(Clone, Copy, PartialEq)]
+enum Kind {
+    Plain,
+    Unscaled,
+    Ordered,
+    Pair,
+    NoAllocatePair,
+}
+
+/// A mnemonic, with the registers that it takes: W, X, either, or the number of a prefetch.
+struct Name {
+    text: &'static str,
+    kind: Kind,
+    /// Size and opc where W, X or a number is the first operand; for a pair only opc, and L.
+    w: Option<(u32, u32)>,
+    x: Option<(u32, u32)>,
+    hint: Option<(u32, u32)>,
+}
+
+const fn name(text: &'static str, kind: Kind, w: Option<(u32, u32)>, x: Option<(u32, u32)>) -> Name {
+    Name { text, kind, w, x, hint: None }
+}
+
+const fn prefetch(text: &'static str, kind: Kind) -> Name {
+    Name { text, kind, w: None, x: None, hint: Some((3, 2)) }
+}
+
+const NAMES: [Name; 34] = [
+    name("strb", Plain, Some((0, 0)), None),
+    name("ldrb", Plain, Some((0, 1)), None),
+    name("ldrsb", Plain, Some((0, 3)), Some((0, 2))),
+    name("strh", Plain, Some((1, 0)), None),
+    name("ldrh", Plain, Some((1, 1)), None),
+    name("ldrsh", Plain, Some((1, 3)), Some((1, 2))),
+    name("str", Plain, Some((2, 0)), Some((3, 0))),
+    name("ldr", Plain, Some((2, 1)), Some((3, 1))),
+    name("ldrsw", Plain, None, Some((2, 2))),
+    prefetch("prfm", Plain),
+    name("sturb", Unscaled, Some((0, 0)), None),
+    name("ldurb", Unscaled, Some((0, 1)), None),
+    name("ldursb", Unscaled, Some((0, 3)), Some((0, 2))),
+    name("sturh", Unscaled, Some((1, 0)), None),
+    name("ldurh", Unscaled, Some((1, 1)), None),
+    name("ldursh", Unscaled, Some((1, 3)), Some((1, 2))),
+    name("stur", Unscaled, Some((2, 0)), Some((3, 0))),
+    name("ldur", Unscaled, Some((2, 1)), Some((3, 1))),
+    name("ldursw", Unscaled, None, Some((2, 2))),
+    prefetch("prfum", Unscaled),
+    name("stlurb", Ordered, Some((0, 0)), None),
+    name("ldapurb", Ordered, Some((0, 1)), None),
+    name("ldapursb", Ordered, Some((0, 3)), Some((0, 2))),
+    name("stlurh", Ordered, Some((1, 0)), None),
+    name("ldapurh", Ordered, Some((1, 1)), None),
+    name("ldapursh", Ordered, Some((1, 3)), Some((1, 2))),
+    name("stlur", Ordered, Some((2, 0)), Some((3, 0))),
+    name("ldapur", Ordered, Some((2, 1)), Some((3, 1))),
+    name("ldapursw", Ordered, None, Some((2, 2))),
+    // Of a pair: opc and L.
+    name("stp", Pair, Some((0, 0)), Some((2, 0))),
+    name("ldp", Pair, Some((0, 1)), Some((2, 1))),
+    name("ldpsw", Pair, None, Some((1, 1))),
+    name("stnp", NoAllocatePair, Some((0, 0)), Some((2, 0))),
+    name("ldnp", NoAllocatePair, Some((0, 1)), Some((2, 1))),
+];
+
+/// What is left of a line.
+struct Scanner<'a>(&'a [u8]);
+
+impl<'a> Scanner<'a> {
+    fn takes(&mut self, piece: &str) -> bool {
+        match self.0.strip_prefix(piece.as_bytes()) {
+            None => false,
+            Some(rest) => {
+                self.0 = rest;
+                true
+            }
+        }
+    }
+
+    fn expect(&mut self, piece: &str) -> Option<()> {
+        self.takes(piece).then_some(())
+    }
+
+    /// Decimal digits without a leading zero.
+    fn natural(&mut self) -> Option<i64> {
+        let digits = self.0.iter().take_while(|byte| byte.is_ascii_digit()).count();
+        let (number, rest) = self.0.split_at(digits);
+        if digits == 0 || digits > 1 && number[0] == b'0' {
+            return None;
+        }
+        self.0 = rest;
+        // More digits than any offset has are a number that is out of every range.
+        std::str::from_utf8(number).ok()?.parse().ok()
+    }
+
+    /// A number with its sign. There is no negative zero.
+    fn integer(&mut self) -> Option<i64> {
+        self.expect("#")?;
+        if !self.takes("-") {
+            return self.natural();
+        }
+        self.natural().filter(|&number| number != 0).map(|number| -number)
+    }
+
+    /// A register that is 0 where its number is 31: whether it is an X, and the number.
+    fn data(&mut self) -> Option<(bool, u32)> {
+        let wide = self.takes("x");
+        if !wide {
+            self.expect("w")?;
+        }
+        if self.takes("zr") {
+            return Some((wide, 31));
+        }
+        let number = self.natural().filter(|&number| number <= 30)?;
+        Some((wide, number as u32))
+    }
+
+    fn base(&mut self) -> Option<u32> {
+        if self.takes("sp") {
+            return Some(31);
+        }
+        self.expect("x")?;
+        self.natural().filter(|&number| number <= 30).map(|number| number as u32)
+    }
+
+    fn end(&self) -> Option<()> {
+        self.0.is_empty().then_some(())
+    }
+}
+
+/// A number that is a multiple of 2^scale and fits, divided, into a signed field of so many bits.
+fn signed_field(number: i64, scale: u32, bits: u32) -> Option<u32> {
+    let half = 1 << (bits - 1);
+    let divided = number >> scale;
+    (divided << scale == number && (-half..half).contains(&divided)).then_some(divided as u32 & ((1 << bits) - 1))
+}
+
+fn unsigned_field(number: i64, scale: u32, bits: u32) -> Option<u32> {
+    let divided = number >> scale;
+    (divided << scale == number && (0..1 << bits).contains(&divided)).then_some(divided as u32)
+}
+
+/// Where the access is, as the end of a line says it.
+enum Place {
+    /// `[x1]` or `[x1, #8]`.
+    Offset(u32, i64),
+    Post(u32, i64),
+    Pre(u32, i64),
+    /// Base, index, option, and the amount where one is shown.
+    Index(u32, u32, u32, Option<i64>),
+    Literal(i64),
+}
+
+fn place(scanner: &mut Scanner) -> Option<Place> {
+    if !scanner.takes("[") {
+        let offset = scanner.integer()?;
+        scanner.end()?;
+        return Some(Place::Literal(offset));
+    }
+    let base = scanner.base()?;
+    let place = if scanner.takes("]") {
+        if scanner.takes(", ") {
+            Place::Post(base, scanner.integer()?)
+        } else {
+            Place::Offset(base, 0)
+        }
+    } else {
+        scanner.expect(", ")?;
+        if scanner.0.first() == Some(&b'#') {
+            let offset = scanner.integer()?;
+            scanner.expect("]")?;
+            if scanner.takes("!") {
+                Place::Pre(base, offset)
+            } else if offset == 0 {
+                // A zero isn't shown here.
+                return None;
+            } else {
+                Place::Offset(base, offset)
+            }
+        } else {
+            index(scanner, base)?
+        }
+    };
+    scanner.end()?;
+    Some(place)
+}
+
+fn index(scanner: &mut Scanner, base: u32) -> Option<Place> {
+    let (wide, number) = scanner.data()?;
+    if scanner.takes("]") {
+        return wide.then_some(Place::Index(base, number, 0b011, None));
+    }
+    scanner.expect(", ")?;
+    let option = if wide && scanner.takes("lsl") {
+        0b011
+    } else if wide && scanner.takes("sxtx") {
+        0b111
+    } else if !wide && scanner.takes("uxtw") {
+        0b010
+    } else if !wide && scanner.takes("sxtw") {
+        0b110
+    } else {
+        return None;
+    };
+    let amount = if scanner.takes(" #") {
+        Some(scanner.natural()?)
+    } else if option == 0b011 {
+        // An lsl is shown only with its amount.
+        return None;
+    } else {
+        None
+    };
+    scanner.expect("]")?;
+    Some(Place::Index(base, number, option, amount))
+}
+
+fn pair(scanner: &mut Scanner, kind: Kind, opc: u32, load: u32, wide: bool) -> Option<u32> {
+    let (also_wide, second) = scanner.data()?;
+    if also_wide != wide {
+        return None;
+    }
+    scanner.expect(", ")?;
+    let (mode, base, offset) = match (kind, place(scanner)?) {
+        (NoAllocatePair, Place::Offset(base, offset)) => (0b00, base, offset),
+        (Pair, Place::Post(base, offset)) => (0b01, base, offset),
+        (Pair, Place::Offset(base, offset)) => (0b10, base, offset),
+        (Pair, Place::Pre(base, offset)) => (0b11, base, offset),
+        _ => return None,
+    };
+    let scale = if opc == 0b10 { 3 } else { 2 };
+    let offset = signed_field(offset, scale, 7)?;
+    Some(opc << 30 | 0b101 << 27 | mode << 23 | load << 22 | offset << 15 | second << 10 | base << 5)
+}
+
+fn single(kind: Kind, size: u32, opc: u32, place: Place) -> Option<u32> {
+    let top = size << 30 | 0b111 << 27 | opc << 22;
+    let is_prefetch = (size, opc) == (3, 2);
+    match (kind, place) {
+        (Plain, Place::Offset(base, offset)) => {
+            Some(top | 0b01 << 24 | unsigned_field(offset, size, 12)? << 10 | base << 5)
+        }
+        (Plain, Place::Post(base, offset)) if !is_prefetch => {
+            Some(top | signed_field(offset, 0, 9)? << 12 | 0b01 << 10 | base << 5)
+        }
+        (Plain, Place::Pre(base, offset)) if !is_prefetch => {
+            Some(top | signed_field(offset, 0, 9)? << 12 | 0b11 << 10 | base << 5)
+        }
+        (Plain, Place::Index(base, number, option, amount)) => {
+            let shifted = match amount {
+                None => 0,
+                Some(amount) if amount == size as i64 => 1,
+                Some(_) => return None,
+            };
+            let rest = number << 16 | option << 13 | shifted << 12 | 0b10 << 10 | base << 5;
+            Some(top | 1 << 21 | rest)
+        }
+        (Plain, Place::Literal(offset)) => {
+            let opc = match (size, opc) {
+                (2, 1) => 0b00,
+                (3, 1) => 0b01,
+                (2, 2) => 0b10,
+                (3, 2) => 0b11,
+                _ => return None,
+            };
+            Some(opc << 30 | 0b011 << 27 | signed_field(offset, 2, 19)? << 5)
+        }
+        (Unscaled, Place::Offset(base, offset)) => Some(top | signed_field(offset, 0, 9)? << 12 | base << 5),
+        (Ordered, Place::Offset(base, offset)) => {
+            let top = size << 30 | 0b011 << 27 | 0b01 << 24 | opc << 22;
+            Some(top | signed_field(offset, 0, 9)? << 12 | base << 5)
+        }
+        _ => None,
+    }
+}
+
+fn word_of(text: &[u8]) -> Option<u32> {
+    let space = text.iter().position(|&byte| byte == b' ')?;
+    let (mnemonic, rest) = text.split_at(space);
+    let name = NAMES.iter().find(|name| name.text.as_bytes() == mnemonic)?;
+    let mut scanner = Scanner(rest);
+    scanner.expect(" ")?;
+    if scanner.takes("#") {
+        let (size, opc) = name.hint?;
+        let hint = scanner.natural().filter(|&number| number <= 31)?;
+        scanner.expect(", ")?;
+        return Some(single(name.kind, size, opc, place(&mut scanner)?)? | hint as u32);
+    }
+    let (wide, register) = scanner.data()?;
+    let (size, opc) = if wide { name.x? } else { name.w? };
+    scanner.expect(", ")?;
+    let rest = match name.kind {
+        Pair | NoAllocatePair => pair(&mut scanner, name.kind, size, opc, wide)?,
+        _ => single(name.kind, size, opc, place(&mut scanner)?)?,
+    };
+    Some(rest | register)
+}
+
+/// The word whose line this is: the answer and the word.
+pub fn read(text: &[u8]) -> (u8, u32) {
+    match word_of(text) {
+        None => (NO_SUCH_TEXT, 0),
+        Some(word) => (super::DONE, word),
+    }
+}

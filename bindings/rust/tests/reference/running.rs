@@ -1,0 +1,193 @@
+//! "Memory, marks and the trace": the step and the run.
+
+use super::decoding::{decode, Family, Instruction, Operation};
+use super::*;
+
+/// The register file. Number 31 is SP.
+#[derive(Clone, Debug, PartialEq, Eq)]
+pub struct State {
+    pub registers: [u64; 32],
+    pub taints: [bool; 32],
+    pub pc: u64,
+}
+
+#[derive(Clone, Copy, Debug, PartialEq, Eq)]
+pub struct Window {
+    pub origin: u64,
+    pub readonly: u64,
+}
+
+/// What the last step tried says, and how many were done before it or with it.
+#[derive(Clone, Copy, Debug, PartialEq, Eq)]
+pub struct Outcome {
+    pub steps: u64,
+    pub answer: u8,
+    pub code: u64,
+    pub address: u64,
+}
+
+struct Refused {
+    answer: u8,
+    address: u64,
+}
+
+impl State {
+    /// A register in a place where 31 is zero.
+    fn data(&self, number: u8) -> (u64, bool) {
+        match number {
+            31 => (0, false),
+            _ => (self.registers[number as usize], self.taints[number as usize]),
+        }
+    }
+
+    fn set_data(&mut self, number: u8, value: u64, tainted: bool) {
+        if number != 31 {
+            self.registers[number as usize] = value;
+            self.taints[number as usize] = tainted;
+        }
+    }
+}
+
+fn is_bad(window: Window, len: usize, taints: usize, pc: u64) -> bool {
+    window.origin as u128 + len as u128 > 1 << 64
+        || window.readonly > len as u64
+        || taints != len
+        || !pc.is_multiple_of(4)
+}
+
+fn index(instruction: &Instruction, value: u64) -> u64 {
+    let taken = match instruction.option {
+        0b010 => value as u32 as u64,
+        0b110 => value as i32 as u64,
+        _ => value,
+    };
+    if instruction.shifted {
+        taken << instruction.size
+    } else {
+        taken
+    }
+}
+
+/// The value that a register gets from the bytes of its part of a load.
+fn joined(instruction: &Instruction, bytes: &[u8]) -> u64 {
+    let mut whole = [0; 8];
+    whole[..bytes.len()].copy_from_slice(bytes);
+    let value = u64::from_le_bytes(whole);
+    let above = 64 - 8 * bytes.len() as u32;
+    let signed = ((value << above) as i64 >> above) as u64;
+    match instruction.operation {
+        Operation::LoadSigned64 => signed,
+        Operation::LoadSigned32 => signed as u32 as u64,
+        _ => value,
+    }
+}
+
+/// A step whose window and PC were tested: the code and the address.
+fn walk(
+    word: u32,
+    state: &mut State,
+    window: Window,
+    memory: &mut [u8],
+    taint: &mut [u8],
+) -> Result<(u64, u64), Refused> {
+    let early = |answer| Refused { answer, address: 0 };
+    let instruction = decode(word).map_err(early)?;
+    if instruction.operation == Operation::Prefetch {
+        state.pc = state.pc.wrapping_add(4);
+        return Ok((0, 0));
+    }
+    if instruction.is_unpredictable() {
+        return Err(early(UNPREDICTABLE));
+    }
+    let (base, address) = if instruction.family == Family::Literal {
+        (0, state.pc.wrapping_add(instruction.offset as u64))
+    } else {
+        let (base, shift) = (instruction.rn as usize, state.data(instruction.rm));
+        let has_index = instruction.family == Family::Register;
+        if state.taints[base] || has_index && shift.1 {
+            return Err(early(TAINTED_ADDRESS));
+        }
+        let base = state.registers[base];
+        if has_index {
+            (base, base.wrapping_add(index(&instruction, shift.0)))
+        } else if instruction.is_post() {
+            (base, base)
+        } else {
+            (base, base.wrapping_add(instruction.offset as u64))
+        }
+    };
+    let width = 1usize << instruction.size;
+    let length = if instruction.is_pair() { 2 * width } else { width };
+    let refused = |answer| Err(Refused { answer, address });
+    if instruction.family == Family::Ordered && address % 16 + length as u64 > 16 {
+        return refused(MISALIGNED);
+    }
+    let end = window.origin as u128 + memory.len() as u128;
+    if address < window.origin || address as u128 + length as u128 > end {
+        return refused(OUT_OF_WINDOW);
+    }
+    let at = address - window.origin;
+    if instruction.is_store() && at < window.readonly {
+        return refused(READ_ONLY);
+    }
+    // Nothing is refused from here on, so that nothing was changed by a refused step.
+    let at = at as usize;
+    let memory = &mut memory[at..at + length];
+    let taint = &mut taint[at..at + length];
+    let moved = [instruction.rt, instruction.rt2];
+    let parts = memory.chunks_exact_mut(width).zip(taint.chunks_exact_mut(width)).zip(moved);
+    if instruction.is_store() {
+        for ((bytes, taints), register) in parts {
+            let (value, tainted) = state.data(register);
+            bytes.copy_from_slice(&value.to_le_bytes()[..width]);
+            taints.fill(tainted as u8);
+        }
+    } else {
+        for ((bytes, taints), register) in parts {
+            let tainted = taints.iter().any(|&byte| byte != 0);
+            state.set_data(register, joined(&instruction, bytes), tainted);
+        }
+    }
+    if instruction.writes_back() {
+        state.registers[instruction.rn as usize] = base.wrapping_add(instruction.offset as u64);
+        state.taints[instruction.rn as usize] = false;
+    }
+    state.pc = state.pc.wrapping_add(4);
+    let direction = if instruction.is_store() { 64 } else { 0 };
+    Ok((length as u64 + direction, address))
+}
+
+/// A run. Everything lent is changed in place.
+pub fn run(
+    words: &[u32],
+    state: &mut State,
+    window: Window,
+    memory: &mut [u8],
+    taint: &mut [u8],
+    trace: &mut [u64],
+) -> Outcome {
+    let mut outcome = Outcome { steps: 0, answer: DONE, code: 0, address: 0 };
+    if is_bad(window, memory.len(), taint.len(), state.pc) {
+        outcome.answer = BAD_WINDOW;
+        return outcome;
+    }
+    if trace.len() < 2 * words.len() {
+        outcome.answer = NO_ROOM;
+        return outcome;
+    }
+    for (&word, row) in words.iter().zip(trace.chunks_exact_mut(2)) {
+        match walk(word, state, window, memory, taint) {
+            Ok((code, address)) => {
+                row.copy_from_slice(&[code, address]);
+                outcome.steps += 1;
+                (outcome.code, outcome.address) = (code, address);
+            }
+            Err(refused) => {
+                outcome.answer = refused.answer;
+                (outcome.code, outcome.address) = (0, refused.address);
+                return outcome;
+            }
+        }
+    }
+    outcome
+}

@@ -1,0 +1,94 @@
+//! What the tests make their inputs of. The same seed gives the same inputs on every machine.
+
+// Each test takes the part that it needs.
+#![allow(dead_code)]
+
+/// Steele, Lea and Flood's SplitMix64.
+pub struct Random(u64);
+
+impl Random {
+    pub fn new(seed: u64) -> Random {
+        Random(seed)
+    }
+
+    pub fn next(&mut self) -> u64 {
+        self.0 = self.0.wrapping_add(0x9e37_79b9_7f4a_7c15);
+        let mixed = (self.0 ^ self.0 >> 30).wrapping_mul(0xbf58_476d_1ce4_e5b9);
+        let mixed = (mixed ^ mixed >> 27).wrapping_mul(0x94d0_49bb_1331_11eb);
+        mixed ^ mixed >> 31
+    }
+
+    pub fn word(&mut self) -> u32 {
+        (self.next() >> 32) as u32
+    }
+
+    /// A number below a limit, which isn't 0.
+    pub fn below(&mut self, limit: usize) -> usize {
+        ((self.next() as u128 * limit as u128) >> 64) as usize
+    }
+
+    /// True once in so many times.
+    pub fn once_in(&mut self, times: usize) -> bool {
+        self.below(times) == 0
+    }
+
+    pub fn choose<'a, T>(&mut self, from: &'a [T]) -> &'a T {
+        &from[self.below(from.len())]
+    }
+
+    pub fn fill(&mut self, bytes: &mut [u8]) {
+        for part in bytes.chunks_mut(8) {
+            let random = self.next().to_le_bytes();
+            part.copy_from_slice(&random[..part.len()]);
+        }
+    }
+}
+
+/// The bits that each line of 01's table fixes, and their values: literal, pair, ordered, unscaled, post, pre,
+/// register, unsigned.
+pub const LINES: [(u32, u32); 8] = [
+    (0x3f00_0000, 0x1800_0000),
+    (0x3e00_0000, 0x2800_0000),
+    (0x3f20_0c00, 0x1900_0000),
+    (0x3f20_0c00, 0x3800_0000),
+    (0x3f20_0c00, 0x3800_0400),
+    (0x3f20_0c00, 0x3800_0c00),
+    (0x3f20_0c00, 0x3820_0800),
+    (0x3f00_0000, 0x3900_0000),
+];
+
+/// The fields that hold a register or a number in some line, as highest and lowest bit.
+const FIELDS: [(u32, u32); 8] = [(4, 0), (9, 5), (14, 10), (20, 16), (21, 15), (20, 12), (21, 10), (23, 5)];
+
+/// A word of a line of the table, whatever else it is.
+pub fn word_of_line(random: &mut Random) -> u32 {
+    let (mask, value) = *random.choose(&LINES);
+    let mut word = random.word();
+    // The ends of a field come up seldom by chance.
+    while random.once_in(3) {
+        let (high, low) = *random.choose(&FIELDS);
+        let ones = ((1u64 << (high - low + 1)) - 1) as u32;
+        let edge = *random.choose(&[0, 1, ones, ones - 1, ones >> 1, (ones >> 1) + 1]);
+        word = word & !(ones << low) | edge << low;
+    }
+    word & !mask | value
+}
+
+/// A word, of the set or just beside it or of any kind.
+pub fn any_word(random: &mut Random) -> u32 {
+    match random.below(8) {
+        0 => random.word(),
+        1 => word_of_line(random) ^ 1 << random.below(32),
+        _ => word_of_line(random),
+    }
+}
+
+/// An allocated word.
+pub fn allocated_word(random: &mut Random) -> u32 {
+    loop {
+        let word = word_of_line(random);
+        if crate::reference::decoding::decode(word).is_ok() {
+            return word;
+        }
+    }
+}
