@@ -49,10 +49,7 @@ impl State {
 }
 
 fn is_bad(window: Window, len: usize, taints: usize, pc: u64) -> bool {
-    window.origin as u128 + len as u128 > 1 << 64
-        || window.readonly > len as u64
-        || taints != len
-        || !pc.is_multiple_of(4)
+    window.origin as u128 + len as u128 > 1 << 64 || window.readonly > len as u64 || taints != len || pc & 3 != 0
 }
 
 fn index(instruction: &Instruction, value: u64) -> u64 {
