@@ -125,8 +125,8 @@ impl Load {
         registers
     }
 
-    /// One pass by the safe session, a step for each word.
-    fn by_session(&mut self) -> u64 {
+    /// One pass by the safe type, a step for each word.
+    fn by_machine(&mut self) -> u64 {
         let window = milestarling::Window::at(WINDOW.origin).readonly(WINDOW.readonly);
         let mut machine = Machine::new(window, &mut self.memory[..], &mut self.taint[..]);
         for (register, &value) in Register::all().zip(&self.state.registers) {
@@ -191,11 +191,11 @@ impl Rates {
 
     /// A table of which the first row is ours.
     fn show(&self, title: &str, unit: &str, rows: &[(String, &str)]) {
-        println!("\n{title:<44} {unit:>12} {:>14}", "ours / this");
+        println!("\n{title:<48} {unit:>12} {:>14}", "ours / this");
         for (name, shown) in rows {
             match self.0.get(name) {
-                Some(rate) => println!("    {shown:<40} {rate:>12.2} {:>14.2}", self.0[&rows[0].0] / rate),
-                None => println!("    {shown:<40} {:>12} {:>14}", "not built", "-"),
+                Some(rate) => println!("    {shown:<44} {rate:>12.2} {:>14.2}", self.0[&rows[0].0] / rate),
+                None => println!("    {shown:<44} {:>12} {:>14}", "not built", "-"),
             }
         }
     }
@@ -264,8 +264,8 @@ fn main() {
                     black_box(theirs.by_reference(length));
                 });
             }
-            rates.measure(&format!("{name} session"), LONG, || {
-                black_box(ours.by_session());
+            rates.measure(&format!("{name} machine"), LONG, || {
+                black_box(ours.by_machine());
             });
             let numbers = peer(&mut rates, "unicorn", &directory.join(name), name);
             if round == 0 {
@@ -296,8 +296,10 @@ fn main() {
         TIME.as_millis()
     );
     println!("buffers as the one before it.");
-    println!("Steps: {LONG} words, all done, each with an access, evenly of the eight families; {MEMORY} bytes of memory and");
-    println!("as many taint bytes, 1 in 16 tainted. After a pass all had left the same registers and memory.");
+    println!(
+        "Steps: {LONG} words, all done, each with an access, evenly of the eight families; {MEMORY} bytes of memory"
+    );
+    println!("and as many taint bytes, 1 in 16 tainted. After a pass all had left the same registers and memory.");
     for (name, title) in [("mixed", "loads and stores"), ("loads", "loads alone")] {
         for (length, hooked, plain) in
             [(LONG, "hooked", "plain"), (MIDDLE, "", ""), (1, "hooked by word", "plain by word")]
@@ -307,7 +309,7 @@ fn main() {
                 (format!("{name} reference {length}"), "reference in Rust"),
             ];
             if length == 1 {
-                rows.insert(1, (format!("{name} session"), "the same by Machine::step"));
+                rows.insert(1, (format!("{name} machine"), "the same by Machine::step"));
             }
             if !hooked.is_empty() {
                 rows.push((format!("{name} {hooked}"), "Unicorn, a hook that keeps a trace"));
@@ -334,8 +336,23 @@ fn main() {
         ("Capstone", "cs_disasm, all words at once"),
     ];
     rates.show("A whole listing", "M words/s", &listings.map(|(name, shown)| (name.to_string(), shown)));
-    println!("\nWhat differs: library and reference decode each word every time, test every access against the window and carry");
-    println!("taints. Unicorn does none of the three: it translates the words once and runs the translation through a software");
-    println!("memory unit, with its pages as the only test. It loops over the list by some more words of its own, so that it is");
-    println!("started once for many passes; word by word it is started for each. Its stores take a slower path than its loads.");
+    println!();
+    for line in DIFFERENCES {
+        println!("{line}");
+    }
 }
+
+const DIFFERENCES: [&str; 12] = [
+    "What differs. Library and reference decode each word every time, test every access against the window and carry",
+    "taints, in memory that they are lent. The reference keeps its registers in a struct of its own; the library",
+    "copies them in and out with each call. Unicorn has neither taints nor a window: it translates the words once and",
+    "runs the translation through a software memory unit, with its pages as the only test. For long lists it goes",
+    "round a loop of the guest, so that it is started once for many passes; word by word it is started for each. Every",
+    "store of Unicorn 2.0.1 takes a slow path, which looks for code to be translated anew, so loads alone are shown",
+    "too; and a hook sees a pair as two accesses.",
+    "LLVM and Capstone know the whole instruction set and print in their own notation. Both refuse most of the words",
+    "that are unpredictable, and Capstone 4 doesn't know the ordered ones. A listing has eight digits, two tabs, an",
+    "answer and a newline more for each word than their texts; milestarling_text writes the text alone.",
+    "Short measurements on a busy machine: compare the numbers of one run with each other, and not with those of",
+    "another.",
+];

@@ -123,6 +123,12 @@ impl From<Answer> for u8 {
     }
 }
 
+impl From<Answer> for u64 {
+    fn from(answer: Answer) -> u64 {
+        answer.number().into()
+    }
+}
+
 /// An answer other than [`Answer::Done`], as an error.
 ///
 /// Of a run it says how many steps were done before it: their effects stay, and the refused step has none.

@@ -67,9 +67,9 @@ impl fmt::Display for Access {
     }
 }
 
-/// A session: registers, and memory with its taints.
+/// Registers, and memory with its taints.
 ///
-/// `M` and `T` are whatever holds the bytes: a `Vec<u8>` or an array that the session owns, or a `&mut [u8]` that is
+/// `M` and `T` are whatever holds the bytes: a `Vec<u8>` or an array that the machine owns, or a `&mut [u8]` that is
 /// lent to it. In the taint buffer any byte but 0 means tainted; a store leaves 0 or 1.
 ///
 /// ```
@@ -106,7 +106,7 @@ pub struct Machine<M, T> {
 }
 
 impl<M: AsRef<[u8]> + AsMut<[u8]>, T: AsRef<[u8]> + AsMut<[u8]>> Machine<M, T> {
-    /// A session with all registers 0. Nothing is tested here: a window that doesn't fit is answered by each step and
+    /// A machine with all registers 0. Nothing is tested here: a window that doesn't fit is answered by each step and
     /// run with [`Answer::BadWindow`].
     pub fn new(window: Window, memory: M, taint: T) -> Machine<M, T> {
         Machine { registers: Registers::new(), window, memory, taint }
