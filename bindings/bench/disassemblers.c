@@ -49,14 +49,14 @@ static uint64_t by_capstone_one(void *context) {
 
 static void measure(const char *name, uint64_t (*pass)(void *), void *context) {
     uint64_t taken = pass(context);
-    double begin = now(), end;
-    size_t passes = 0;
-    do {
+    double begin = now(), last = begin, best = 1e9;
+    while (last - begin < SECONDS) {
         pass(context);
-        passes++;
-        end = now();
-    } while (end - begin < SECONDS);
-    report(name, (double)passes * (length / 4), end - begin, taken);
+        double end = now();
+        best = end - last < best ? end - last : best;
+        last = end;
+    }
+    report(name, (double)length / 4, best, taken);
 }
 
 int main(int arguments, char **argument) {

@@ -5,7 +5,7 @@
 #include <string.h>
 #include <time.h>
 
-// A measurement ends with the first pass after so long.
+// A measurement ends with the first pass after so long. Its best pass counts.
 #define SECONDS 0.1
 
 static inline double now(void) {
@@ -34,7 +34,7 @@ static inline void *read_file(const char *directory, const char *name, size_t *l
     return content;
 }
 
-// A name, how many were done in the time, and a number to compare.
+// A name, how many were done in the best pass, its time, and a number to compare.
 static inline void report(const char *name, double done, double seconds, uint64_t number) {
     printf("%s\t%.0f\t%.9f\t%016llx\n", name, done, seconds, (unsigned long long)number);
     fflush(stdout);

@@ -23,7 +23,7 @@ static size_t traced;
 
 // A page of its own for what the loop counts, since a store beside code would have it translated anew.
 #define COUNTER 0x10000000
-#define LOOPS 32
+#define LOOPS 16
 
 static void check(uc_err error, const char *what) {
     if (error != UC_ERR_OK) {
@@ -136,14 +136,14 @@ static void measure(const char *name, int hooked, int by_word) {
     }
     // One more for the translation.
     pass(uc, by_word, loops);
-    double begin = now(), end;
-    size_t passes = 0;
-    do {
+    double begin = now(), last = begin, best = 1e9;
+    while (last - begin < SECONDS) {
         pass(uc, by_word, loops);
-        passes += loops;
-        end = now();
-    } while (end - begin < SECONDS);
-    report(name, (double)passes * count, end - begin, number);
+        double end = now();
+        best = end - last < best ? end - last : best;
+        last = end;
+    }
+    report(name, (double)loops * count, best, number);
     uc_close(uc);
 }
 

@@ -3,7 +3,7 @@
 //!     make -C ../bench && cargo run --release --example bench
 //!
 //! The programs of `../bench` are left out where they aren't built. All take turns, so that a busy moment of the
-//! machine harms no one of them alone, and the best round of each counts.
+//! machine harms no one of them alone, and the best pass of each counts.
 
 #[path = "../tests/reference/mod.rs"]
 mod reference;
@@ -177,16 +177,15 @@ impl Rates {
         *best = best.max(done / seconds / 1e6);
     }
 
-    /// Does passes of so many until the time is over.
+    /// Does passes of so many until the time is over. The best pass counts, as one that nothing else broke into.
     fn measure(&mut self, name: &str, each: usize, mut pass: impl FnMut()) {
         pass();
         let begin = Instant::now();
-        let mut passes = 0;
         while begin.elapsed() < TIME {
+            let start = Instant::now();
             pass();
-            passes += 1;
+            self.add(name, each as f64, start.elapsed().as_secs_f64());
         }
-        self.add(name, (passes * each) as f64, begin.elapsed().as_secs_f64());
     }
 
     /// A table of which the first row is ours.
@@ -292,10 +291,10 @@ fn main() {
     fs::remove_dir_all(&directory).unwrap();
 
     println!(
-        "The best of {ROUNDS} rounds of {} ms each, all taking turns. Caches are warm: a pass goes over the same",
+        "The best pass of {ROUNDS} rounds of {} ms each, all taking turns. Caches are warm: a pass",
         TIME.as_millis()
     );
-    println!("buffers as the one before it.");
+    println!("goes over the same buffers as the one before it.");
     println!(
         "Steps: {LONG} words, all done, each with an access, evenly of the eight families; {MEMORY} bytes of memory"
     );
