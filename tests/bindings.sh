@@ -1,10 +1,7 @@
 #!/usr/bin/env bash
-# Tests the Rust package over the static library and times it beside its peers. From a fresh clone, with Rust 1.70 or later:
-#
-#   rt staticlib host && bash tests/bindings.sh
-#
-# MILESTARLING_LIB may name another directory that has libhost.a. The peers come from Debian packages, which are
-# installed where they aren't there; that needs root.
+# Tests the Rust package over the static library and times it beside its peers, with Rust 1.70 or later. The library is
+# built where it isn't there; MILESTARLING_LIB may name another directory that has libhost.a. The peers come from Debian
+# packages, which are installed where they aren't there; that needs root.
 set -euo pipefail
 cd "$(dirname "${BASH_SOURCE[0]}")/.."
 
@@ -17,6 +14,10 @@ for package in "${packages[@]}"; do
 done
 if [ ${#missing[@]} -gt 0 ]; then
     apt-get install -y --no-install-recommends "${missing[@]}"
+fi
+
+if [ -z "${MILESTARLING_LIB:-}" ] && [ ! -e target/staticlib/libhost.a ]; then
+    rt staticlib host
 fi
 
 (cd bindings/rust && cargo test --release)
