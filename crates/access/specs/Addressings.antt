@@ -13,7 +13,7 @@ use Rattle.registers.specs.File.{zeroSlot}
 use Rattle.access.specs.Transfers.{none}
 use Rattle.access.specs.declared.addressing.Addressing.{Addressing}
 
--- option 011 takes all of an index, and none is 0
+-- an index that is not there is 0, and option 011 takes all of it
 unfoldable pub based : ℕ → ℕ → Bool → ℕ → Addressing
 based base offset post written =
     record {

@@ -1,12 +1,11 @@
 -- What the families move: 01, "What a word says". Register 31 is the zero register here.
 use Prim.Native.Nat.{ℕ}
-use mathlib.Core.Bool.{Bool, true, false, not}
+use mathlib.Core.Bool.{Bool, false, not}
 use lib.Dec.{eqb}
 use Rattle.bits.specs.Choice.{pick}
 use Rattle.instruction.specs.declared.operation.SizedOp.{SizedOp}
 use Rattle.instruction.specs.declared.operation.PairOp.{PairOp}
-use Rattle.instruction.specs.declared.operation.PairOp.the-variants.{StoreWords, LoadWords, LoadSignedWords, StoreDoubles, LoadDoubles}
-use Rattle.instruction.specs.Operations.{opcOf, sizedBytes, pairBytes}
+use Rattle.instruction.specs.Operations.{opcOf, sizedBytes, pairOpc, pairLoad, pairBytes}
 use Rattle.registers.specs.File.{zeroSlot}
 use Rattle.access.specs.declared.transfer.Transfer.{Transfer}
 
@@ -35,20 +34,13 @@ unfoldable pub literalTransfer : ℕ → ℕ → ℕ → Transfer
 literalTransfer bytes extent target =
     record { store = false; ordered = false; bytes = bytes; more = 0; extent = extent; target = zeroSlot target; second = none }
 
+-- L loads
 abbrev pub pairLoads : PairOp → Bool
-pairLoads StoreWords = false
-pairLoads LoadWords = true
-pairLoads LoadSignedWords = true
-pairLoads StoreDoubles = false
-pairLoads LoadDoubles = true
+pairLoads op = eqb (pairLoad op) 1
 
--- two signed words are extended to 64 bits
+-- opc 01 has two signed words, extended to 64 bits
 abbrev pub pairExtent : PairOp → ℕ
-pairExtent StoreWords = 4
-pairExtent LoadWords = 4
-pairExtent LoadSignedWords = 8
-pairExtent StoreDoubles = 8
-pairExtent LoadDoubles = 8
+pairExtent op = pick (eqb (pairOpc op) 0b01) 8 (pairBytes op)
 
 -- a pair puts Rt first
 unfoldable pub pairTransfer : PairOp → ℕ → ℕ → Transfer

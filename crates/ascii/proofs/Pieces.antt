@@ -8,7 +8,7 @@ use native.Mathlib.Numerals.{add-one}
 use native.Mathlib.Omega.{arith}
 use borrow.Author.Tests.{leb-true, leb-false}
 use lib.Dec.{leb}
-use lib.ListN.{length, take, getD, set, length-append, length-set}
+use lib.ListN.{length, take, getD, set, length-append}
 use lib.Seq.{sets, length-sets, set-out, take-suc}
 use Rattle.ascii.specs.Puts.{Puts}
 
@@ -64,29 +64,10 @@ pub one-more : {xs ys zs : List ℕ} {at m n : ℕ} (p : List ℕ) (i : ℕ) →
     → Puts xs at (take (i + 1) p) zs n
 one-more {xs} {ys} {zs} {at} {m} {n} p i h a b = rw (add-one i, take-suc p i 0 h) (after a b)
 
--- an index stays within a line where bytes are put
-pub below-one : (xs : List ℕ) (i j a : ℕ) → i < length xs → i < length (set xs j a)
-below-one xs i j a h = omega (arith, length-set xs j a)
+-- the places of four bytes, as the code counts them
+pub further : (at : ℕ) → (at + 1 ≡ suc at) × (at + 2 ≡ suc (suc at)) × (at + 3 ≡ suc (suc (suc at)))
+further at = (omega arith, omega arith, omega arith)
 
-pub below-two : (xs : List ℕ) (i j a k b : ℕ) → i < length xs → i < length (set (set xs j a) k b)
-below-two xs i j a k b h = below-one (set xs j a) i k b (below-one xs i j a h)
-
-pub below-three : (xs : List ℕ) (i j a k b l c : ℕ) → i < length xs → i < length (set (set (set xs j a) k b) l c)
-below-three xs i j a k b l c h = below-one (set (set xs j a) k b) i l c (below-two xs i j a k b h)
-
--- two, three and four bytes that have room
-pub two-in : (xs : List ℕ) (at a b : ℕ) → at + 2 ≤ length xs → Puts xs at (a ∷ b ∷ []) (set (set xs at a) (at + 1) b) (at + 2)
-two-in xs at a b h = record { text = rw (add-one at); place = omega arith }
-
-pub three-in : (xs : List ℕ) (at a b c : ℕ) → at + 3 ≤ length xs
-    → Puts xs at (a ∷ b ∷ c ∷ []) (set (set (set xs at a) (at + 1) b) (at + 2) c) (at + 3)
-three-in xs at a b c h =
-    let e : at + 2 ≡ suc (suc at) = omega arith in
-    record { text = rw (add-one at, e); place = omega arith }
-
-pub four-in : (xs : List ℕ) (at a b c d : ℕ) → at + 4 ≤ length xs
-    → Puts xs at (a ∷ b ∷ c ∷ d ∷ []) (set (set (set (set xs at a) (at + 1) b) (at + 2) c) (at + 3) d) (at + 4)
-four-in xs at a b c d h =
-    let e : at + 2 ≡ suc (suc at) = omega arith in
-    let f : at + 3 ≡ suc (suc (suc at)) = omega arith in
-    record { text = rw (add-one at, e, f); place = omega arith }
+-- a piece that has room, by what is set
+pub in-room : {xs p ys : List ℕ} {at n : ℕ} → ys ≡ sets xs at p → n ≡ at + length p → n ≤ length xs → Puts xs at p ys n
+in-room e f h = record { text = e; place = omega arith }

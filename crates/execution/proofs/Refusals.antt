@@ -1,5 +1,5 @@
 -- Answers 1 and 10 are given before the first step alone, and then nothing is changed. Assumes nothing.
-use Prim.Native.Nat.{ℕ, _+_, _*_, _%_, _^_, _<_}
+use Prim.Native.Nat.{ℕ, suc, _+_, _*_, _%_, _^_, _≤_, _<_}
 use mathlib.Core.Path.{_≡_, refl, ap}
 use mathlib.Core.Bool.{Bool, true, false, not}
 use mathlib.Core.List.{List, [], _∷_}
@@ -12,7 +12,6 @@ use lib.Seq.{length-sets}
 use Rattle.bits.specs.Choice.{pick}
 use Rattle.bits.proofs.Choices.{pick-by}
 use Rattle.instruction.specs.declared.answer.Answer.{Answer}
-use Rattle.instruction.specs.declared.answer.Answer.the-variants.{Done, NotInSet, Undefined, Unpredictable, TaintedAddress, Misaligned, OutOfWindow, ReadOnly}
 use Rattle.instruction.specs.Answers.{answerNumber}
 use Rattle.instruction.specs.Table.{inSet}
 use Rattle.instruction.specs.Undefined.{undefined}
@@ -23,31 +22,43 @@ use Rattle.access.specs.declared.addressing.Addressing.{Addressing}
 use Rattle.access.specs.declared.Access.{Access}
 use Rattle.access.specs.declared.Access.the-variants.{Nothing, Moves}
 use Rattle.plan.specs.declared.window.Window.{Window}
+use Rattle.plan.specs.declared.Plan.{Plan}
 use Rattle.plan.specs.declared.Plan.the-variants.{Refuse, Touch}
 use Rattle.plan.specs.Window.{badWindow}
-use Rattle.plan.specs.Address.{sumOf, addressOf}
-use Rattle.plan.specs.Admission.{totalOf, misaligned, outside, guarded, admitOf}
+use Rattle.plan.specs.Admission.{admitOf}
 use Rattle.plan.specs.Plans.{planOf}
 use Rattle.machine.specs.Rule.{wordAccess, moveRule, storedTaints}
 use Rattle.machine.specs.Machine.{Machine, operandsOf, nextPc, storedBytes, effectOf}
-use Rattle.machine.specs.Step.{Step, stopped, moved, performOf, accessStep, wordStep, stepOf}
+use Rattle.machine.specs.Step.{Step, stopped, moved, performOf, accessStep, wordStep, bad, stepOf, performed}
+use Rattle.machine.specs.Tests.{accessTests, lowest}
+use Rattle.machine.proofs.Answers.{answers-exact}
 use Rattle.execution.specs.Walk.{Walked, goOn, walkOf, notBegun, runOf}
-use Rattle.execution.specs.Run.{bad, machineRun}
+use Rattle.execution.specs.Run.{machineRun}
 
 abbrev pub Early : ℕ → Type 0
 Early number = (number ≡ 1) ⊎ (number ≡ 10)
 
--- an answer of a run that is begun
+-- ---- a step in a window that is not bad answers neither
+
+-- of tests from n on, below 10, none holds, or one does and gives its number
+lowest-other : (n : ℕ) (ts : List Bool) → 1 < n → n + length ts ≤ 10 → ¬ Early (lowest n ts)
+lowest-other n [] l h (inl e) = omega arith
+lowest-other n [] l h (inr e) = omega arith
+lowest-other n (true ∷ ts) l h (inl e) = omega arith
+lowest-other n (true ∷ ts) l h (inr e) = omega arith
+lowest-other n (false ∷ ts) l h e = lowest-other (suc n) ts (omega arith) (omega arith) e
+
+at-most-four : (w : Window) (x : Access) (m : Machine) → length (accessTests w x m) ≤ 4
+at-most-four w Nothing m = omega arith
+at-most-four w (Moves t a) m = omega arith
+
 abbrev Begun : Answer → Type 0
 Begun answer = ¬ Early (answerNumber answer)
 
-other : {n : ℕ} → 1 < n → n < 10 → ¬ Early n
-other l h (inl e) = omega arith
-other l h (inr e) = omega arith
-
-none : ¬ Early 0
-none (inl e) = omega arith
-none (inr e) = omega arith
+step-begun : (w : Window) (word : ℕ) (m : Machine) → bad w m ≡ false → Begun (performed m (stepOf w word m) .answer)
+step-begun w word m e =
+    let further = not (inSet word) ∷ undefined word ∷ unpredictable word ∷ accessTests w (wordAccess word) m in
+    rw (answers-exact w word m, e) (lowest-other 2 further (omega arith) (omega (arith, at-most-four w (wordAccess word) m)))
 
 -- ---- a window that is not bad stays so: lengths are kept, and pc stays a multiple of 4
 
@@ -78,57 +89,38 @@ effect-good w t written at next m e =
     let taints = kept (t .store) (m .taints .bytes) (storedTaints t at (m .taints .registers) (m .taints .bytes)) (simp length-sets) in
     rw (bytes, taints) (good-next w (length (m .memory)) (length (m .taints .bytes)) (m .pc) e)
 
--- ---- a step from such a window stops with another answer, or leaves such a window
+-- ---- and leaves such a window
 
-abbrev Goes : Window → Step Machine → Type 0
-Goes w (stopped answer address) = Begun answer
-Goes w (moved n code address) = bad w n ≡ false
-
-class-begun : (a b c : Bool) → Begun (pick a (pick b Undefined (pick c Unpredictable Done)) NotInSet)
-class-begun false b c = other (omega arith) (omega arith)
-class-begun true true c = other (omega arith) (omega arith)
-class-begun true false true = other (omega arith) (omega arith)
-class-begun true false false = none
-
-admit-begun : (a b c : Bool) → Begun (pick a Misaligned (pick b OutOfWindow (pick c ReadOnly Done)))
-admit-begun true b c = other (omega arith) (omega arith)
-admit-begun false true c = other (omega arith) (omega arith)
-admit-begun false false true = other (omega arith) (omega arith)
-admit-begun false false false = none
+abbrev Stays : Window → Step Machine → Type 0
+Stays w (stopped answer address) = Unit {0}
+Stays w (moved n code address) = bad w n ≡ false
 
 module _ (w : Window) (m : Machine) (e : bad w m ≡ false) where
-  plan-goes : (t : Transfer) (a : Addressing) (tainted done : Bool) (x s : ℕ) (answer : Answer) → Begun answer
-      → Goes w (performOf (w .origin) t a m (pick tainted (Refuse TaintedAddress 0) (pick done (Touch x s) (Refuse answer x))))
-  plan-goes t a true done x s answer h = other (omega arith) (omega arith)
-  plan-goes t a false true x s answer h = effect-good w t (a .written) _ s m e
-  plan-goes t a false false x s answer h = h
+  perform-stays : (t : Transfer) (a : Addressing) (p : Plan) → Stays w (performOf (w .origin) t a m p)
+  perform-stays t a (Refuse answer address) = tt
+  perform-stays t a (Touch address next) = effect-good w t (a .written) _ next m e
 
-  access-goes : (x : Access) → Goes w (accessStep (w .origin) (admitOf w (length (m .memory))) x m)
-  unfolding planOf admitOf
-  access-goes Nothing = good-next w (length (m .memory)) (length (m .taints .bytes)) (m .pc) e
-  access-goes (Moves t a) =
-      let o = operandsOf a m in
-      let x = addressOf a o in
-      let admit = admitOf w (length (m .memory)) t x in
-      plan-goes t a (o .tainted) (eqb (answerNumber admit) 0) x (sumOf a o) admit
-      (admit-begun (misaligned (t .ordered) (totalOf t) x) (outside (totalOf t) x (w .origin) (length (m .memory))) (guarded (t .store) x w))
+  access-stays : (x : Access) → Stays w (accessStep (w .origin) (admitOf w (length (m .memory))) x m)
+  access-stays Nothing = good-next w (length (m .memory)) (length (m .taints .bytes)) (m .pc) e
+  access-stays (Moves t a) = perform-stays t a (planOf (admitOf w (length (m .memory))) t a (operandsOf a m))
 
-  step-goes : (word : ℕ) → Goes w (stepOf w word m)
-  unfolding stepOf wordStep classOf
-  step-goes word =
-      rw e (pick-by (Goes w) (eqb (answerNumber (classOf word)) 0) (λ d. access-goes (wordAccess word)) (λ d. class-begun (inSet word) (undefined word) (unpredictable word)))
+  step-stays : (word : ℕ) → Stays w (stepOf w word m)
+  unfolding stepOf wordStep
+  step-stays word = rw e (pick-by (Stays w) (eqb (answerNumber (classOf word)) 0) (λ d. access-stays (wordAccess word)) (λ d. tt))
 
 -- ---- the walk and the run
 
 module _ (w : Window) where
-  go-begun : (m : Machine) (rest : Machine → ℕ → ℕ → Walked Machine) → ((n : Machine) (c a : ℕ) → bad w n ≡ false → Begun (rest n c a .answer)) → (s : Step Machine) → Goes w s → Begun (goOn m rest s .answer)
-  go-begun m rest k (stopped answer address) h = h
-  go-begun m rest k (moved n code address) h = k n code address h
+  go-begun : (m : Machine) (rest : Machine → ℕ → ℕ → Walked Machine) → ((n : Machine) (c a : ℕ) → bad w n ≡ false → Begun (rest n c a .answer)) → (s : Step Machine) → Begun (performed m s .answer) → Stays w s
+      → Begun (goOn m rest s .answer)
+  go-begun m rest k (stopped answer address) b h = b
+  go-begun m rest k (moved n code address) b h = k n code address h
 
   walk-begun : (ws : List ℕ) (m : Machine) (c a : ℕ) → bad w m ≡ false → Begun (walkOf (stepOf w) ws m c a .answer)
   unfolding walkOf
-  walk-begun [] m c a e = none
-  walk-begun (word ∷ ws) m c a e = go-begun m (walkOf (stepOf w) ws) (walk-begun ws) (stepOf w word m) (step-goes w m e word)
+  walk-begun [] m c a e (inl h) = omega arith
+  walk-begun [] m c a e (inr h) = omega arith
+  walk-begun (word ∷ ws) m c a e h = go-begun m (walkOf (stepOf w) ws) (walk-begun ws) (stepOf w word m) (step-begun w word m e) (step-stays w m e word) h
 
   module _ (ws : List ℕ) (m : Machine) (trace : List ℕ) where
     early-at : (y z : Bool) → bad w m ≡ y → ltb (length trace) (length ws * 2) ≡ z → Early (answerNumber (machineRun w ws m trace .answer))

@@ -10,12 +10,12 @@ use Rattle.memory.specs.Taints.{tainted}
 use Rattle.plan.specs.declared.window.Window.{Window}
 use Rattle.machine.specs.Rule.{Taints, wordRule}
 use Rattle.machine.specs.Machine.{Machine}
-use Rattle.machine.specs.Step.{stepOf}
+use Rattle.machine.specs.Step.{bad, stepOf}
 use Rattle.machine.proofs.Taints.{taintsIn, taints-by-rule}
 use Rattle.secrecy.specs.Alike.{Alike}
 use Rattle.secrecy.proofs.Steps.{untainted-parts, bad-alike, step-alike}
 use Rattle.execution.specs.Walk.{Result, afterSteps}
-use Rattle.execution.specs.Run.{bad, machineRun}
+use Rattle.execution.specs.Run.{machineRun}
 use Rattle.execution.specs.Secrecy.{Same, ShowsRun}
 use Rattle.execution.proofs.Walks.{run-shows, run-rule}
 

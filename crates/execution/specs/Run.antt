@@ -1,17 +1,11 @@
 -- The machine's run.
 use Prim.Native.Nat.{ℕ}
-use mathlib.Core.Bool.{Bool}
 use mathlib.Core.List.{List}
-use lib.ListN.{length}
 use Rattle.plan.specs.declared.window.Window.{Window}
-use Rattle.plan.specs.Window.{badWindow}
 use Rattle.machine.specs.Machine.{Machine, machineOf}
-use Rattle.machine.specs.Step.{stepOf}
+use Rattle.machine.specs.Step.{bad, stepOf}
 use Rattle.execution.specs.Walk.{Result, runOf}
 use Rattle.execution.specs.declared.Ran.{Ran}
-
-abbrev pub bad : Window → Machine → Bool
-bad w m = badWindow w (length (m .memory)) (length (m .taints .bytes)) (m .pc)
 
 abbrev pub machineRun : Window → List ℕ → Machine → List ℕ → Result Machine
 machineRun w words m trace = runOf (bad w) (stepOf w) words m trace

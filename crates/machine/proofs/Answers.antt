@@ -21,14 +21,13 @@ use Rattle.access.specs.declared.Access.{Access}
 use Rattle.access.specs.declared.Access.the-variants.{Nothing, Moves}
 use Rattle.plan.specs.declared.window.Window.{Window}
 use Rattle.plan.specs.declared.Plan.the-variants.{Refuse, Touch}
-use Rattle.plan.specs.Window.{badWindow}
 use Rattle.plan.specs.Address.{sumOf, addressOf}
 use Rattle.plan.specs.Admission.{totalOf, misaligned, outside, guarded, admitOf}
 use Rattle.plan.specs.Plans.{planOf}
 use Rattle.plan.proofs.Tests.{plan-tainted}
 use Rattle.machine.specs.Rule.{wordAccess}
 use Rattle.machine.specs.Machine.{Machine, operandsOf}
-use Rattle.machine.specs.Step.{Step, stopped, moved, performOf, accessStep, wordStep, stepOf, performed}
+use Rattle.machine.specs.Step.{Step, stopped, moved, performOf, accessStep, wordStep, bad, stepOf, performed}
 use Rattle.machine.specs.Tests.{accessTests, tests, lowest}
 
 unchanged : (m : Machine) (s : Step Machine) → ¬ (answerNumber (performed m s .answer) ≡ 0) → performed m s .machine ≡ m
@@ -75,16 +74,16 @@ window-answer m s n false e = e
 pub answers-exact : (w : Window) (word : ℕ) (m : Machine) → answerNumber (performed m (stepOf w word m) .answer) ≡ lowest 1 (tests w word m)
 unfolding stepOf wordStep classOf
 answers-exact w word m =
-    window-answer m (wordStep (w .origin) (admitOf w (length (m .memory))) word m) _ (badWindow w (length (m .memory)) (length (m .taints .bytes)) (m .pc))
+    window-answer m (wordStep (w .origin) (admitOf w (length (m .memory))) word m) _ (bad w m)
     (word-answer m (accessStep (w .origin) (admitOf w (length (m .memory))) (wordAccess word) m) _ (inSet word) (undefined word) (unpredictable word) (access-answer w (wordAccess word) m))
 
 -- a base or an index that is tainted is never used for an access; a lower answer comes first
 pub tainted-refused : (w : Window) (word : ℕ) (m : Machine) (t : Transfer) (a : Addressing) → wordAccess word ≡ Moves t a → operandsOf a m .tainted ≡ true
-    → stepOf w word m ≡ stopped (pick (badWindow w (length (m .memory)) (length (m .taints .bytes)) (m .pc)) BadWindow (pick (eqb (answerNumber (classOf word)) 0) TaintedAddress (classOf word))) 0
+    → stepOf w word m ≡ stopped (pick (bad w m) BadWindow (pick (eqb (answerNumber (classOf word)) 0) TaintedAddress (classOf word))) 0
 unfolding stepOf wordStep
 tainted-refused w word m t a e h =
     let refused : accessStep (w .origin) (admitOf w (length (m .memory))) (wordAccess word) m ≡ stopped TaintedAddress 0 = rw e (tainted-plan (admitOf w (length (m .memory)))) in
-    rw refused (stopped-first (badWindow w (length (m .memory)) (length (m .taints .bytes)) (m .pc)) (eqb (answerNumber (classOf word)) 0))
+    rw refused (stopped-first (bad w m) (eqb (answerNumber (classOf word)) 0))
   where
     tainted-plan : (admit : Transfer → ℕ → Answer) → performOf (w .origin) t a m (planOf admit t a (operandsOf a m)) ≡ stopped TaintedAddress 0
     tainted-plan admit = ap (performOf (w .origin) t a m) (sym (plan-tainted admit t a (operandsOf a m) h))
@@ -115,5 +114,5 @@ access-refuses origin admit (Moves t a) m =
 pub step-refuses : (w : Window) (word : ℕ) (m : Machine) → Refuses (stepOf w word m)
 unfolding stepOf wordStep
 step-refuses w word m =
-    pick-by Refuses (badWindow w (length (m .memory)) (length (m .taints .bytes)) (m .pc)) (λ e h. omega arith)
+    pick-by Refuses (bad w m) (λ e h. omega arith)
     (λ e. pick-by Refuses (eqb (answerNumber (classOf word)) 0) (λ d. access-refuses (w .origin) (admitOf w (length (m .memory))) (wordAccess word) m) (λ d. eqb-false (answerNumber (classOf word)) 0 d))

@@ -20,12 +20,11 @@ use Rattle.access.specs.declared.Access.the-variants.{Nothing, Moves}
 use Rattle.plan.specs.declared.window.Window.{Window}
 use Rattle.plan.specs.declared.Plan.{Plan}
 use Rattle.plan.specs.declared.Plan.the-variants.{Refuse, Touch}
-use Rattle.plan.specs.Window.{badWindow}
 use Rattle.plan.specs.Admission.{admitOf}
 use Rattle.plan.specs.Plans.{planOf}
 use Rattle.machine.specs.Rule.{Taints, moveRule, ruleOf, wordAccess, wordRule}
 use Rattle.machine.specs.Machine.{Machine, operandsOf, effectOf}
-use Rattle.machine.specs.Step.{Step, stopped, moved, performOf, accessStep, wordStep, stepOf}
+use Rattle.machine.specs.Step.{Step, stopped, moved, performOf, accessStep, wordStep, bad, stepOf}
 
 -- a step that moves leaves of a part of the machine what a rule gives at the address it reports
 abbrev pub Follows : {A B : Type 0} → (A → B) → (ℕ → B → B) → A → Step A → Type 0
@@ -54,7 +53,7 @@ word-follows origin admit word m =
 pub taints-by-rule : (w : Window) (word : ℕ) (m : Machine) → Follows taintsIn (wordRule (w .origin) word) m (stepOf w word m)
 unfolding stepOf
 taints-by-rule w word m =
-    pick-by (Follows taintsIn (wordRule (w .origin) word) m) (badWindow w (length (m .memory)) (length (m .taints .bytes)) (m .pc)) (λ e. tt) (λ e. word-follows (w .origin) (admitOf w (length (m .memory))) word m)
+    pick-by (Follows taintsIn (wordRule (w .origin) word) m) (bad w m) (λ e. tt) (λ e. word-follows (w .origin) (admitOf w (length (m .memory))) word m)
 
 -- ---- what the rule changes
 

@@ -1,5 +1,6 @@
 -- One step: 01, "Memory, marks and the trace" and "Answer numbers". The lowest-numbered of 1 to 8 is given.
 use Prim.Native.Nat.{ℕ, _-_}
+use mathlib.Core.Bool.{Bool}
 use mathlib.Core.List.{List}
 use lib.Dec.{eqb}
 use lib.ListN.{length}
@@ -41,10 +42,13 @@ unfoldable pub wordStep : ℕ → (Transfer → ℕ → Answer) → ℕ → Mach
 wordStep origin admit word m =
     pick (eqb (answerNumber (classOf word)) 0) (accessStep origin admit (wordAccess word) m) (stopped (classOf word) 0)
 
+-- 1: the window is that of the memory that is lent
+abbrev pub bad : Window → Machine → Bool
+bad w m = badWindow w (length (m .memory)) (length (m .taints .bytes)) (m .pc)
+
 -- 1, then the word
 unfoldable pub stepOf : Window → ℕ → Machine → Step Machine
-stepOf w word m =
-    pick (badWindow w (length (m .memory)) (length (m .taints .bytes)) (m .pc)) (stopped BadWindow 0) (wordStep (w .origin) (admitOf w (length (m .memory))) word m)
+stepOf w word m = pick (bad w m) (stopped BadWindow 0) (wordStep (w .origin) (admitOf w (length (m .memory))) word m)
 
 -- all that a step returns and leaves; a step that stops leaves the machine as it was
 pub record Outcome (A : Type 0) : Type 0 where

@@ -10,11 +10,11 @@ use Rattle.instruction.specs.Unpredictable.{unpredictable}
 use Rattle.access.specs.declared.Access.{Access}
 use Rattle.access.specs.declared.Access.the-variants.{Nothing, Moves}
 use Rattle.plan.specs.declared.window.Window.{Window}
-use Rattle.plan.specs.Window.{badWindow}
 use Rattle.plan.specs.Address.{addressOf}
 use Rattle.plan.specs.Admission.{totalOf, misaligned, outside, guarded}
 use Rattle.machine.specs.Rule.{wordAccess}
 use Rattle.machine.specs.Machine.{Machine, operandsOf}
+use Rattle.machine.specs.Step.{bad}
 
 -- 5 to 8, which a prefetch passes
 abbrev pub accessTests : Window → Access → Machine → List Bool
@@ -29,7 +29,7 @@ accessTests w (Moves t a) m =
 -- 1 to 8
 abbrev pub tests : Window → ℕ → Machine → List Bool
 tests w word m =
-    badWindow w (length (m .memory)) (length (m .taints .bytes)) (m .pc)
+    bad w m
     ∷ not (inSet word)
     ∷ undefined word
     ∷ unpredictable word

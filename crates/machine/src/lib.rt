@@ -86,7 +86,7 @@ fn step_moves(
     memory: &mut [u8],
     taint: &mut [u8],
 ) -> Stepped
-    requires { ⌜ Bounded t a × (length (now taint) ≡ length (now memory)) ⌝ }
+    requires { ⌜ Bounded t × (length (now taint) ≡ length (now memory)) ⌝ }
     ensures { λ r. ⌜ outcome r (now (memory .exit)) (now (taint .exit)) ≡ performed (machineOf state (now (memory .entry)) (now (taint .entry))) (accessStep (window .origin) (admitOf window (length (now (memory .entry)))) (Access.Moves t a) (machineOf state (now (memory .entry)) (now (taint .entry)))) ⌝ }
 {
     let registers = state.registers;

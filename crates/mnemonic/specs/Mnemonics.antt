@@ -1,6 +1,6 @@
 -- Mnemonics: 01, "Lines of text".
 use Prim.Native.Nat.{ℕ}
-use mathlib.Core.List.{List}
+use mathlib.Core.List.{List, _++_}
 use Rattle.ascii.specs.Ascii.{asc}
 use Rattle.mnemonic.specs.declared.Stem.{Stem}
 use Rattle.mnemonic.specs.declared.Stem.the-variants.{Plain, Unscale, Order}
@@ -13,55 +13,33 @@ use Rattle.instruction.specs.declared.operation.PairOp.the-variants.{StoreWords
 use Rattle.instruction.specs.declared.operation.PairMode.{PairMode}
 use Rattle.instruction.specs.declared.operation.PairMode.the-variants.{NoAllocate, Post, Offset, Pre}
 
+-- a stem for stores and one for loads, with the size behind it; a prefetch has a name of its own
+abbrev pub stemmed : List ℕ → List ℕ → List ℕ → SizedOp → List ℕ
+stemmed store load hint StoreByte = store ++ asc "b"
+stemmed store load hint LoadByte = load ++ asc "b"
+stemmed store load hint LoadSignedByte64 = load ++ asc "sb"
+stemmed store load hint LoadSignedByte32 = load ++ asc "sb"
+stemmed store load hint StoreHalf = store ++ asc "h"
+stemmed store load hint LoadHalf = load ++ asc "h"
+stemmed store load hint LoadSignedHalf64 = load ++ asc "sh"
+stemmed store load hint LoadSignedHalf32 = load ++ asc "sh"
+stemmed store load hint StoreWord = store
+stemmed store load hint LoadWord = load
+stemmed store load hint LoadSignedWord64 = load ++ asc "sw"
+stemmed store load hint StoreDouble = store
+stemmed store load hint LoadDouble = load
+stemmed store load hint Prefetch = hint
+
 -- post, pre, register and unsigned
 abbrev pub plainName : SizedOp → List ℕ
-plainName StoreByte = asc "strb"
-plainName LoadByte = asc "ldrb"
-plainName LoadSignedByte64 = asc "ldrsb"
-plainName LoadSignedByte32 = asc "ldrsb"
-plainName StoreHalf = asc "strh"
-plainName LoadHalf = asc "ldrh"
-plainName LoadSignedHalf64 = asc "ldrsh"
-plainName LoadSignedHalf32 = asc "ldrsh"
-plainName StoreWord = asc "str"
-plainName LoadWord = asc "ldr"
-plainName LoadSignedWord64 = asc "ldrsw"
-plainName StoreDouble = asc "str"
-plainName LoadDouble = asc "ldr"
-plainName Prefetch = asc "prfm"
+plainName op = stemmed (asc "str") (asc "ldr") (asc "prfm") op
 
 abbrev pub unscaledName : SizedOp → List ℕ
-unscaledName StoreByte = asc "sturb"
-unscaledName LoadByte = asc "ldurb"
-unscaledName LoadSignedByte64 = asc "ldursb"
-unscaledName LoadSignedByte32 = asc "ldursb"
-unscaledName StoreHalf = asc "sturh"
-unscaledName LoadHalf = asc "ldurh"
-unscaledName LoadSignedHalf64 = asc "ldursh"
-unscaledName LoadSignedHalf32 = asc "ldursh"
-unscaledName StoreWord = asc "stur"
-unscaledName LoadWord = asc "ldur"
-unscaledName LoadSignedWord64 = asc "ldursw"
-unscaledName StoreDouble = asc "stur"
-unscaledName LoadDouble = asc "ldur"
-unscaledName Prefetch = asc "prfum"
+unscaledName op = stemmed (asc "stur") (asc "ldur") (asc "prfum") op
 
 -- there is no ordered prefetch; its name is never read
 abbrev pub orderedName : SizedOp → List ℕ
-orderedName StoreByte = asc "stlurb"
-orderedName LoadByte = asc "ldapurb"
-orderedName LoadSignedByte64 = asc "ldapursb"
-orderedName LoadSignedByte32 = asc "ldapursb"
-orderedName StoreHalf = asc "stlurh"
-orderedName LoadHalf = asc "ldapurh"
-orderedName LoadSignedHalf64 = asc "ldapursh"
-orderedName LoadSignedHalf32 = asc "ldapursh"
-orderedName StoreWord = asc "stlur"
-orderedName LoadWord = asc "ldapur"
-orderedName LoadSignedWord64 = asc "ldapursw"
-orderedName StoreDouble = asc "stlur"
-orderedName LoadDouble = asc "ldapur"
-orderedName Prefetch = asc "prfum"
+orderedName op = stemmed (asc "stlur") (asc "ldapur") (asc "prfum") op
 
 abbrev pub sizedName : Stem → SizedOp → List ℕ
 sizedName Plain op = plainName op

@@ -5,10 +5,11 @@ use Prim.Native.Nat.{ℕ, _*_}
 use mathlib.Core.Path.{_≡_}
 use mathlib.Core.Bool.{true, not}
 use mathlib.Core.List.{List, [], _∷_}
+use mathlib.Core.Logic.{_↔_}
 use lib.Dec.{ltb, eqb}
 use lib.ListN.{length, take}
 use Rattle.bits.specs.Choice.{pick}
-use Rattle.instruction.specs.declared.answer.Answer.the-variants.{Done}
+use Rattle.instruction.specs.declared.answer.Answer.the-variants.{Done, NoSuchText}
 use Rattle.instruction.specs.declared.family.Instruction.{Instruction}
 use Rattle.instruction.specs.Answers.{answerNumber}
 use Rattle.instruction.specs.Table.{inSet}
@@ -24,14 +25,16 @@ use Rattle.access.specs.declared.Access.the-variants.{Moves}
 use Rattle.plan.specs.declared.window.Window.{Window}
 use Rattle.machine.specs.Rule.{wordAccess, wordRule}
 use Rattle.machine.specs.Machine.{Machine, operandsOf}
-use Rattle.machine.specs.Step.{stepOf, performed}
+use Rattle.machine.specs.Step.{bad, stepOf, performed}
 use Rattle.machine.specs.Tests.{tests, lowest}
 use Rattle.execution.specs.Walk.{walkOf, afterSteps}
-use Rattle.execution.specs.Run.{bad, machineRun}
+use Rattle.execution.specs.Run.{machineRun}
 use Rattle.execution.specs.Secrecy.{Same, ShowsRun}
 use Rattle.encoder.proofs.RoundTrip.{Exact}
 use Rattle.text.specs.Texts.{textOf}
 use Rattle.text.specs.Writing.{wordText, writeOf}
+use Rattle.reader.specs.declared.Reading.{Reading}
+use Rattle.reader.specs.Reading.{LineOf, ReadOf}
 use Rattle.reader.proofs.Triangle.{Bijection, Allocated, Encodable, Readable}
 
 -- the answer of a step
@@ -47,6 +50,8 @@ pub record Demand1 : Type 0 where
   -- of writing a text, 2, 3 and 10
   pub write-answers : (word : ℕ) (buffer : List ℕ)
       → answerNumber (writeOf word buffer .answer) ≡ pick (not (inSet word)) 2 (pick (undefined word) 3 (pick (ltb (length buffer) (length (wordText word))) 10 0))
+  -- of reading a text, 9: no allocated word has it for its line; else 0 and the word
+  pub read-answers : (t : List ℕ) (r : Reading) → ReadOf t r → ((r .answer ≡ NoSuchText) ↔ ((word : ℕ) → ¬ LineOf word t)) × ((r .answer ≡ Done) ↔ LineOf (r .word) t)
   -- of encoding, 11: the one word that decodes to the instruction, or none does
   pub encode-answers : (i : Instruction) → Exact i (encodeOf i)
   -- of a run, 1 and then 10 before any step, and after that what the steps answer

@@ -1,1 +1,1 @@
-// The demands as theorems: a page to read, in specs/. Nothing is proved anew here, and there is no code.
+// The demands as theorems, which cite those of the crates below: a page to read, in specs/. There is no code.

@@ -23,13 +23,12 @@ use Rattle.access.specs.declared.Access.the-variants.{Nothing, Moves}
 use Rattle.plan.specs.declared.window.Window.{Window}
 use Rattle.plan.specs.declared.Plan.{Plan}
 use Rattle.plan.specs.declared.Plan.the-variants.{Refuse, Touch}
-use Rattle.plan.specs.Window.{badWindow}
 use Rattle.plan.specs.Admission.{totalOf, admitOf}
 use Rattle.plan.specs.Plans.{planOf}
 use Rattle.plan.proofs.Tests.{plan-tainted, touch-admitted, same-lengths}
 use Rattle.machine.specs.Rule.{moveRule, wordAccess}
 use Rattle.machine.specs.Machine.{Machine, operandsOf, effectOf}
-use Rattle.machine.specs.Step.{stopped, performOf, accessStep, wordStep, stepOf}
+use Rattle.machine.specs.Step.{stopped, performOf, accessStep, wordStep, bad, stepOf}
 use Rattle.secrecy.specs.Alike.{Alike, Shows}
 use Rattle.secrecy.proofs.Agreement.{agree-sets, Seen, span-taints, store-alike, span-alike, set-alike}
 
@@ -134,7 +133,7 @@ module _ (sees : ℕ → Type 0) (clear : Bool → Type 0) (none : clear false) 
 
   -- a step in a window whose admission lets a load look only at what may be seen
   module _ (w : Window) (safe : (len : ℕ) (t : Transfer) (a : ℕ) → answerNumber (admitOf w len t a) ≡ 0 → t .store ≡ false → Seen sees (a - w .origin) (totalOf t)) (m n : Machine) (h : Alike sees clear m n) where
-    step-at : (word : ℕ) (z y : Bool) (len : ℕ) → badWindow w (length (m .memory)) (length (m .taints .bytes)) (m .pc) ≡ z → z ≡ y → length (m .memory) ≡ len
+    step-at : (word : ℕ) (z y : Bool) (len : ℕ) → bad w m ≡ z → z ≡ y → length (m .memory) ≡ len
         → Shows (Alike sees clear) (pick z (stopped BadWindow 0) (wordStep (w .origin) (admitOf w (length (m .memory))) word m)) (pick y (stopped BadWindow 0) (wordStep (w .origin) (admitOf w len) word n))
     step-at word true true len b e l = (refl, refl)
     step-at word false false len b e l = rw (← l) (word-alike m n h (sym (same-lengths w (length (m .memory)) (length (m .taints .bytes)) (m .pc) b)) (w .origin) (admitOf w (length (m .memory))) (safe (length (m .memory))) word)
@@ -142,10 +141,10 @@ module _ (sees : ℕ → Type 0) (clear : Bool → Type 0) (none : clear false) 
     step-at word false true len b e l = absurd (let z : _≡_ {A = ℕ} 0 1 = cc in omega arith)
 
     -- answer 1 is the same for both
-    pub bad-alike : badWindow w (length (m .memory)) (length (m .taints .bytes)) (m .pc) ≡ badWindow w (length (n .memory)) (length (n .taints .bytes)) (n .pc)
+    pub bad-alike : bad w m ≡ bad w n
     bad-alike = rw (h .bytes .size, h .taints .size, h .pc)
 
     pub step-alike : (word : ℕ) → Shows (Alike sees clear) (stepOf w word m) (stepOf w word n)
     unfolding stepOf
     step-alike word =
-        step-at word (badWindow w (length (m .memory)) (length (m .taints .bytes)) (m .pc)) (badWindow w (length (n .memory)) (length (n .taints .bytes)) (n .pc)) (length (n .memory)) refl bad-alike (h .bytes .size)
+        step-at word (bad w m) (bad w n) (length (n .memory)) refl bad-alike (h .bytes .size)

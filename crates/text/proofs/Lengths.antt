@@ -23,7 +23,7 @@ use Rattle.text.specs.declared.operand.Operand.{Operand}
 use Rattle.text.specs.declared.operand.Operand.the-variants.{Narrow, Wide, Hint}
 use Rattle.ascii.specs.Ascii.{asc, dec, signedDec}
 use Rattle.text.specs.Operands.{sizedOperand, pairOperand}
-use Rattle.mnemonic.specs.Mnemonics.{plainName, unscaledName, orderedName, literalName, pairName}
+use Rattle.mnemonic.specs.Mnemonics.{stemmed, noAllocateName, allocateName, plainName, unscaledName, orderedName, literalName, pairName}
 use Rattle.text.specs.Texts.{registerText, baseText, operandText, offsetTail, preTail, postTail, pairTail, extendName, amountText, extendText, indexTail, frontText, literalText, pairText, sizedText, familyText, textOf}
 use Rattle.text.specs.Writing.{wordText}
 use Rattle.ascii.proofs.Decimals.{dec-short}
@@ -114,53 +114,30 @@ index op o = trail 1 (asc "]") (omega arith) (joined (lead 2 (asc ", ") (omega a
 
 -- ---- mnemonics
 
+stem : {store load hint : List ℕ} → Short 6 store → Short 6 load → Short 8 hint → (op : SizedOp) → Short 8 (stemmed store load hint op)
+stem s l h StoreByte = wider (trail 1 (asc "b") (omega arith) s) (omega arith)
+stem s l h LoadByte = wider (trail 1 (asc "b") (omega arith) l) (omega arith)
+stem s l h LoadSignedByte64 = trail 2 (asc "sb") (omega arith) l
+stem s l h LoadSignedByte32 = trail 2 (asc "sb") (omega arith) l
+stem s l h StoreHalf = wider (trail 1 (asc "h") (omega arith) s) (omega arith)
+stem s l h LoadHalf = wider (trail 1 (asc "h") (omega arith) l) (omega arith)
+stem s l h LoadSignedHalf64 = trail 2 (asc "sh") (omega arith) l
+stem s l h LoadSignedHalf32 = trail 2 (asc "sh") (omega arith) l
+stem s l h StoreWord = wider s (omega arith)
+stem s l h LoadWord = wider l (omega arith)
+stem s l h LoadSignedWord64 = trail 2 (asc "sw") (omega arith) l
+stem s l h StoreDouble = wider s (omega arith)
+stem s l h LoadDouble = wider l (omega arith)
+stem s l h Prefetch = h
+
 plain : (op : SizedOp) → Short 8 (plainName op)
-plain StoreByte = omega arith
-plain LoadByte = omega arith
-plain LoadSignedByte64 = omega arith
-plain LoadSignedByte32 = omega arith
-plain StoreHalf = omega arith
-plain LoadHalf = omega arith
-plain LoadSignedHalf64 = omega arith
-plain LoadSignedHalf32 = omega arith
-plain StoreWord = omega arith
-plain LoadWord = omega arith
-plain LoadSignedWord64 = omega arith
-plain StoreDouble = omega arith
-plain LoadDouble = omega arith
-plain Prefetch = omega arith
+plain op = stem (within (asc "str") (omega arith)) (within (asc "ldr") (omega arith)) (within (asc "prfm") (omega arith)) op
 
 unscaled : (op : SizedOp) → Short 8 (unscaledName op)
-unscaled StoreByte = omega arith
-unscaled LoadByte = omega arith
-unscaled LoadSignedByte64 = omega arith
-unscaled LoadSignedByte32 = omega arith
-unscaled StoreHalf = omega arith
-unscaled LoadHalf = omega arith
-unscaled LoadSignedHalf64 = omega arith
-unscaled LoadSignedHalf32 = omega arith
-unscaled StoreWord = omega arith
-unscaled LoadWord = omega arith
-unscaled LoadSignedWord64 = omega arith
-unscaled StoreDouble = omega arith
-unscaled LoadDouble = omega arith
-unscaled Prefetch = omega arith
+unscaled op = stem (within (asc "stur") (omega arith)) (within (asc "ldur") (omega arith)) (within (asc "prfum") (omega arith)) op
 
 ordered : (op : SizedOp) → Short 8 (orderedName op)
-ordered StoreByte = omega arith
-ordered LoadByte = omega arith
-ordered LoadSignedByte64 = omega arith
-ordered LoadSignedByte32 = omega arith
-ordered StoreHalf = omega arith
-ordered LoadHalf = omega arith
-ordered LoadSignedHalf64 = omega arith
-ordered LoadSignedHalf32 = omega arith
-ordered StoreWord = omega arith
-ordered LoadWord = omega arith
-ordered LoadSignedWord64 = omega arith
-ordered StoreDouble = omega arith
-ordered LoadDouble = omega arith
-ordered Prefetch = omega arith
+ordered op = stem (within (asc "stlur") (omega arith)) (within (asc "ldapur") (omega arith)) (within (asc "prfum") (omega arith)) op
 
 literal : (op : LiteralOp) → Short 8 (literalName op)
 literal LiteralWord = omega arith
@@ -168,27 +145,25 @@ literal LiteralDouble = omega arith
 literal LiteralSignedWord = omega arith
 literal LiteralPrefetch = omega arith
 
+no-allocate : (op : PairOp) → Short 8 (noAllocateName op)
+no-allocate StoreWords = omega arith
+no-allocate LoadWords = omega arith
+no-allocate LoadSignedWords = omega arith
+no-allocate StoreDoubles = omega arith
+no-allocate LoadDoubles = omega arith
+
+allocate : (op : PairOp) → Short 8 (allocateName op)
+allocate StoreWords = omega arith
+allocate LoadWords = omega arith
+allocate LoadSignedWords = omega arith
+allocate StoreDoubles = omega arith
+allocate LoadDoubles = omega arith
+
 pair : (m : PairMode) (op : PairOp) → Short 8 (pairName m op)
-pair NoAllocate StoreWords = omega arith
-pair NoAllocate LoadWords = omega arith
-pair NoAllocate LoadSignedWords = omega arith
-pair NoAllocate StoreDoubles = omega arith
-pair NoAllocate LoadDoubles = omega arith
-pair Post StoreWords = omega arith
-pair Post LoadWords = omega arith
-pair Post LoadSignedWords = omega arith
-pair Post StoreDoubles = omega arith
-pair Post LoadDoubles = omega arith
-pair Offset StoreWords = omega arith
-pair Offset LoadWords = omega arith
-pair Offset LoadSignedWords = omega arith
-pair Offset StoreDoubles = omega arith
-pair Offset LoadDoubles = omega arith
-pair Pre StoreWords = omega arith
-pair Pre LoadWords = omega arith
-pair Pre LoadSignedWords = omega arith
-pair Pre StoreDoubles = omega arith
-pair Pre LoadDoubles = omega arith
+pair NoAllocate op = no-allocate op
+pair Post op = allocate op
+pair Offset op = allocate op
+pair Pre op = allocate op
 
 -- ---- lines
 

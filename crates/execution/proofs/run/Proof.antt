@@ -5,8 +5,7 @@ use mathlib.Core.Path.{sym, _∙_}
 use native.Mathlib.Omega.{arith}
 use borrow.Author.Tests.{lt-ltb, le-ltb}
 use Rattle.machine.specs.Machine.{machineOf}
-use Rattle.machine.specs.Step.{stepOf}
-use Rattle.execution.specs.Run.{bad}
+use Rattle.machine.specs.Step.{bad, stepOf}
 use Rattle.execution.proofs.Walks.{run-bad, run-short, run-begun}
 use Rattle.execution.proofs.Secrecy.{promised}
 use borrow.Author.Needs.{needs}

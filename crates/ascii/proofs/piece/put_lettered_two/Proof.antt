@@ -1,6 +1,7 @@
 -- `ascii::piece::put_lettered_two` meets its contract. Assumes nothing.
 use native.Mathlib.Omega.{arith}
-use Rattle.ascii.proofs.Pieces.{after, below-one, below-two}
+use lib.ListN.{length-set}
+use Rattle.ascii.proofs.Pieces.{after}
 use Rattle.ascii.proofs.Lettered.{lettered-in}
 use borrow.Author.Needs.{needs}
 use Rattle.ascii.proofs.piece.put_lettered_two.Statement.{statement}
@@ -18,12 +19,12 @@ put-lettered-two-spec =
     (λ c. search needs)
     (λ c κs. search needs)
     (λ c. search needs)
-    (λ c. below-one (c .before .before .before .before .args .line .now) _ _ _ (omega arith))
+    (λ c. simp length-set (omega arith))
     (λ c. search needs)
-    (λ c. below-two (c .before .before .before .before .before .args .line .now) _ _ _ _ _ (omega arith))
+    (λ c. simp length-set (omega arith))
     (λ c κs. search needs)
     (λ c. search needs)
-    (λ c. below-two (c .before .before .before .before .before .before .args .line .now) _ _ _ _ _ (omega arith))
+    (λ c. simp length-set (omega arith))
     (λ c κs. search needs)
     (λ c. search needs)
     (λ c. search needs)

@@ -1,7 +1,9 @@
 -- `ascii::piece::put_two` meets its contract. Assumes nothing.
+use mathlib.Core.Path.{refl}
 use native.Mathlib.Omega.{arith}
+use lib.ListN.{length-set}
 use borrow.Author.Needs.{needs}
-use Rattle.ascii.proofs.Pieces.{after, below-one, two-in}
+use Rattle.ascii.proofs.Pieces.{after, further, in-room}
 use Rattle.ascii.proofs.piece.put_two.Statement.{statement}
 use Rattle.ascii.proofs.piece.put_two.Tie as tie
 
@@ -12,10 +14,12 @@ put-two-spec =
     (λ c. search needs)
     (λ c. search needs)
     (λ c. search needs)
-    (λ c. below-one (c .before .before .before .args .line .now) _ _ _ (omega arith))
+    (λ c. simp length-set (omega arith))
     (λ c. search needs)
     (λ c. search needs)
-    (λ c. two-in _ _ _ _ (omega arith))
+    (λ c.
+    let (one, two, three) = further (c .before .before .before .args .at) in
+    in-room (rw (one)) refl (omega arith))
     (λ c κs. search needs)
     (λ c κs. search needs)
     (λ c. search needs)

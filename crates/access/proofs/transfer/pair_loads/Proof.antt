@@ -1,0 +1,19 @@
+-- `access::transfer::pair_loads` meets its contract. Assumes nothing.
+use borrow.Author.Needs.{needs}
+use Rattle.access.proofs.transfer.pair_loads.Statement.{statement}
+use Rattle.access.proofs.transfer.pair_loads.Tie as tie
+
+pub pair-loads-spec : {M : Type 1} → statement M
+pair-loads-spec =
+    tie.close
+    (tie.spec
+    (λ c. search needs)
+    (λ c. search needs)
+    (λ c. search needs)
+    (λ c. search needs)
+    (λ c. search needs)
+    (λ c. rw (c .enum-told .given .1))
+    (λ c. rw (c .enum-told2 .given .1))
+    (λ c. rw (c .enum-told3 .given .1))
+    (λ c. rw (c .enum-told4 .given .1))
+    (λ c. rw (c .enum-told5 .given .1)))
