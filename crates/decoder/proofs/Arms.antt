@@ -1,7 +1,8 @@
 -- What each return of the decoder shows, over plain values. Assumes nothing.
 use Prim.Native.Nat.{ℕ, _*_}
-use mathlib.Core.Path.{_≡_, refl, sym, ap, _∙_}
-use mathlib.Core.Bool.{Bool, true, false, _||_, not}
+use mathlib.Core.Path.{_≡_, refl, _∙_}
+use mathlib.Core.Bool.{Bool, true, false, _&&_, _||_, not}
+use lib.Dec.{eqb}
 use lib.IntN.{ℤ, pos}
 use Rattle.bits.specs.Choice.{pick}
 use Rattle.bits.specs.Fields.{field}
@@ -13,31 +14,13 @@ use Rattle.instruction.specs.declared.family.Family.{Family}
 use Rattle.instruction.specs.declared.operation.PairMode.{PairMode}
 use Rattle.instruction.specs.declared.operation.PairOp.{PairOp}
 use Rattle.instruction.specs.declared.operation.SizedOp.{SizedOp}
+use Rattle.instruction.specs.Answers.{answerNumber}
 use Rattle.instruction.specs.Table.{lineOf, isLine, inSet}
 use Rattle.instruction.specs.Undefined.{undefinedIn, undefined, allocated}
 use Rattle.instruction.specs.Unpredictable.{unpredictableIn, unpredictable}
 use Rattle.instruction.specs.Operations.{modeAt, pairBytes, sizedBytes}
 use Rattle.instruction.specs.Instructions.{familyIn, instructionOf, literalIn, pairIn, signedIn, unsignedIn}
 use Rattle.instruction.specs.Decoding.{decodeOf, classOf, empty}
-
--- an arm of a match on a line
-pub by-line : {A : Type 0} (f : Line → A) {l k : Line} {r : A} → l ≡ k → r ≡ f k → r ≡ f l
-by-line f e p = p ∙ ap f (sym e)
-
--- a family made of an operation and operands, which may depend on the operation
-pub made : {A B : Type 0} (f : A → B → Family) {a b : A} {o p : B} → a ≡ b → o ≡ p → f a o ≡ f b p
-made f e q = cc
-
-pub held : {A B : Type 0} (f : A → B → Family) (g : A → B) {a b : A} {o : B} → a ≡ b → o ≡ g a → f a o ≡ f b (g b)
-held f g e q = cc
-
--- ---- tests one after the other
-
-pub first-holds : {a : Bool} (b : Bool) {r : Bool} → r ≡ a → r ≡ true → true ≡ (a || b)
-first-holds b e t = rw (sym e ∙ t)
-
-pub second-decides : {a b : Bool} {r x : Bool} → r ≡ a → r ≡ false → x ≡ b → x ≡ (a || b)
-second-decides e t p = rw (sym e ∙ t) p
 
 -- ---- operands
 
@@ -61,48 +44,47 @@ pair-is op w q e p = cc
 
 -- ---- answers
 
-module _ (w : ℕ) {l : Line} (e : l ≡ lineOf w) where
-  pub set-is : {s : Bool} (t : Bool) → s ≡ isLine l → s ≡ t → inSet w ≡ t
-  unfolding inSet
-  set-is t p q = cc
+-- what examining a word gives
+abbrev pub Examined : ℕ → Decoded → Type 0
+Examined w r = (r .answer ≡ classOf w) × (r .instruction ≡ decodeOf w .instruction)
 
-  pub undefined-is : {u : Bool} (t : Bool) → u ≡ undefinedIn l w → u ≡ t → undefined w ≡ t
-  unfolding undefined
-  undefined-is t p q = cc
+turned : {A : Type 0} (b : Bool) (x y : A) → pick b x y ≡ pick (not b) y x
+turned true x y = refl
+turned false x y = refl
 
-  pub unpredictable-is : {u : Bool} (t : Bool) → u ≡ unpredictableIn l w → u ≡ t → unpredictable w ≡ t
-  unfolding unpredictable
-  unpredictable-is t p q = cc
+-- an arm of a match on a line
+module _ (w : ℕ) {l : Line} {r : Decoded} (e : l ≡ lineOf w) where
+  pub outside : l ≡ Line.NoLine → (r .answer ≡ Answer.NotInSet) × (r .instruction ≡ empty) → Examined w r
+  unfolding classOf decodeOf allocated inSet
+  outside g p = rw (← e, g) p
 
-  pub allocated-is : {u : Bool} → inSet w ≡ true → u ≡ undefinedIn l w → not u ≡ allocated w
-  unfolding allocated undefined
-  allocated-is s p = rw (s, ← e, p)
+  pub viewed-is : (k : Line) {u v : Bool} {f : Family} → l ≡ k → isLine k ≡ true → u ≡ undefinedIn k w → v ≡ unpredictableIn k w → f ≡ familyIn k w
+      → (r .answer ≡ pick u Answer.Undefined (pick v Answer.Unpredictable Answer.Done)) × (r .instruction ≡ pick u empty (record { family = f })) → Examined w r
+  unfolding classOf decodeOf allocated inSet undefined unpredictable instructionOf
+  viewed-is k {u} {v} {f} g s p q h a = rw (← e, g, s, ← p, ← q, ← h) (a .0, a .1 ∙ turned u empty (record { family = f }))
 
-  pub decoded-is : {f : Family} → inSet w ≡ true → undefined w ≡ false → f ≡ familyIn l w
-      → record { answer = Answer.Done; instruction = record { family = f } } ≡ decodeOf w
-  unfolding decodeOf allocated instructionOf
-  decoded-is s u p = rw (s, u, p, e)
+-- ---- what the answer of examining a word says
 
-  -- the answer is the class
-  pub examined-is : {a : Answer} {f : Family} → inSet w ≡ true → undefined w ≡ false → a ≡ pick (unpredictableIn l w) Answer.Unpredictable Answer.Done → f ≡ familyIn l w
-      → (a ≡ classOf w) × (record { family = f } ≡ decodeOf w .instruction)
-  unfolding classOf decodeOf unpredictable allocated instructionOf
-  examined-is s u q p = rw (s, u, q, p, e) (refl, refl)
+abbrev class : Bool → Bool → Bool → Answer
+class s u v = pick s (pick u Answer.Undefined (pick v Answer.Unpredictable Answer.Done)) Answer.NotInSet
 
-pub not-in-set : (w : ℕ) {r : Decoded} → inSet w ≡ false → (r .answer ≡ Answer.NotInSet) × (r .instruction ≡ empty) → r ≡ decodeOf w
-unfolding decodeOf allocated
-not-in-set w s p = rw s (λ i. record { answer = p .0 i; instruction = p .1 i })
+decoding : (s u v : Bool) → pick (eqb (answerNumber (class s u v)) 4) Answer.Done (class s u v) ≡ pick s (pick u Answer.Undefined Answer.Done) Answer.NotInSet
+decoding false u v = refl
+decoding true true v = refl
+decoding true false true = refl
+decoding true false false = refl
 
-pub is-undefined : (w : ℕ) {r : Decoded} → inSet w ≡ true → undefined w ≡ true → (r .answer ≡ Answer.Undefined) × (r .instruction ≡ empty) → r ≡ decodeOf w
-unfolding decodeOf allocated
-is-undefined w s u p = rw (s, u) (λ i. record { answer = p .0 i; instruction = p .1 i })
+allocation : (s u v : Bool) → (eqb (answerNumber (class s u v)) 0 || eqb (answerNumber (class s u v)) 4) ≡ (s && not u)
+allocation false u v = refl
+allocation true true v = refl
+allocation true false true = refl
+allocation true false false = refl
 
-module _ (w : ℕ) {r : Decoded} where
-  pub examined-outside : inSet w ≡ false → (r .answer ≡ Answer.NotInSet) × (r .instruction ≡ empty) → (r .answer ≡ classOf w) × (r .instruction ≡ decodeOf w .instruction)
-  unfolding classOf decodeOf allocated
-  examined-outside s p = rw s p
+-- decoding answers no 4
+pub decoded-is : (w : ℕ) {r : Decoded} {a : Answer} → Examined w r → a ≡ pick (eqb (answerNumber (r .answer)) 4) Answer.Done (r .answer) → record { answer = a; instruction = r .instruction } ≡ decodeOf w
+unfolding classOf decodeOf
+decoded-is w p e = rw (e, p .0, p .1, decoding (inSet w) (undefined w) (unpredictable w))
 
-  pub examined-undefined : inSet w ≡ true → undefined w ≡ true → (r .answer ≡ Answer.Undefined) × (r .instruction ≡ empty)
-      → (r .answer ≡ classOf w) × (r .instruction ≡ decodeOf w .instruction)
-  unfolding classOf decodeOf allocated
-  examined-undefined s u p = rw (s, u) p
+pub allocated-is : (w : ℕ) {a : Answer} {n : ℕ} → a ≡ classOf w → n ≡ answerNumber a → (eqb n 0 || eqb n 4) ≡ allocated w
+unfolding classOf allocated
+allocated-is w e g = rw (g, e) (allocation (inSet w) (undefined w) (unpredictable w))

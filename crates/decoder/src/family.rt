@@ -15,30 +15,54 @@ ghost use Rattle.bits.specs.Signed.{signedOf};
 ghost use Rattle.instruction.specs.Operations.{sizedAt, literalAt, pairAt, modeAt};
 ghost use Rattle.instruction.specs.Instructions.{sizedIn, pairOpIn, literalIn, pairIn, signedIn, indexIn, unsignedIn, familyIn};
 
-// The family of a word of a line.
-pub fn family_in(line: Line, word: u32) -> Family
-    ensures { λ r. ⌜ r ≡ familyIn line word ⌝ }
+pub fn literal(word: u32) -> Family
+    ensures { λ r. ⌜ r ≡ familyIn Line.LiteralLine word ⌝ }
 {
-    match line {
-        Line::NoLine => Family::Empty,
-        Line::LiteralLine => Family::Literal(
-            literal_op(word / 0x4000_0000 % 4),
-            literal_operands(word),
-        ),
-        Line::PairLine => {
-            let op = pair_op_in(word);
-            Family::Pair(op, pair_operands(op, word))
-        }
-        Line::OrderedLine => Family::Ordered(sized_op_in(word), signed_operands(word)),
-        Line::UnscaledLine => Family::Unscaled(sized_op_in(word), signed_operands(word)),
-        Line::PostLine => Family::PostIndex(sized_op_in(word), signed_operands(word)),
-        Line::PreLine => Family::PreIndex(sized_op_in(word), signed_operands(word)),
-        Line::RegisterLine => Family::Register(sized_op_in(word), index_operands(word)),
-        Line::UnsignedLine => {
-            let op = sized_op_in(word);
-            Family::Unsigned(op, unsigned_operands(op, word))
-        }
-    }
+    Family::Literal(literal_op(word / 0x4000_0000 % 4), literal_operands(word))
+}
+
+pub fn pair(word: u32) -> Family
+    ensures { λ r. ⌜ r ≡ familyIn Line.PairLine word ⌝ }
+{
+    let op = pair_op_in(word);
+    Family::Pair(op, pair_operands(op, word))
+}
+
+pub fn ordered(word: u32) -> Family
+    ensures { λ r. ⌜ r ≡ familyIn Line.OrderedLine word ⌝ }
+{
+    Family::Ordered(sized_op_in(word), signed_operands(word))
+}
+
+pub fn unscaled(word: u32) -> Family
+    ensures { λ r. ⌜ r ≡ familyIn Line.UnscaledLine word ⌝ }
+{
+    Family::Unscaled(sized_op_in(word), signed_operands(word))
+}
+
+pub fn post_index(word: u32) -> Family
+    ensures { λ r. ⌜ r ≡ familyIn Line.PostLine word ⌝ }
+{
+    Family::PostIndex(sized_op_in(word), signed_operands(word))
+}
+
+pub fn pre_index(word: u32) -> Family
+    ensures { λ r. ⌜ r ≡ familyIn Line.PreLine word ⌝ }
+{
+    Family::PreIndex(sized_op_in(word), signed_operands(word))
+}
+
+pub fn register(word: u32) -> Family
+    ensures { λ r. ⌜ r ≡ familyIn Line.RegisterLine word ⌝ }
+{
+    Family::Register(sized_op_in(word), index_operands(word))
+}
+
+pub fn unsigned(word: u32) -> Family
+    ensures { λ r. ⌜ r ≡ familyIn Line.UnsignedLine word ⌝ }
+{
+    let op = sized_op_in(word);
+    Family::Unsigned(op, unsigned_operands(op, word))
 }
 
 fn literal_op(opc: u32) -> LiteralOp

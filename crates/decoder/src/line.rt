@@ -2,7 +2,7 @@
 use instruction::Line;
 ghost use mathlib.Core.Path.{_≡_};
 ghost use Rattle.bits.specs.Fields.{field};
-ghost use Rattle.instruction.specs.Table.{isLine, lineOf};
+ghost use Rattle.instruction.specs.Table.{lineOf};
 
 pub fn line_of(word: u32) -> Line
     ensures { λ r. ⌜ r ≡ lineOf word ⌝ }
@@ -46,21 +46,5 @@ fn with_size(word: u32) -> Line
         0b011 => Line::PreLine,
         0b110 => Line::RegisterLine,
         _ => Line::NoLine,
-    }
-}
-
-pub fn is_line(line: Line) -> bool
-    ensures { λ r. ⌜ r ≡ isLine line ⌝ }
-{
-    match line {
-        Line::NoLine => false,
-        Line::LiteralLine => true,
-        Line::PairLine => true,
-        Line::OrderedLine => true,
-        Line::UnscaledLine => true,
-        Line::PostLine => true,
-        Line::PreLine => true,
-        Line::RegisterLine => true,
-        Line::UnsignedLine => true,
     }
 }

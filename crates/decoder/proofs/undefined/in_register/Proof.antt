@@ -1,8 +1,6 @@
 -- `decoder::undefined::in_register` meets its contract. Assumes nothing.
-use mathlib.Core.Path.{refl}
 use Rattle.bits.specs.Fields.{part}
 use Rattle.instruction.specs.Undefined.{undefinedOption}
-use Rattle.decoder.proofs.Arms.{first-holds, second-decides}
 use borrow.Author.Needs.{needs}
 use Rattle.decoder.proofs.undefined.in_register.Statement.{statement}
 use Rattle.decoder.proofs.undefined.in_register.Tie as tie
@@ -13,5 +11,4 @@ in-register-spec =
     tie.close
     (tie.spec
     (λ c κs. search needs)
-    (λ c. first-holds _ (c .before .in-size .ensures) (c .if1 .taken))
-    (λ c. second-decides (c .before .in-size .ensures) (c .if1 .left) refl))
+    (λ c. rw (c .in-size .ensures)))

@@ -1,5 +1,5 @@
 -- `decoder::undefined::in_size` meets its contract. Assumes nothing.
-use borrow.Author.Tests.{eq-eqb, ne-eqb}
+use mathlib.Core.Path.{refl}
 use Rattle.bits.specs.Fields.{part}
 use Rattle.instruction.specs.Undefined.{undefinedSize}
 use borrow.Author.Needs.{needs}
@@ -13,5 +13,4 @@ in-size-spec =
     (tie.spec
     (λ c. search needs)
     (λ c. search needs)
-    (λ c. simp (eq-eqb _ _ (c .if1 .taken)))
-    (λ c. simp (ne-eqb _ _ (c .if1 .left))))
+    (λ c. refl))

@@ -1,8 +1,6 @@
 -- `decoder::undefined::without_prefetch` meets its contract. Assumes nothing.
-use mathlib.Core.Path.{refl}
 use Rattle.bits.specs.Fields.{part}
 use Rattle.instruction.specs.Undefined.{undefinedPrefetch}
-use Rattle.decoder.proofs.Arms.{first-holds, second-decides}
 use borrow.Author.Needs.{needs}
 use Rattle.decoder.proofs.undefined.without_prefetch.Statement.{statement}
 use Rattle.decoder.proofs.undefined.without_prefetch.Tie as tie
@@ -13,7 +11,6 @@ without-prefetch-spec =
     tie.close
     (tie.spec
     (λ c κs. search needs)
-    (λ c. first-holds _ (c .before .in-size .ensures) (c .if1 .taken))
     (λ c. search needs)
     (λ c. search needs)
-    (λ c. second-decides (c .before .in-size .ensures) (c .if1 .left) refl))
+    (λ c. rw (c .in-size .ensures)))

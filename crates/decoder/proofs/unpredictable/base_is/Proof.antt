@@ -1,5 +1,5 @@
 -- `decoder::unpredictable::base_is` meets its contract. Assumes nothing.
-use borrow.Author.Tests.{eq-eqb, ne-eqb}
+use mathlib.Core.Path.{refl}
 use Rattle.bits.specs.Fields.{part}
 use Rattle.instruction.specs.Unpredictable.{baseIs}
 use Rattle.decoder.proofs.unpredictable.base_is.Statement.{statement}
@@ -10,5 +10,4 @@ unfolding baseIs part
 base-is-spec =
     tie.close
     (tie.spec
-    (λ c. simp (eq-eqb _ _ (c .if1 .taken)))
-    (λ c. simp (ne-eqb _ _ (c .if1 .left))))
+    (λ c. refl))

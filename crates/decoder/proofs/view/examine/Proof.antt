@@ -1,29 +1,60 @@
 -- `decoder::view::examine` meets its contract. Assumes nothing.
-use mathlib.Core.Bool.{true, false}
-use borrow.Author.Tests.{not-true, not-false}
-use Rattle.decoder.proofs.Arms.{set-is, undefined-is, examined-outside, examined-undefined, examined-is}
+use mathlib.Core.Path.{refl}
+use Rattle.bits.specs.Fields.{part}
+use Rattle.instruction.specs.declared.line.Line.{Line}
+use Rattle.decoder.proofs.Arms.{outside, viewed-is}
 use borrow.Author.Needs.{needs}
 use Rattle.decoder.proofs.view.examine.Statement.{statement}
 use Rattle.decoder.proofs.view.examine.Tie as tie
 
 pub examine-spec : {M : Type 1} → statement M
+unfolding part
 examine-spec =
     tie.close
     (tie.spec
     (λ c κs. search needs)
+    (λ c. search needs)
+    (λ c κs. search needs)
+    (λ c. search needs)
     (λ c κs. search needs)
     (λ c κs. search needs)
-    (λ c.
-    examined-outside _ (set-is _ (c .before .before .before .line-of .ensures) false (c .before .before .is-line .ensures) (not-true _ (c .before .if1 .taken))) (c .refused .ensures))
+    (λ c. search needs)
     (λ c κs. search needs)
     (λ c κs. search needs)
-    (λ c.
-    let e = c .before .before .before .before .before .line-of .ensures in
-    examined-undefined _ (set-is _ e true (c .before .before .before .before .is-line .ensures) (not-false _ (c .before .before .before .if1 .left)))
-    (undefined-is _ e true (c .before .before .undefined-in .ensures) (c .before .if2 .taken)) (c .refused2 .ensures))
     (λ c κs. search needs)
     (λ c κs. search needs)
-    (λ c.
-    let e = c .before .before .before .before .before .before .line-of .ensures in
-    examined-is _ e (set-is _ e true (c .before .before .before .before .before .is-line .ensures) (not-false _ (c .before .before .before .before .if1 .left)))
-    (undefined-is _ e false (c .before .before .before .undefined-in .ensures) (c .before .before .if2 .left)) (c .before .allocated-answer .ensures) (c .family-in .ensures)))
+    (λ c. search needs)
+    (λ c κs. search needs)
+    (λ c κs. search needs)
+    (λ c κs. search needs)
+    (λ c. search needs)
+    (λ c κs. search needs)
+    (λ c κs. search needs)
+    (λ c κs. search needs)
+    (λ c. search needs)
+    (λ c κs. search needs)
+    (λ c κs. search needs)
+    (λ c κs. search needs)
+    (λ c κs. search needs)
+    (λ c. search needs)
+    (λ c κs. search needs)
+    (λ c κs. search needs)
+    (λ c κs. search needs)
+    (λ c κs. search needs)
+    (λ c. search needs)
+    (λ c κs. search needs)
+    (λ c κs. search needs)
+    (λ c κs. search needs)
+    (λ c. search needs)
+    (λ c κs. search needs)
+    (λ c κs. search needs)
+    (λ c κs. search needs)
+    (λ c. outside _ (c .before .before .before .line-of .ensures) (c .before .enum-told .given .1) (c .refused .ensures))
+    (λ c. viewed-is _ (c .before .before .before .before .line-of .ensures) Line.LiteralLine (c .before .before .enum-told2 .given .1) refl refl refl (c .before .literal .ensures) (c .viewed .ensures))
+    (λ c. viewed-is _ (c .before .before .before .before .before .before .line-of .ensures) Line.PairLine (c .before .before .before .before .enum-told3 .given .1) refl (c .before .before .before .in-pair .ensures) (c .before .before .in-pair2 .ensures) (c .before .pair .ensures) (c .viewed2 .ensures))
+    (λ c. viewed-is _ (c .before .before .before .before .before .line-of .ensures) Line.OrderedLine (c .before .before .before .enum-told4 .given .1) refl (c .before .before .without-prefetch .ensures) refl (c .before .ordered .ensures) (c .viewed3 .ensures))
+    (λ c. viewed-is _ (c .before .before .before .before .before .line-of .ensures) Line.UnscaledLine (c .before .before .before .enum-told5 .given .1) refl (c .before .before .in-size .ensures) refl (c .before .unscaled .ensures) (c .viewed4 .ensures))
+    (λ c. viewed-is _ (c .before .before .before .before .before .before .line-of .ensures) Line.PostLine (c .before .before .before .before .enum-told6 .given .1) refl (c .before .before .before .without-prefetch2 .ensures) (c .before .before .base-is .ensures) (c .before .post-index .ensures) (c .viewed5 .ensures))
+    (λ c. viewed-is _ (c .before .before .before .before .before .before .line-of .ensures) Line.PreLine (c .before .before .before .before .enum-told7 .given .1) refl (c .before .before .before .without-prefetch3 .ensures) (c .before .before .base-is2 .ensures) (c .before .pre-index .ensures) (c .viewed6 .ensures))
+    (λ c. viewed-is _ (c .before .before .before .before .before .line-of .ensures) Line.RegisterLine (c .before .before .before .enum-told8 .given .1) refl (c .before .before .in-register .ensures) refl (c .before .register .ensures) (c .viewed7 .ensures))
+    (λ c. viewed-is _ (c .before .before .before .before .before .line-of .ensures) Line.UnsignedLine (c .before .before .before .enum-told9 .given .1) refl (c .before .before .in-size2 .ensures) refl (c .before .unsigned .ensures) (c .viewed8 .ensures)))
