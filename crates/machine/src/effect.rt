@@ -1,129 +1,151 @@
 // What an access leaves: registers, bytes and taints. The tests are passed by now.
-use crate::State;
-use crate::Stepped;
 use crate::extend;
 use access::Transfer;
-use instruction::Answer;
-use registers::Registers;
 ghost use mathlib.Core.Path.{_≡_};
-ghost use Prim.Native.Nat.{_+_, _≤_};
-ghost use lib.ListN.{length, replicate};
+ghost use mathlib.Core.Bool.{false};
+ghost use Prim.Native.Nat.{ℕ, _+_, _≤_};
+ghost use lib.ListN.{length, getD, set, replicate};
 ghost use lib.Seq.{sets};
-ghost use Rattle.registers.specs.File.{valueAt, taintAt, setAt};
 ghost use Rattle.memory.specs.Bytes.{bytesOf, joined, spanOf};
 ghost use Rattle.memory.specs.Extension.{extendedOf};
 ghost use Rattle.memory.specs.Taints.{anyTainted, taintByte};
 ghost use Rattle.plan.specs.Admission.{totalOf};
 ghost use Rattle.machine.specs.Rule.{loadedTaints, storedTaints};
-ghost use Rattle.machine.specs.Machine.{machineOf, nextPc, loadedValues, storedBytes, effectOf, codeOf};
-ghost use Rattle.machine.specs.Step.{outcome, performed, moved};
+ghost use Rattle.machine.specs.Machine.{machineWith, nextPc, loadedValues, storedBytes, effectOf, codeOf};
 
-// The state with the program counter at the next word.
-pub fn advanced(state: State) -> State
-    ensures { λ r. ⌜ (r .registers ≡ state .registers) × (r .pc ≡ nextPc (state .pc)) ⌝ }
+pub fn code(t: Transfer) -> u64
+    ensures { λ r. ⌜ r ≡ codeOf t ⌝ }
 {
-    let mut next = state;
-    next.pc = std::num::wrapping_add_u64(state.pc, 4);
-    next
+    let moved = t.bytes as u64 + t.more as u64;
+    if t.store {
+        return moved + 64;
+    }
+    moved
 }
 
-fn with_registers(state: State, registers: Registers) -> State
-    ensures { λ r. ⌜ (r .registers ≡ registers) × (r .pc ≡ state .pc) ⌝ }
-{
-    let mut next = state;
-    next.registers = registers;
-    next
-}
-
-// The machine after an access at an index, whose address is given, and what is written back.
+// The machine after an access at an index, but for its program counter, and with what is written back.
 pub fn touched(
     t: Transfer,
     written: u32,
-    state: State,
     at: usize,
-    address: u64,
     next: u64,
+    value: &mut [u64; 32],
+    tainted: &mut [bool; 32],
     bytes: &mut [u8],
     taints: &mut [u8],
-) -> Stepped
+)
     requires { ⌜ (t .bytes ≤ t .extent) × (t .more ≤ t .extent) × (t .extent ≤ 8) × (at + totalOf t ≤ length (now bytes)) × (length (now taints) ≡ length (now bytes)) ⌝ }
-    ensures { λ r. ⌜ outcome r (now (bytes .exit)) (now (taints .exit)) ≡ performed (machineOf state (now (bytes .entry)) (now (taints .entry))) (moved (effectOf t written at next (machineOf state (now (bytes .entry)) (now (taints .entry)))) (codeOf t) address) ⌝ }
+    ensures { λ _. ⌜ ((pc : ℕ) → machineWith (now (value .exit)) (now (tainted .exit)) (nextPc pc) (now (bytes .exit)) (now (taints .exit)) ≡ effectOf t written at next (machineWith (now (value .entry)) (now (tainted .entry)) pc (now (bytes .entry)) (now (taints .entry)))) ⌝ }
 {
-    let file = state.registers;
-    let based = file.set(written, next, false);
-    let moved = t.bytes as u64 + t.more as u64;
     if t.store {
-        stored(t, file, bytes, taints, at);
-        return Stepped {
-            state: advanced(with_registers(state, based)),
-            answer: Answer::Done,
-            code: moved + 64,
-            address,
-        };
+        stored(t, value, tainted, bytes, taints, at);
+        registers::set_in(value, tainted, written, next, false);
+        return;
     }
-    let after = loaded(t, based, bytes, taints, at);
-    Stepped {
-        state: advanced(with_registers(state, after)),
-        answer: Answer::Done,
-        code: moved,
-        address,
-    }
+    registers::set_in(value, tainted, written, next, false);
+    loaded(t, value, tainted, bytes, taints, at);
 }
 
 // The file after a load at an index.
-fn loaded(t: Transfer, file: Registers, bytes: &[u8], taints: &[u8], at: usize) -> Registers
+fn loaded(
+    t: Transfer,
+    value: &mut [u64; 32],
+    tainted: &mut [bool; 32],
+    bytes: &[u8],
+    taints: &[u8],
+    at: usize,
+)
     requires { ⌜ (t .bytes ≤ t .extent) × (t .more ≤ t .extent) × (t .extent ≤ 8) × (at + totalOf t ≤ length (now bytes)) × (length (now taints) ≡ length (now bytes)) ⌝ }
-    ensures { λ r. ⌜ (r .value ≡ loadedValues t at (file .value) (now (bytes .entry))) × (r .taint ≡ loadedTaints t at (file .taint) (now (taints .entry))) ⌝ }
+    ensures { λ _. ⌜ (now (value .exit) ≡ loadedValues t at (now (value .entry)) (now (bytes .entry))) × (now (tainted .exit) ≡ loadedTaints t at (now (tainted .entry)) (now (taints .entry))) ⌝ }
 {
-    let first = loaded_one(file, t.target, t.bytes, t.extent, bytes, taints, at);
     loaded_one(
-        first,
+        value,
+        tainted,
+        t.target,
+        t.bytes,
+        t.extent,
+        bytes,
+        taints,
+        at,
+    );
+    loaded_one(
+        value,
+        tainted,
         t.second,
         t.more,
         t.extent,
         bytes,
         taints,
         at + t.bytes as usize,
-    )
+    );
 }
 
-// The file after a load of n bytes into one slot. Nothing is loaded where there is none.
+// The file after a load of n bytes into one slot. A single access has no second register, and no bytes for it.
 fn loaded_one(
-    file: Registers,
+    value: &mut [u64; 32],
+    tainted: &mut [bool; 32],
     slot: u32,
     n: u32,
     extent: u32,
     bytes: &[u8],
     taints: &[u8],
     at: usize,
-) -> Registers
+)
     requires { ⌜ (n ≤ extent) × (extent ≤ 8) × (at + n ≤ length (now bytes)) × (length (now taints) ≡ length (now bytes)) ⌝ }
-    ensures { λ r. ⌜ r ≡ setAt file slot (extendedOf n extent (joined (spanOf (now (bytes .entry)) at n))) (anyTainted (spanOf (now (taints .entry)) at n)) ⌝ }
+    ensures { λ _. ⌜ (now (value .exit) ≡ set (now (value .entry)) slot (extendedOf n extent (joined (spanOf (now (bytes .entry)) at n)))) × (now (tainted .exit) ≡ set (now (tainted .entry)) slot (anyTainted (spanOf (now (taints .entry)) at n))) ⌝ }
 {
-    if 32 <= slot {
-        return file;
+    if n == 0 {
+        registers::set_in(value, tainted, slot, 0, false);
+        return;
     }
     let number = memory::load(&bytes[at..], n as usize);
     let taint = memory::any_tainted(&taints[at..], n as usize);
-    file.set(slot, extend::extended(number, n, extent), taint)
+    let extended = extend::extended(number, n, extent);
+    registers::set_in(value, tainted, slot, extended, taint);
 }
 
 // Memory and taints after a store at an index.
-fn stored(t: Transfer, file: Registers, bytes: &mut [u8], taints: &mut [u8], at: usize)
+fn stored(
+    t: Transfer,
+    value: &[u64; 32],
+    tainted: &[bool; 32],
+    bytes: &mut [u8],
+    taints: &mut [u8],
+    at: usize,
+)
     requires { ⌜ (at + totalOf t ≤ length (now bytes)) × (length (now taints) ≡ length (now bytes)) ⌝ }
-    ensures { λ _. ⌜ (now (bytes .exit) ≡ storedBytes t at (file .value) (now (bytes .entry))) × (now (taints .exit) ≡ storedTaints t at (file .taint) (now (taints .entry))) ⌝ }
+    ensures { λ _. ⌜ (now (bytes .exit) ≡ storedBytes t at (now (value .entry)) (now (bytes .entry))) × (now (taints .exit) ≡ storedTaints t at (now (tainted .entry)) (now (taints .entry))) ⌝ }
 {
-    stored_one(file, t.target, t.bytes, bytes, taints, at);
-    stored_one(file, t.second, t.more, bytes, taints, at + t.bytes as usize);
+    stored_one(value, tainted, t.target, t.bytes, bytes, taints, at);
+    stored_one(
+        value,
+        tainted,
+        t.second,
+        t.more,
+        bytes,
+        taints,
+        at + t.bytes as usize,
+    );
 }
 
 // Memory and taints after a store of n bytes of one slot.
-fn stored_one(file: Registers, slot: u32, n: u32, bytes: &mut [u8], taints: &mut [u8], at: usize)
+fn stored_one(
+    value: &[u64; 32],
+    tainted: &[bool; 32],
+    slot: u32,
+    n: u32,
+    bytes: &mut [u8],
+    taints: &mut [u8],
+    at: usize,
+)
     requires { ⌜ (at + n ≤ length (now bytes)) × (length (now taints) ≡ length (now bytes)) ⌝ }
-    ensures { λ _. ⌜ (now (bytes .exit) ≡ sets (now (bytes .entry)) at (bytesOf n (valueAt file slot))) × (now (taints .exit) ≡ sets (now (taints .entry)) at (replicate n (taintByte (taintAt file slot)))) ⌝ }
+    ensures { λ _. ⌜ (now (bytes .exit) ≡ sets (now (bytes .entry)) at (bytesOf n (getD (now (value .entry)) slot 0))) × (now (taints .exit) ≡ sets (now (taints .entry)) at (replicate n (taintByte (getD (now (tainted .entry)) slot false)))) ⌝ }
 {
-    let value = file.get(slot);
-    let taint = file.is_tainted(slot);
-    memory::store(&mut bytes[at..], n as usize, value);
+    if n == 0 {
+        return;
+    }
+    let number = registers::value_in(value, slot);
+    let taint = registers::is_tainted_in(tainted, slot);
+    memory::store(&mut bytes[at..], n as usize, number);
     memory::store_taint(&mut taints[at..], n as usize, taint);
 }

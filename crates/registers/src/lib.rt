@@ -1,6 +1,11 @@
 // The register file: X0 to X30 and SP, each with its taint. A file is handed over and given back by value.
 // A register is asked for by number in two ways: 31 is SP, or it is the zero register, which no number from
 // 32 on is told from: both read 0, untainted, and setting them changes nothing.
+mod lent;
+
+pub use lent::is_tainted_in;
+pub use lent::set_in;
+pub use lent::value_in;
 ghost use mathlib.Core.Path.{_≡_};
 ghost use Rattle.registers.specs.File.{zeroSlot, valueAt, taintAt, setAt};
 

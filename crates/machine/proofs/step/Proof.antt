@@ -1,20 +1,14 @@
 -- `machine::step` meets its contract. Assumes nothing.
-use mathlib.Core.Path.{sym, _∙_}
-use Rattle.plan.proofs.Tests.{same-lengths}
-use Rattle.machine.specs.Step.{stepOf}
 use borrow.Author.Needs.{needs}
 use Rattle.machine.proofs.step.Statement.{statement}
 use Rattle.machine.proofs.step.Tie as tie
 
 pub step-spec : {M : Type 1} → statement M
-unfolding stepOf
 step-spec =
     tie.close
     (tie.spec
     (λ c κs. search needs)
     (λ c κs. search needs)
-    (λ c. rw (← c .before .before .is-bad .ensures, c .before .if1 .taken) (c .refused .ensures _ _))
-    (λ c κs. same-lengths _ _ _ _ (sym (c .before .before .before .is-bad .ensures) ∙ c .before .before .if1 .left))
     (λ c. search needs)
     (λ c. search needs)
-    (λ c. rw (← c .before .before .before .before .before .before .before .before .is-bad .ensures, c .before .before .before .before .before .before .before .if1 .left) (c .before .before .before .before .step-word .ensures)))
+    (λ c. rw (c .with-file .ensures .0, c .with-file .ensures .1, c .with-file .ensures .2) (c .before .before .before .before .before .advance .ensures)))

@@ -12,6 +12,6 @@ loaded-spec =
     (λ c. search needs)
     (λ c κs. search needs)
     (λ c.
-    let first = c .before .before .loaded-one .ensures in
+    let first = c .before .before .before .before .loaded-one .ensures in
     let second = c .loaded-one2 .ensures in
-    (rw (second, first), rw (second, first))))
+    (rw (← first .0) (second .0), rw (← first .1) (second .1))))

@@ -8,9 +8,11 @@ use Rattle.machine.proofs.effect.stored_one.Statement.{statement}
 use Rattle.machine.proofs.effect.stored_one.Tie as tie
 
 pub stored-one-spec : {M : Type 1} → statement M
+unfolding bytesOf
 stored-one-spec =
     tie.close
     (tie.spec
+    (λ c. (rw (c .if1 .taken), rw (c .if1 .taken)))
     (λ c κs. search needs)
     (λ c κs. search needs)
     (λ c. search needs)
@@ -24,9 +26,9 @@ stored-one-spec =
     (λ c. search needs)
     (λ c. search needs)
     (λ c.
-    let a = c .before .before .before .before .before .before .before .before .before .before .before .before .args in
-    let value = c .before .before .before .before .before .before .before .before .before .get in
-    let taint = c .before .before .before .before .before .before .before .before .is-tainted in (
-      rw (← value .ensures) (put-back (a .bytes .now) _ (bytesOf (a .n) (value .result)) (a .at) (c .before .before .before .before .before .before .store .ensures)),
+    let a = c .before .before .before .before .before .before .before .before .before .before .before .before .before .args in
+    let number = c .before .before .before .before .before .before .before .before .before .value-in in
+    let taint = c .before .before .before .before .before .before .before .before .is-tainted-in in (
+      rw (← number .ensures) (put-back (a .bytes .now) _ (bytesOf (a .n) (number .result)) (a .at) (c .before .before .before .before .before .before .store .ensures)),
       rw (← taint .ensures) (put-back (a .taints .now) _ (replicate (a .n) (taintByte (taint .result))) (a .at) (c .before .before .store-taint .ensures)),
     )))

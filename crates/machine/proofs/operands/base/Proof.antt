@@ -9,4 +9,4 @@ base-spec =
     (tie.spec
     (λ c. rw (c .if1 .taken))
     (λ c κs. search needs)
-    (λ c. rw (c .before .if1 .left) (c .get .ensures)))
+    (λ c. rw (c .before .if1 .left) (c .value-in .ensures)))

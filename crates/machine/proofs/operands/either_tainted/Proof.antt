@@ -8,6 +8,6 @@ either-tainted-spec =
     tie.close
     (tie.spec
     (λ c κs. search needs)
-    (λ c. rw (← c .before .is-tainted .ensures, c .if1 .taken))
+    (λ c. rw (← c .before .is-tainted-in .ensures, c .if1 .taken))
     (λ c κs. search needs)
-    (λ c. rw (← c .before .before .is-tainted .ensures, c .before .if1 .left) (c .is-tainted2 .ensures)))
+    (λ c. rw (← c .before .before .is-tainted-in .ensures, c .before .if1 .left) (c .is-tainted-in2 .ensures)))
