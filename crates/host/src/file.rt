@@ -1,31 +1,15 @@
-// The state of a run, copied in from the slices that a host lends, and back to them: the registers as numbers, and
-// a flag for each taint.
-use machine::State;
-use registers::Registers;
+// The register file of a run, copied in from the slices that a host lends, and back to them: the registers as
+// numbers, and a flag for each taint.
 ghost use mathlib.Core.Path.{_≡_};
-ghost use mathlib.Core.List.{List, map};
-ghost use Prim.Native.Nat.{ℕ, _≤_};
+ghost use mathlib.Core.List.{map};
+ghost use Prim.Native.Nat.{_≤_};
 ghost use lib.ListN.{length, take};
 ghost use lib.Seq.{sets};
 ghost use Rattle.bits.specs.Choice.{pick};
 ghost use Rattle.memory.specs.Taints.{tainted, taintByte};
-ghost use Rattle.machine.specs.Machine.{machineOf};
-ghost use Rattle.host.specs.Hosting.{isBegun, machineIn, registersOut, flagsOut};
+ghost use Rattle.host.specs.Hosting.{isBegun, registersOut, flagsOut};
 
-pub fn state_in(registers: &[u64], flags: &[u8]) -> State
-    requires { ⌜ (33 ≤ length (now registers)) × (32 ≤ length (now flags)) ⌝ }
-    ensures { λ r. ⌜ ((m k : List ℕ) → machineOf r m k ≡ machineIn (now (registers .entry)) (now (flags .entry)) m k) ⌝ }
-{
-    let value = values_in(registers);
-    let taint = taints_in(flags);
-    let file = Registers { value, taint };
-    State {
-        registers: file,
-        pc: registers[32],
-    }
-}
-
-fn values_in(registers: &[u64]) -> [u64; 32]
+pub fn values_in(registers: &[u64]) -> [u64; 32]
     requires { ⌜ 32 ≤ length (now registers) ⌝ }
     ensures { λ r. ⌜ r ≡ take 32 (now (registers .entry)) ⌝ }
 {
@@ -38,7 +22,7 @@ fn values_in(registers: &[u64]) -> [u64; 32]
     value
 }
 
-fn taints_in(flags: &[u8]) -> [bool; 32]
+pub fn taints_in(flags: &[u8]) -> [bool; 32]
     requires { ⌜ 32 ≤ length (now flags) ⌝ }
     ensures { λ r. ⌜ r ≡ take 32 (map tainted (now (flags .entry))) ⌝ }
 {
@@ -52,37 +36,43 @@ fn taints_in(flags: &[u8]) -> [bool; 32]
 }
 
 // After a run with an answer of this number. Nothing is put back where the run was not begun.
-pub fn put_back(number: u64, state: State, registers: &mut [u64], flags: &mut [u8])
+pub fn put_back(
+    number: u64,
+    value: [u64; 32],
+    taint: [bool; 32],
+    pc: u64,
+    registers: &mut [u64],
+    flags: &mut [u8],
+)
     requires { ⌜ (33 ≤ length (now registers)) × (32 ≤ length (now flags)) ⌝ }
-    ensures { λ _. ⌜ (now (registers .exit) ≡ pick (isBegun number) (registersOut (state .registers .value) (state .pc) (now (registers .entry))) (now (registers .entry)))
-        × (now (flags .exit) ≡ pick (isBegun number) (flagsOut (state .registers .taint) (now (flags .entry))) (now (flags .entry))) ⌝ }
+    ensures { λ _. ⌜ (now (registers .exit) ≡ pick (isBegun number) (registersOut value pc (now (registers .entry))) (now (registers .entry)))
+        × (now (flags .exit) ≡ pick (isBegun number) (flagsOut taint (now (flags .entry))) (now (flags .entry))) ⌝ }
 {
     if is_begun(number) {
-        let file = state.registers;
-        put_values(file, registers);
-        registers[32] = state.pc;
-        put_flags(file, flags);
+        put_values(value, registers);
+        registers[32] = pc;
+        put_flags(taint, flags);
     }
 }
 
-fn put_values(file: Registers, registers: &mut [u64])
+fn put_values(value: [u64; 32], registers: &mut [u64])
     requires { ⌜ 32 ≤ length (now registers) ⌝ }
-    ensures { λ _. ⌜ now (registers .exit) ≡ sets (now (registers .entry)) 0 (file .value) ⌝ }
+    ensures { λ _. ⌜ now (registers .exit) ≡ sets (now (registers .entry)) 0 value ⌝ }
 {
     let mut i = 0;
     while i < 32 {
-        registers[i] = file.value[i];
+        registers[i] = value[i];
         i += 1;
     }
 }
 
-fn put_flags(file: Registers, flags: &mut [u8])
+fn put_flags(taint: [bool; 32], flags: &mut [u8])
     requires { ⌜ 32 ≤ length (now flags) ⌝ }
-    ensures { λ _. ⌜ now (flags .exit) ≡ sets (now (flags .entry)) 0 (map taintByte (file .taint)) ⌝ }
+    ensures { λ _. ⌜ now (flags .exit) ≡ sets (now (flags .entry)) 0 (map taintByte taint) ⌝ }
 {
     let mut i = 0;
     while i < 32 {
-        flags[i] = flag(file.taint[i]);
+        flags[i] = flag(taint[i]);
         i += 1;
     }
 }

@@ -56,13 +56,21 @@ pub extern "C" fn milestarling_run(
     if flags.len() < 32 {
         return no_room();
     }
-    let state = file::state_in(registers, flags);
-    let window = Window { origin, readonly };
-    let ran = execution::run(words, state, window, memory, taint, trace);
+    let mut value = file::values_in(registers);
+    let mut tainted = file::taints_in(flags);
+    let ran = execution::run_in(
+        words,
+        registers[32],
+        Window { origin, readonly },
+        &mut value,
+        &mut tainted,
+        memory,
+        taint,
+        trace,
+    );
     let answer = ran.answer;
     let number = answer_number(answer);
-    let after = ran.state;
-    file::put_back(number, after, registers, flags);
+    file::put_back(number, value, tainted, ran.pc, registers, flags);
     RunReply {
         steps: ran.steps as u64,
         answer: number,

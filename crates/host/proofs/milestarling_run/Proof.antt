@@ -1,7 +1,7 @@
 -- `host::milestarling_run` meets its contract. Assumes nothing.
 use native.Mathlib.Omega.{arith}
-use borrow.Author.Needs.{needs}
 use Rattle.host.proofs.Runs.{short-registers, short-flags, handed}
+use borrow.Author.Needs.{needs}
 use Rattle.host.proofs.milestarling_run.Statement.{statement}
 use Rattle.host.proofs.milestarling_run.Tie as tie
 
@@ -19,6 +19,8 @@ milestarling-run-spec =
     short-flags _ (a .words .now) (a .registers .now) (a .flags .now) (a .memory .now) (a .taint .now) (a .trace .now) (c .no-room2 .ensures) (omega (arith, c .before .before .if1 .left)) (omega (arith, c .before .if2 .taken)))
     (λ c κs. search needs)
     (λ c κs. search needs)
+    (λ c. search needs)
+    (λ c κs. search needs)
     (λ c κs. search needs)
     (λ c κs. search needs)
     (λ c. search needs)
@@ -28,7 +30,6 @@ milestarling-run-spec =
     (λ c. search needs)
     (λ c.
     let back = c .before .before .before .before .put-back in
-    let ran = c .before .before .before .before .before .before .before .before .before .before .before .before .before .before .before .run in
-    let copied = c .before .before .before .before .before .before .before .before .before .before .before .before .before .before .before .before .before .before .before .state-in in
-    let a = c .before .before .before .before .before .before .before .before .before .before .before .before .before .before .before .before .before .before .before .before .before .before .before .before .before .before .before .before .before .before .args in
-    handed _ (a .words .now) (a .registers .now) (a .flags .now) (a .memory .now) (a .taint .now) (a .trace .now) (copied .result) (ran .result) (omega (arith, c .before .before .before .before .before .before .before .before .before .before .before .before .before .before .before .before .before .before .before .before .before .before .before .if1 .left)) (omega (arith, c .before .before .before .before .before .before .before .before .before .before .before .before .before .before .before .before .before .before .before .before .before .before .if2 .left)) (copied .ensures (a .memory .now) (a .taint .now)) (ran .ensures .0) (c .before .before .before .before .before .before .before .before .answer-number .ensures) (back .ensures .0) (back .ensures .1)))
+    let ran = c .before .before .before .before .before .before .before .before .before .before .before .before .before .before .run-in in
+    let a = c .before .before .before .before .before .before .before .before .before .before .before .before .before .before .before .before .before .before .before .before .before .before .before .before .before .before .before .before .before .before .before .before .before .args in
+    handed _ (a .words .now) (a .registers .now) (a .flags .now) (a .memory .now) (a .taint .now) (a .trace .now) (ran .result) (omega (arith, c .before .before .before .before .before .before .before .before .before .before .before .before .before .before .before .before .before .before .before .before .before .before .before .before .before .before .if1 .left)) (omega (arith, c .before .before .before .before .before .before .before .before .before .before .before .before .before .before .before .before .before .before .before .before .before .before .before .before .before .if2 .left)) (c .before .before .before .before .before .before .before .before .before .before .before .before .before .before .before .before .before .before .before .before .before .before .before .values-in .ensures) (c .before .before .before .before .before .before .before .before .before .before .before .before .before .before .before .before .before .before .before .before .before .taints-in .ensures) (ran .ensures) (c .before .before .before .before .before .before .before .answer-number .ensures) (back .ensures .0) (back .ensures .1)))

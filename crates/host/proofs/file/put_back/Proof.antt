@@ -1,8 +1,8 @@
 -- `host::file::put_back` meets its contract. Assumes nothing.
 use mathlib.Core.Path.{_≡_, sym, _∙_}
 use mathlib.Core.Bool.{true, false}
-use borrow.Author.Needs.{needs}
 use Rattle.host.specs.Hosting.{isBegun}
+use borrow.Author.Needs.{needs}
 use Rattle.host.proofs.file.put_back.Statement.{statement}
 use Rattle.host.proofs.file.put_back.Tie as tie
 
@@ -17,7 +17,7 @@ put-back-spec =
     (λ c. search needs)
     (λ c. search needs)
     (λ c.
-    let begun : isBegun (c .before .before .before .before .before .before .before .before .before .before .before .before .before .args .number) ≡ true = sym (c .before .before .before .before .before .before .before .before .before .before .is-begun .ensures) ∙ c .before .before .before .before .before .before .before .before .before .if1 .taken in
+    let begun : isBegun (c .before .before .before .before .before .before .before .before .before .before .before .before .args .number) ≡ true = sym (c .before .before .before .before .before .before .before .before .before .is-begun .ensures) ∙ c .before .before .before .before .before .before .before .before .if1 .taken in
     (rw (begun, c .before .before .before .before .before .before .put-values .ensures), rw (begun, c .before .before .put-flags .ensures)))
     (λ c.
     let unbegun : isBegun (c .before .before .before .before .args .number) ≡ false = sym (c .before .is-begun .ensures) ∙ c .if1 .left in
