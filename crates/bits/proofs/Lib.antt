@@ -2,3 +2,4 @@ pub mod Choices
 pub mod Parts
 pub mod Offsets
 pub mod Signs
+pub mod Bytes

@@ -1,3 +1,4 @@
 pub mod Choice
 pub mod Fields
 pub mod Signed
+pub mod Bytes

@@ -5,7 +5,7 @@ use mathlib.Core.List.{List}
 use lib.ListN.{set, getD}
 use lib.Seq.{sets}
 use Rattle.bits.specs.Choice.{pick}
-use Rattle.memory.specs.Bytes.{bytesOf, joined, spanOf}
+use Rattle.bits.specs.Bytes.{bytesOf, joined, spanOf}
 use Rattle.memory.specs.Extension.{extendedOf}
 use Rattle.access.specs.declared.transfer.Transfer.{Transfer}
 use Rattle.access.specs.declared.addressing.Addressing.{Addressing}

@@ -7,7 +7,7 @@ use lib.ListN.{set, getD, replicate}
 use lib.Seq.{sets}
 use Rattle.bits.specs.Choice.{pick}
 use Rattle.instruction.specs.Decoding.{decodeOf}
-use Rattle.memory.specs.Bytes.{spanOf}
+use Rattle.bits.specs.Bytes.{spanOf}
 use Rattle.memory.specs.Taints.{anyTainted, taintByte}
 use Rattle.access.specs.declared.transfer.Transfer.{Transfer}
 use Rattle.access.specs.declared.Access.{Access}

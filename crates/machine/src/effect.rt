@@ -6,7 +6,7 @@ ghost use mathlib.Core.Bool.{false};
 ghost use Prim.Native.Nat.{ℕ, _+_, _≤_};
 ghost use lib.ListN.{length, getD, set, replicate};
 ghost use lib.Seq.{sets};
-ghost use Rattle.memory.specs.Bytes.{bytesOf, joined, spanOf};
+ghost use Rattle.bits.specs.Bytes.{bytesOf, joined, spanOf};
 ghost use Rattle.memory.specs.Extension.{extendedOf};
 ghost use Rattle.memory.specs.Taints.{anyTainted, taintByte};
 ghost use Rattle.plan.specs.Admission.{totalOf};

@@ -10,7 +10,7 @@ use lib.Dec.{lit<}
 use lib.ListN.{length, take, drop, getD, set, replicate, take-append-drop, length-drop, drop-of-length-le}
 use lib.Seq.{sets, drop-set-add, take-set-le, getD-drop, take-all}
 use borrow.Rule.Slice.PartMut.{midOf, putMid}
-use Rattle.memory.specs.Bytes.{bytesOf, spanOf}
+use Rattle.bits.specs.Bytes.{bytesOf, spanOf}
 use Rattle.memory.specs.Taints.{anyTainted}
 
 -- one turn fewer is left

@@ -4,7 +4,7 @@ ghost use mathlib.Core.Path.{_≡_};
 ghost use Prim.Native.Nat.{_<_, _^_, min};
 ghost use lib.ListN.{getD, set, replicate};
 ghost use lib.Seq.{sets};
-ghost use Rattle.memory.specs.Bytes.{bytesOf, joined, spanOf};
+ghost use Rattle.bits.specs.Bytes.{bytesOf, joined, spanOf};
 ghost use Rattle.memory.specs.Taints.{anyTainted, taintByte};
 
 // The low n bytes of a number, the lowest first.

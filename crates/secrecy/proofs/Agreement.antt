@@ -8,7 +8,7 @@ use native.Mathlib.Omega.{arith}
 use lib.ListN.{length, set, getD, replicate, length-set, List·getD-eq-default}
 use lib.Seq.{sets, getD-set-same, getD-set-other}
 use Rattle.bits.specs.Choice.{pick}
-use Rattle.memory.specs.Bytes.{bytesOf, spanOf}
+use Rattle.bits.specs.Bytes.{bytesOf, spanOf}
 use Rattle.memory.specs.Taints.{tainted, taintByte, anyTainted}
 use Rattle.secrecy.specs.Alike.{Agree}
 

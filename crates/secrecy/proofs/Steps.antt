@@ -13,7 +13,7 @@ use Rattle.instruction.specs.declared.answer.Answer.{Answer}
 use Rattle.instruction.specs.declared.answer.Answer.the-variants.{BadWindow}
 use Rattle.instruction.specs.Answers.{answerNumber}
 use Rattle.instruction.specs.Decoding.{classOf}
-use Rattle.memory.specs.Bytes.{joined, spanOf}
+use Rattle.bits.specs.Bytes.{joined, spanOf}
 use Rattle.memory.specs.Extension.{extendedOf}
 use Rattle.memory.specs.Taints.{taintByte, anyTainted}
 use Rattle.access.specs.declared.transfer.Transfer.{Transfer}

@@ -5,7 +5,7 @@ use lib.ListN.{getD}
 use native.Mathlib.Nat.{sub-zero}
 use native.Mathlib.Numerals.{add-one}
 use native.Mathlib.Omega.{arith}
-use Rattle.memory.specs.Bytes.{spanOf}
+use Rattle.bits.specs.Bytes.{spanOf}
 use Rattle.memory.specs.Taints.{anyTainted}
 use Rattle.memory.proofs.Spans.{span-left, any-zero, any-more}
 use borrow.Author.Needs.{needs}

@@ -4,7 +4,7 @@ use mathlib.Core.Path.{_≡_, refl}
 use native.Mathlib.Nat.{sub-zero, sub-self}
 use native.Mathlib.Omega.{arith}
 use lib.Dec.{lit<}
-use Rattle.memory.specs.Bytes.{joined, spanOf}
+use Rattle.bits.specs.Bytes.{joined, spanOf}
 use Rattle.memory.proofs.Spans.{room-down, room-64, span-down}
 use borrow.Author.Needs.{needs}
 use Rattle.memory.proofs.load.Statement.{statement}

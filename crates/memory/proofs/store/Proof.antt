@@ -6,7 +6,7 @@ use native.Mathlib.Numerals.{add-one}
 use native.Mathlib.Omega.{arith}
 use lib.ListN.{length, length-set}
 use lib.Seq.{sets}
-use Rattle.memory.specs.Bytes.{bytesOf}
+use Rattle.bits.specs.Bytes.{bytesOf}
 use Rattle.memory.proofs.Spans.{bytes-left}
 use borrow.Author.Needs.{needs}
 use Rattle.memory.proofs.store.Statement.{statement}

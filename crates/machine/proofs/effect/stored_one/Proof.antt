@@ -1,6 +1,6 @@
 -- `machine::effect::stored_one` meets its contract. Assumes nothing.
 use lib.ListN.{replicate}
-use Rattle.memory.specs.Bytes.{bytesOf}
+use Rattle.bits.specs.Bytes.{bytesOf}
 use Rattle.memory.specs.Taints.{taintByte}
 use Rattle.memory.proofs.Spans.{put-back}
 use borrow.Author.Needs.{needs}
