@@ -1,4 +1,2 @@
 pub mod Pieces
 pub mod Decimals
-pub mod Packs
-pub mod Lettered

@@ -13,7 +13,7 @@ use lib.Seq.{sets, length-sets, set-out, take-suc}
 use Rattle.ascii.specs.Puts.{Puts}
 
 -- what is put behind a piece is put with it
-sets-append : (xs p q : List ℕ) (at : ℕ) → sets (sets xs at p) (at + length p) q ≡ sets xs at (p ++ q)
+pub sets-append : (xs p q : List ℕ) (at : ℕ) → sets (sets xs at p) (at + length p) q ≡ sets xs at (p ++ q)
 sets-append xs [] q at = rw add-zero
 sets-append xs (b ∷ p) q at = rw (add-suc, ← suc-add) (sets-append (set xs at b) p q (suc at))
 
@@ -64,9 +64,13 @@ pub one-more : {xs ys zs : List ℕ} {at m n : ℕ} (p : List ℕ) (i : ℕ) →
     → Puts xs at (take (i + 1) p) zs n
 one-more {xs} {ys} {zs} {at} {m} {n} p i h a b = rw (add-one i, take-suc p i 0 h) (after a b)
 
--- the places of four bytes, as the code counts them
+-- the places of eight bytes, as the code counts them
 pub further : (at : ℕ) → (at + 1 ≡ suc at) × (at + 2 ≡ suc (suc at)) × (at + 3 ≡ suc (suc (suc at)))
 further at = (omega arith, omega arith, omega arith)
+
+pub farther : (at : ℕ)
+    → (at + 4 ≡ suc (suc (suc (suc at)))) × (at + 5 ≡ suc (suc (suc (suc (suc at))))) × (at + 6 ≡ suc (suc (suc (suc (suc (suc at)))))) × (at + 7 ≡ suc (suc (suc (suc (suc (suc (suc at)))))))
+farther at = (omega arith, omega arith, omega arith, omega arith)
 
 -- a piece that has room, by what is set
 pub in-room : {xs p ys : List ℕ} {at n : ℕ} → ys ≡ sets xs at p → n ≡ at + length p → n ≤ length xs → Puts xs at p ys n

@@ -25,11 +25,3 @@ dec n = digits 20 n
 unfoldable pub signedDec : ℤ → List ℕ
 signedDec (pos n) = dec n
 signedDec (negsuc n) = asc "-" ++ dec (suc n)
-
--- the bytes that are packed into a number, the first byte lowest; at most f of them, and at least one
-abbrev pub bytesIn : ℕ → ℕ → List ℕ
-bytesIn zero n = []
-bytesIn (suc f) n = pick (ltb n 256) (n ∷ []) (n % 256 ∷ bytesIn f (n / 256))
-
-unfoldable pub unpacked : ℕ → List ℕ
-unpacked n = bytesIn 8 n

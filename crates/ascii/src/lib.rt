@@ -3,10 +3,8 @@ mod piece;
 
 pub use piece::put_byte;
 pub use piece::put_decimal;
+pub use piece::put_eight;
 pub use piece::put_four;
-pub use piece::put_lettered;
-pub use piece::put_packed;
-pub use piece::put_signed;
 pub use piece::put_text;
 pub use piece::put_three;
 pub use piece::put_two;

@@ -1,11 +1,8 @@
 // Pieces of text, each put into a line at a position. They return the position behind the piece. What the
 // line has no room for is left out.
-ghost use Prim.Native.Nat.{_<_, _≤_};
-ghost use mathlib.Core.Path.{_≡_};
 ghost use mathlib.Core.List.{[], _∷_};
-ghost use lib.Dec.{ltb};
-ghost use Rattle.bits.specs.Choice.{pick};
-ghost use Rattle.ascii.specs.Ascii.{dec, signedDec, unpacked};
+ghost use Rattle.bits.specs.Bytes.{bytesOf};
+ghost use Rattle.ascii.specs.Ascii.{dec};
 ghost use Rattle.ascii.specs.Puts.{Puts};
 
 pub fn put_byte(line: &mut [u8], at: usize, byte: u8) -> usize
@@ -64,6 +61,51 @@ pub fn put_four(line: &mut [u8], at: usize, a: u8, b: u8, c: u8, d: u8) -> usize
     put_two(line, next, c, d)
 }
 
+// The eight bytes of a number, the lowest first: one test, and one store.
+pub fn put_eight(line: &mut [u8], at: usize, number: u64) -> usize
+    ensures { λ r. ⌜ Puts (now (line .entry)) at (bytesOf 8 number) (now (line .exit)) r ⌝ }
+{
+    let b = number / 256;
+    let c = b / 256;
+    let d = c / 256;
+    let high = d / 256;
+    if line.len() >= 8 {
+        if at <= line.len() - 8 {
+            let f = high / 256;
+            let g = f / 256;
+            let h = g / 256;
+            line[at] = (number % 256) as u8;
+            line[at + 1] = (b % 256) as u8;
+            line[at + 2] = (c % 256) as u8;
+            line[at + 3] = (d % 256) as u8;
+            line[at + 4] = (high % 256) as u8;
+            line[at + 5] = (f % 256) as u8;
+            line[at + 6] = (g % 256) as u8;
+            line[at + 7] = (h % 256) as u8;
+            return at + 8;
+        }
+    }
+    let next = put_half(line, at, number);
+    put_half(line, next, high)
+}
+
+// The low four bytes of a number.
+fn put_half(line: &mut [u8], at: usize, number: u64) -> usize
+    ensures { λ r. ⌜ Puts (now (line .entry)) at (bytesOf 4 number) (now (line .exit)) r ⌝ }
+{
+    let b = number / 256;
+    let c = b / 256;
+    let d = c / 256;
+    put_four(
+        line,
+        at,
+        (number % 256) as u8,
+        (b % 256) as u8,
+        (c % 256) as u8,
+        (d % 256) as u8,
+    )
+}
+
 pub fn put_text(line: &mut [u8], at: usize, piece: &[u8]) -> usize
     ensures { λ r. ⌜ Puts (now (line .entry)) at (now (piece .entry)) (now (line .exit)) r ⌝ }
 {
@@ -116,100 +158,4 @@ fn put_long(line: &mut [u8], at: usize, n: u64) -> usize
     }
     let next = put_long(line, at, n / 10);
     put_byte(line, next, (48 + n % 10) as u8)
-}
-
-// A number behind a byte: the letter of a register, or a sign.
-pub fn put_lettered(line: &mut [u8], at: usize, letter: u8, n: u64) -> usize
-    ensures { λ r. ⌜ Puts (now (line .entry)) at (letter ∷ dec n) (now (line .exit)) r ⌝ }
-{
-    if n < 100 {
-        return put_lettered_two(line, at, letter, n);
-    }
-    let next = put_byte(line, at, letter);
-    put_decimal(line, next, n)
-}
-
-// One digit or two. Which of them is as good as random, so that no branch depends on it: the byte where a second
-// digit would stand is written in any case, with what it holds where there is none.
-fn put_lettered_two(line: &mut [u8], at: usize, letter: u8, n: u64) -> usize
-    requires { ⌜ n < 100 ⌝ }
-    ensures { λ r. ⌜ Puts (now (line .entry)) at (letter ∷ dec n) (now (line .exit)) r ⌝ }
-{
-    if line.len() >= 3 {
-        if at <= line.len() - 3 {
-            let ones = (48 + n % 10) as u8;
-            line[at] = letter;
-            line[at + 1] = by_size(n, ones, (48 + n / 10) as u8);
-            line[at + 2] = by_size(n, line[at + 2], ones);
-            return at + lettered_length(n);
-        }
-    }
-    let next = put_byte(line, at, letter);
-    put_decimal(line, next, n)
-}
-
-fn by_size(n: u64, short: u8, long: u8) -> u8
-    ensures { λ r. ⌜ r ≡ pick (ltb n 10) short long ⌝ }
-{
-    if n < 10 {
-        return short;
-    }
-    long
-}
-
-// The bytes of a letter and one digit or two.
-fn lettered_length(n: u64) -> usize
-    ensures { λ r. ⌜ (r ≡ pick (ltb n 10) 2 3) × (r ≤ 3) ⌝ }
-{
-    if n < 10 {
-        return 2;
-    }
-    3
-}
-
-pub fn put_signed(line: &mut [u8], at: usize, n: i64) -> usize
-    ensures { λ r. ⌜ Puts (now (line .entry)) at (signedDec n) (now (line .exit)) r ⌝ }
-{
-    let far = bits::magnitude(n);
-    if n < 0 {
-        return put_lettered(line, at, b'-', far);
-    }
-    put_decimal(line, at, far)
-}
-
-// Up to eight bytes that are packed into a number, the first byte lowest.
-pub fn put_packed(line: &mut [u8], at: usize, packed: u64) -> usize
-    ensures { λ r. ⌜ Puts (now (line .entry)) at (unpacked packed) (now (line .exit)) r ⌝ }
-{
-    if packed < 0x1_0000_0000 {
-        return put_half(line, at, packed);
-    }
-    let next = put_four(
-        line,
-        at,
-        (packed % 256) as u8,
-        (packed / 0x100 % 256) as u8,
-        (packed / 0x1_0000 % 256) as u8,
-        (packed / 0x100_0000 % 256) as u8,
-    );
-    put_half(line, next, packed / 0x1_0000_0000)
-}
-
-fn put_half(line: &mut [u8], at: usize, packed: u64) -> usize
-    requires { ⌜ packed < 0x1_0000_0000 ⌝ }
-    ensures { λ r. ⌜ Puts (now (line .entry)) at (unpacked packed) (now (line .exit)) r ⌝ }
-{
-    let a = (packed % 256) as u8;
-    if packed < 0x100 {
-        return put_byte(line, at, a);
-    }
-    let b = (packed / 0x100 % 256) as u8;
-    if packed < 0x1_0000 {
-        return put_two(line, at, a, b);
-    }
-    let c = (packed / 0x1_0000 % 256) as u8;
-    if packed < 0x100_0000 {
-        return put_three(line, at, a, b, c);
-    }
-    put_four(line, at, a, b, c, (packed / 0x100_0000) as u8)
 }

@@ -24,7 +24,7 @@ use Rattle.ascii.specs.Puts.{Puts}
 use Rattle.text.specs.Writing.{wordText}
 use Rattle.text.proofs.Lengths.{word-text-short}
 use Rattle.ascii.proofs.Pieces.{after, nothing}
-use Rattle.listing.specs.Listing.{hex4, hex8, contentText, contentFor, answerText, lineText, shortText, wordOf, listingOf, wordAt}
+use Rattle.listing.specs.Listing.{hex4, hex8, contentText, answerText, lineText, shortText, wordOf, listingOf, wordAt}
 
 -- ---- the next word
 
@@ -61,17 +61,27 @@ left-over bs i h =
 -- ---- a word's own text, or a dash
 
 -- by what is known of the word: whether it is of the set, undefined, unpredictable
-content-by : (s u p : Bool) (t : Instruction) → contentFor (answerNumber (pick s (pick u Undefined (pick p Unpredictable Done)) NotInSet)) (pick (s && not u) t empty)
-    ≡ pick (s && not u) (textOf t) (asc "-")
-unfolding contentFor
-content-by true true p t = refl
-content-by true false true t = refl
-content-by true false false t = refl
-content-by false u p t = refl
+dash-by : (s u p : Bool) (t : Instruction) (k : ℕ) → answerNumber (pick s (pick u Undefined (pick p Unpredictable Done)) NotInSet) ≡ suc (suc k) → k < 2
+    → textOf (pick (s && not u) t empty) ++ asc "-" ≡ pick (s && not u) (textOf t) (asc "-")
+unfolding textOf
+dash-by true true p t k e h = refl
+dash-by true false true t k e h = absurd (omega (arith, e))
+dash-by true false false t k e h = absurd (omega (arith, e))
+dash-by false u p t k e h = refl
 
-pub content-is : (w : ℕ) {n : ℕ} {i : Instruction} → n ≡ answerNumber (classOf w) → i ≡ decodeOf w .instruction → contentFor n i ≡ contentText w
+pub dash : (w : ℕ) {n : ℕ} (k : ℕ) → n ≡ answerNumber (classOf w) → n ≡ suc (suc k) → k < 2 → textOf (decodeOf w .instruction) ++ asc "-" ≡ contentText w
 unfolding contentText wordText decodeOf classOf allocated
-content-is w e q = rw (e, q) (content-by (inSet w) (undefined w) (unpredictable w) (instructionOf w))
+dash w k e q h = dash-by (inSet w) (undefined w) (unpredictable w) (instructionOf w) k (sym e ∙ q) h
+
+text-by : (s u p : Bool) (t : Instruction) {n : ℕ} → n ≡ answerNumber (pick s (pick u Undefined (pick p Unpredictable Done)) NotInSet) → ¬ (n ≡ 2) → ¬ (n ≡ 3)
+    → textOf (pick (s && not u) t empty) ≡ pick (s && not u) (textOf t) (asc "-")
+text-by true true p t e two three = absurd (three e)
+text-by true false p t e two three = refl
+text-by false u p t e two three = absurd (two e)
+
+pub own-text : (w : ℕ) {n : ℕ} → n ≡ answerNumber (classOf w) → ¬ (n ≡ 2) → ¬ (n ≡ 3) → textOf (decodeOf w .instruction) ≡ contentText w
+unfolding contentText wordText decodeOf classOf allocated
+own-text w e two three = text-by (inSet w) (undefined w) (unpredictable w) (instructionOf w) e two three
 
 -- the answer and the newline, put with the tab before them
 pub ends : {xs p ys zs : List ℕ} {at m n a d e : ℕ} → Puts xs at p ys m → Puts ys m (a ∷ d ∷ e ∷ []) zs n

@@ -4,7 +4,6 @@ use mathlib.Core.List.{List, [], _∷_, _++_}
 use lib.Dec.{ltb, eqb}
 use lib.ListN
 use Rattle.bits.specs.Choice.{pick}
-use Rattle.instruction.specs.declared.family.Instruction.{Instruction}
 use Rattle.instruction.specs.Answers.{answerNumber}
 use Rattle.instruction.specs.Undefined.{allocated}
 use Rattle.instruction.specs.Decoding.{classOf}
@@ -27,10 +26,6 @@ hex8 w = hex4 (w / 65536) ++ hex4 (w / 1 % 65536)
 -- the text of an allocated word, or a dash
 unfoldable pub contentText : ℕ → List ℕ
 contentText w = pick (allocated w) (wordText w) (asc "-")
-
--- the same by the number of the word's answer and by its instruction
-unfoldable pub contentFor : ℕ → Instruction → List ℕ
-contentFor number i = pick (eqb number 2) (asc "-") (pick (eqb number 3) (asc "-") (textOf i))
 
 -- the answer 0, 2, 3 or 4 of a word, and the end of its line
 unfoldable pub answerText : ℕ → List ℕ

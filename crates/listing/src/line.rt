@@ -1,63 +1,78 @@
 // One line of a listing, put into an output at a position.
-use instruction::Instruction;
 ghost use mathlib.Core.Path.{_≡_};
 ghost use lib.ListN.{length};
-ghost use Prim.Native.Nat.{_<_, _%_};
+ghost use Prim.Native.Nat.{_<_, _%_, _^_};
+ghost use Rattle.bits.specs.Bytes.{bytesOf};
+ghost use Rattle.instruction.specs.Answers.{answerNumber};
+ghost use Rattle.instruction.specs.Decoding.{classOf};
 ghost use Rattle.ascii.specs.Puts.{Puts};
-ghost use Rattle.listing.specs.Listing.{hexDigit, hex4, hex8, contentFor, lineText, shortText};
+ghost use Rattle.listing.specs.Listing.{hex4, hex8, contentText, lineText, shortText};
 
 pub fn put_line(output: &mut [u8], at: usize, word: u32) -> usize
     ensures { λ r. ⌜ Puts (now (output .entry)) at (lineText word) (now (output .exit)) r ⌝ }
 {
-    let examined = decoder::examine(word);
-    let answer = examined.answer;
-    let instruction = examined.instruction;
-    let number = instruction::answer_number(answer);
     let tab = put_hex(output, at, word);
     let text = ascii::put_byte(output, tab, b'\t');
-    let end = put_content(output, text, number, instruction);
-    ascii::put_three(output, end, b'\t', (48 + number) as u8, b'\n')
+    let shown = put_content(output, text, word);
+    ascii::put_three(output, shown.end, b'\t', (48 + shown.number) as u8, b'\n')
 }
 
+// Eight digits.
 fn put_hex(output: &mut [u8], at: usize, word: u32) -> usize
     ensures { λ r. ⌜ Puts (now (output .entry)) at (hex8 word) (now (output .exit)) r ⌝ }
 {
-    let low = put_hex4(output, at, word / 65536);
-    put_hex4(output, low, word / 1 % 65536)
-}
-
-fn put_hex4(output: &mut [u8], at: usize, n: u32) -> usize
-    ensures { λ r. ⌜ Puts (now (output .entry)) at (hex4 n) (now (output .exit)) r ⌝ }
-{
-    ascii::put_four(
+    ascii::put_eight(
         output,
         at,
-        hex_digit(n / 4096 % 16),
-        hex_digit(n / 256 % 16),
-        hex_digit(n / 16 % 16),
-        hex_digit(n / 1 % 16),
+        four_digits(word / 65536) + four_digits(word / 1 % 65536) * 0x1_0000_0000,
     )
 }
 
-fn hex_digit(n: u32) -> u8
-    requires { ⌜ n < 16 ⌝ }
-    ensures { λ r. ⌜ r ≡ hexDigit n ⌝ }
+// Four digits as a number, the first lowest.
+fn four_digits(n: u32) -> u64
+    ensures { λ r. ⌜ (bytesOf 4 r ≡ hex4 n) × (r < 2 ^ 32) ⌝ }
 {
     let digits = b"0123456789abcdef";
-    digits[n as usize]
+    wide(digits[(n / 4096 % 16) as usize])
+        + (wide(digits[(n / 256 % 16) as usize])
+            + (wide(digits[(n / 16 % 16) as usize]) + wide(digits[(n / 1 % 16) as usize]) * 256)
+                * 256)
+            * 256
 }
 
-// The text of an instruction by the number of its word's answer: words of answers 2 and 3 have none.
-fn put_content(output: &mut [u8], at: usize, number: u32, instruction: Instruction) -> usize
-    ensures { λ r. ⌜ Puts (now (output .entry)) at (contentFor number instruction) (now (output .exit)) r ⌝ }
+fn wide(byte: u8) -> u64
+    ensures { λ r. ⌜ (r ≡ byte) × (r < 256) ⌝ }
 {
+    byte as u64
+}
+
+// The number of a word's answer, and the position behind what is shown of the word.
+struct Content {
+    number: u32,
+    end: usize,
+}
+
+// The text of a word. Words of answers 2 and 3 have none.
+fn put_content(output: &mut [u8], at: usize, word: u32) -> Content
+    ensures { λ r. ⌜ (r .number ≡ answerNumber (classOf word)) × (r .number < 12) × Puts (now (output .entry)) at (contentText word) (now (output .exit)) (r .end) ⌝ }
+{
+    let shown = text::put(output, at, word);
+    let answer = shown.answer;
+    let number = instruction::answer_number(answer);
+    let end = shown.end;
     if number == 2 {
-        return ascii::put_byte(output, at, b'-');
+        return Content {
+            number,
+            end: ascii::put_byte(output, end, b'-'),
+        };
     }
     if number == 3 {
-        return ascii::put_byte(output, at, b'-');
+        return Content {
+            number,
+            end: ascii::put_byte(output, end, b'-'),
+        };
     }
-    text::put(output, at, instruction)
+    Content { number, end }
 }
 
 pub fn put_short(output: &mut [u8], at: usize, count: usize) -> usize

@@ -1,1 +1,3 @@
 pub mod Mnemonics
+pub mod Operands
+pub mod Named

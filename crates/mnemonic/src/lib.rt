@@ -1,11 +1,25 @@
-// Mnemonics. The letters of each are packed into one number, the first letter lowest.
+// Mnemonics, and the letter of the first operand behind each: w or x for a register, and # for the hint of a prefetch.
 use instruction::LiteralOp;
 use instruction::PairMode;
 use instruction::PairOp;
 use instruction::SizedOp;
 ghost use mathlib.Core.Path.{_≡_};
 ghost use Rattle.mnemonic.specs.Mnemonics.{plainName, unscaledName, orderedName, sizedName, literalName, noAllocateName, allocateName, pairName};
-ghost use Rattle.ascii.specs.Ascii.{unpacked};
+ghost use Rattle.mnemonic.specs.Operands.{sizedOperand, literalOperand, pairOperand};
+ghost use Rattle.mnemonic.specs.Named.{known, told};
+
+// The letters are packed into a number, the first lowest. The shape has their number in its low byte, and the letter
+// of the operand above it. So both come from one table, and no branch depends on the operation.
+pub struct Mnemonic {
+    pub letters: u64,
+    pub shape: u16,
+}
+
+fn named(letters: u64, shape: u16) -> Mnemonic
+    ensures { λ r. ⌜ r ≡ record { letters = letters; shape = shape } ⌝ }
+{
+    Mnemonic { letters, shape }
+}
 
 // The stems of the mnemonics with a size: str and ldr, stur and ldur, stlur and ldapur.
 pub enum Stem {
@@ -14,8 +28,8 @@ pub enum Stem {
     Order,
 }
 
-pub fn sized_name(stem: Stem, op: SizedOp) -> u64
-    ensures { λ r. ⌜ unpacked r ≡ sizedName stem op ⌝ }
+pub fn sized_name(stem: Stem, op: SizedOp) -> Mnemonic
+    ensures { λ r. ⌜ known r ≡ told (sizedName stem op) (sizedOperand op) ⌝ }
 {
     match stem {
         Stem::Plain => plain_name(op),
@@ -24,82 +38,82 @@ pub fn sized_name(stem: Stem, op: SizedOp) -> u64
     }
 }
 
-fn plain_name(op: SizedOp) -> u64
-    ensures { λ r. ⌜ unpacked r ≡ plainName op ⌝ }
+fn plain_name(op: SizedOp) -> Mnemonic
+    ensures { λ r. ⌜ known r ≡ told (plainName op) (sizedOperand op) ⌝ }
 {
     match op {
-        SizedOp::StoreByte => 0x6272_7473, // strb
-        SizedOp::LoadByte => 0x6272_646c, // ldrb
-        SizedOp::LoadSignedByte64 => 0x62_7372_646c, // ldrsb
-        SizedOp::LoadSignedByte32 => 0x62_7372_646c, // ldrsb
-        SizedOp::StoreHalf => 0x6872_7473, // strh
-        SizedOp::LoadHalf => 0x6872_646c, // ldrh
-        SizedOp::LoadSignedHalf64 => 0x68_7372_646c, // ldrsh
-        SizedOp::LoadSignedHalf32 => 0x68_7372_646c, // ldrsh
-        SizedOp::StoreWord => 0x72_7473, // str
-        SizedOp::LoadWord => 0x72_646c, // ldr
-        SizedOp::LoadSignedWord64 => 0x77_7372_646c, // ldrsw
-        SizedOp::StoreDouble => 0x72_7473, // str
-        SizedOp::LoadDouble => 0x72_646c, // ldr
-        SizedOp::Prefetch => 0x6d66_7270, // prfm
+        SizedOp::StoreByte => named(0x6272_7473, 0x7704), // strb
+        SizedOp::LoadByte => named(0x6272_646c, 0x7704), // ldrb
+        SizedOp::LoadSignedByte64 => named(0x62_7372_646c, 0x7805), // ldrsb
+        SizedOp::LoadSignedByte32 => named(0x62_7372_646c, 0x7705), // ldrsb
+        SizedOp::StoreHalf => named(0x6872_7473, 0x7704), // strh
+        SizedOp::LoadHalf => named(0x6872_646c, 0x7704), // ldrh
+        SizedOp::LoadSignedHalf64 => named(0x68_7372_646c, 0x7805), // ldrsh
+        SizedOp::LoadSignedHalf32 => named(0x68_7372_646c, 0x7705), // ldrsh
+        SizedOp::StoreWord => named(0x72_7473, 0x7703), // str
+        SizedOp::LoadWord => named(0x72_646c, 0x7703), // ldr
+        SizedOp::LoadSignedWord64 => named(0x77_7372_646c, 0x7805), // ldrsw
+        SizedOp::StoreDouble => named(0x72_7473, 0x7803), // str
+        SizedOp::LoadDouble => named(0x72_646c, 0x7803), // ldr
+        SizedOp::Prefetch => named(0x6d66_7270, 0x2304), // prfm
     }
 }
 
-fn unscaled_name(op: SizedOp) -> u64
-    ensures { λ r. ⌜ unpacked r ≡ unscaledName op ⌝ }
+fn unscaled_name(op: SizedOp) -> Mnemonic
+    ensures { λ r. ⌜ known r ≡ told (unscaledName op) (sizedOperand op) ⌝ }
 {
     match op {
-        SizedOp::StoreByte => 0x62_7275_7473, // sturb
-        SizedOp::LoadByte => 0x62_7275_646c, // ldurb
-        SizedOp::LoadSignedByte64 => 0x6273_7275_646c, // ldursb
-        SizedOp::LoadSignedByte32 => 0x6273_7275_646c, // ldursb
-        SizedOp::StoreHalf => 0x68_7275_7473, // sturh
-        SizedOp::LoadHalf => 0x68_7275_646c, // ldurh
-        SizedOp::LoadSignedHalf64 => 0x6873_7275_646c, // ldursh
-        SizedOp::LoadSignedHalf32 => 0x6873_7275_646c, // ldursh
-        SizedOp::StoreWord => 0x7275_7473, // stur
-        SizedOp::LoadWord => 0x7275_646c, // ldur
-        SizedOp::LoadSignedWord64 => 0x7773_7275_646c, // ldursw
-        SizedOp::StoreDouble => 0x7275_7473, // stur
-        SizedOp::LoadDouble => 0x7275_646c, // ldur
-        SizedOp::Prefetch => 0x6d_7566_7270, // prfum
+        SizedOp::StoreByte => named(0x62_7275_7473, 0x7705), // sturb
+        SizedOp::LoadByte => named(0x62_7275_646c, 0x7705), // ldurb
+        SizedOp::LoadSignedByte64 => named(0x6273_7275_646c, 0x7806), // ldursb
+        SizedOp::LoadSignedByte32 => named(0x6273_7275_646c, 0x7706), // ldursb
+        SizedOp::StoreHalf => named(0x68_7275_7473, 0x7705), // sturh
+        SizedOp::LoadHalf => named(0x68_7275_646c, 0x7705), // ldurh
+        SizedOp::LoadSignedHalf64 => named(0x6873_7275_646c, 0x7806), // ldursh
+        SizedOp::LoadSignedHalf32 => named(0x6873_7275_646c, 0x7706), // ldursh
+        SizedOp::StoreWord => named(0x7275_7473, 0x7704), // stur
+        SizedOp::LoadWord => named(0x7275_646c, 0x7704), // ldur
+        SizedOp::LoadSignedWord64 => named(0x7773_7275_646c, 0x7806), // ldursw
+        SizedOp::StoreDouble => named(0x7275_7473, 0x7804), // stur
+        SizedOp::LoadDouble => named(0x7275_646c, 0x7804), // ldur
+        SizedOp::Prefetch => named(0x6d_7566_7270, 0x2305), // prfum
     }
 }
 
-fn ordered_name(op: SizedOp) -> u64
-    ensures { λ r. ⌜ unpacked r ≡ orderedName op ⌝ }
+fn ordered_name(op: SizedOp) -> Mnemonic
+    ensures { λ r. ⌜ known r ≡ told (orderedName op) (sizedOperand op) ⌝ }
 {
     match op {
-        SizedOp::StoreByte => 0x6272_756c_7473, // stlurb
-        SizedOp::LoadByte => 0x62_7275_7061_646c, // ldapurb
-        SizedOp::LoadSignedByte64 => 0x6273_7275_7061_646c, // ldapursb
-        SizedOp::LoadSignedByte32 => 0x6273_7275_7061_646c, // ldapursb
-        SizedOp::StoreHalf => 0x6872_756c_7473, // stlurh
-        SizedOp::LoadHalf => 0x68_7275_7061_646c, // ldapurh
-        SizedOp::LoadSignedHalf64 => 0x6873_7275_7061_646c, // ldapursh
-        SizedOp::LoadSignedHalf32 => 0x6873_7275_7061_646c, // ldapursh
-        SizedOp::StoreWord => 0x72_756c_7473, // stlur
-        SizedOp::LoadWord => 0x7275_7061_646c, // ldapur
-        SizedOp::LoadSignedWord64 => 0x7773_7275_7061_646c, // ldapursw
-        SizedOp::StoreDouble => 0x72_756c_7473, // stlur
-        SizedOp::LoadDouble => 0x7275_7061_646c, // ldapur
-        SizedOp::Prefetch => 0x6d_7566_7270, // prfum
+        SizedOp::StoreByte => named(0x6272_756c_7473, 0x7706), // stlurb
+        SizedOp::LoadByte => named(0x62_7275_7061_646c, 0x7707), // ldapurb
+        SizedOp::LoadSignedByte64 => named(0x6273_7275_7061_646c, 0x7808), // ldapursb
+        SizedOp::LoadSignedByte32 => named(0x6273_7275_7061_646c, 0x7708), // ldapursb
+        SizedOp::StoreHalf => named(0x6872_756c_7473, 0x7706), // stlurh
+        SizedOp::LoadHalf => named(0x68_7275_7061_646c, 0x7707), // ldapurh
+        SizedOp::LoadSignedHalf64 => named(0x6873_7275_7061_646c, 0x7808), // ldapursh
+        SizedOp::LoadSignedHalf32 => named(0x6873_7275_7061_646c, 0x7708), // ldapursh
+        SizedOp::StoreWord => named(0x72_756c_7473, 0x7705), // stlur
+        SizedOp::LoadWord => named(0x7275_7061_646c, 0x7706), // ldapur
+        SizedOp::LoadSignedWord64 => named(0x7773_7275_7061_646c, 0x7808), // ldapursw
+        SizedOp::StoreDouble => named(0x72_756c_7473, 0x7805), // stlur
+        SizedOp::LoadDouble => named(0x7275_7061_646c, 0x7806), // ldapur
+        SizedOp::Prefetch => named(0x6d_7566_7270, 0x2305), // prfum
     }
 }
 
-pub fn literal_name(op: LiteralOp) -> u64
-    ensures { λ r. ⌜ unpacked r ≡ literalName op ⌝ }
+pub fn literal_name(op: LiteralOp) -> Mnemonic
+    ensures { λ r. ⌜ known r ≡ told (literalName op) (literalOperand op) ⌝ }
 {
     match op {
-        LiteralOp::LiteralWord => 0x72_646c, // ldr
-        LiteralOp::LiteralDouble => 0x72_646c, // ldr
-        LiteralOp::LiteralSignedWord => 0x77_7372_646c, // ldrsw
-        LiteralOp::LiteralPrefetch => 0x6d66_7270, // prfm
+        LiteralOp::LiteralWord => named(0x72_646c, 0x7703), // ldr
+        LiteralOp::LiteralDouble => named(0x72_646c, 0x7803), // ldr
+        LiteralOp::LiteralSignedWord => named(0x77_7372_646c, 0x7805), // ldrsw
+        LiteralOp::LiteralPrefetch => named(0x6d66_7270, 0x2304), // prfm
     }
 }
 
-pub fn pair_name(mode: PairMode, op: PairOp) -> u64
-    ensures { λ r. ⌜ unpacked r ≡ pairName mode op ⌝ }
+pub fn pair_name(mode: PairMode, op: PairOp) -> Mnemonic
+    ensures { λ r. ⌜ known r ≡ told (pairName mode op) (pairOperand op) ⌝ }
 {
     match mode {
         PairMode::NoAllocate => no_allocate_name(op),
@@ -109,26 +123,26 @@ pub fn pair_name(mode: PairMode, op: PairOp) -> u64
     }
 }
 
-fn no_allocate_name(op: PairOp) -> u64
-    ensures { λ r. ⌜ unpacked r ≡ noAllocateName op ⌝ }
+fn no_allocate_name(op: PairOp) -> Mnemonic
+    ensures { λ r. ⌜ known r ≡ told (noAllocateName op) (pairOperand op) ⌝ }
 {
     match op {
-        PairOp::StoreWords => 0x706e_7473, // stnp
-        PairOp::LoadWords => 0x706e_646c, // ldnp
-        PairOp::LoadSignedWords => 0x77_7370_646c, // ldpsw
-        PairOp::StoreDoubles => 0x706e_7473, // stnp
-        PairOp::LoadDoubles => 0x706e_646c, // ldnp
+        PairOp::StoreWords => named(0x706e_7473, 0x7704), // stnp
+        PairOp::LoadWords => named(0x706e_646c, 0x7704), // ldnp
+        PairOp::LoadSignedWords => named(0x77_7370_646c, 0x7805), // ldpsw
+        PairOp::StoreDoubles => named(0x706e_7473, 0x7804), // stnp
+        PairOp::LoadDoubles => named(0x706e_646c, 0x7804), // ldnp
     }
 }
 
-fn allocate_name(op: PairOp) -> u64
-    ensures { λ r. ⌜ unpacked r ≡ allocateName op ⌝ }
+fn allocate_name(op: PairOp) -> Mnemonic
+    ensures { λ r. ⌜ known r ≡ told (allocateName op) (pairOperand op) ⌝ }
 {
     match op {
-        PairOp::StoreWords => 0x70_7473, // stp
-        PairOp::LoadWords => 0x70_646c, // ldp
-        PairOp::LoadSignedWords => 0x77_7370_646c, // ldpsw
-        PairOp::StoreDoubles => 0x70_7473, // stp
-        PairOp::LoadDoubles => 0x70_646c, // ldp
+        PairOp::StoreWords => named(0x70_7473, 0x7703), // stp
+        PairOp::LoadWords => named(0x70_646c, 0x7703), // ldp
+        PairOp::LoadSignedWords => named(0x77_7370_646c, 0x7805), // ldpsw
+        PairOp::StoreDoubles => named(0x70_7473, 0x7803), // stp
+        PairOp::LoadDoubles => named(0x70_646c, 0x7803), // ldp
     }
 }

@@ -5,7 +5,7 @@ use mathlib.Core.List.{List, _++_, foldl}
 use lib.IntN.{natAbs}
 use Rattle.ascii.specs.Ascii.{asc}
 use Rattle.mnemonic.specs.Mnemonics.{allocateName}
-use Rattle.text.specs.Operands.{pairOperand}
+use Rattle.mnemonic.specs.Operands.{pairOperand}
 use Rattle.text.specs.Texts.{operandText, baseText, frontText, offsetTail, preTail, postTail, indexTail, literalText, pairText, sizedText, familyText}
 use Rattle.reader.specs.Types.{Scan, Tail, SizedOp, Prefetch, LiteralOp, PairOp, LoadSignedWords, PairMode, NoAllocate, Post, Offset, Pre, Family, Empty, Literal, Pair, Ordered, Unscaled, PostIndex, PreIndex, Register, Unsigned, LiteralOperands, PairOperands, OffsetOperands, IndexOperands}
 use Rattle.reader.specs.Scan.{stepOf, scanStart}

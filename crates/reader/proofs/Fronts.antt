@@ -7,7 +7,7 @@ use lib.Dec.{lit<}
 use lib.IntN.{ℤ, pos, negsuc, natAbs}
 use Rattle.ascii.specs.Ascii.{asc, signedDec}
 use Rattle.text.specs.Texts.{operandText, baseText, frontText}
-use Rattle.text.specs.declared.operand.Operand.{Operand}
+use Rattle.mnemonic.specs.Operands.{Operand}
 use Rattle.reader.specs.Types.{Scan, Name, PlainName, Tail, SizedOp, PairMode, Family, Literal, Instruction}
 use Rattle.reader.specs.Scan.{packed, plainOf, stepOf, scanStart}
 use Rattle.reader.specs.Names.{nameFor}

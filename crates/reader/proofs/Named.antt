@@ -5,9 +5,8 @@ use mathlib.Core.List.{List, [], _∷_, _++_, foldl}
 use lib.Dec.{eqb}
 use Rattle.ascii.specs.Ascii.{asc}
 use Rattle.mnemonic.specs.Mnemonics.{plainName, unscaledName, orderedName, literalName, noAllocateName, allocateName}
-use Rattle.text.specs.Operands.{sizedOperand, literalOperand, pairOperand}
-use Rattle.text.specs.declared.operand.Operand.{Operand}
-use Rattle.text.specs.declared.operand.Operand.the-variants.{Narrow, Wide, Hint}
+use Rattle.mnemonic.specs.Operands.{sizedOperand, literalOperand, pairOperand}
+use Rattle.mnemonic.specs.Operands.{Operand, Narrow, Wide, Hint}
 use Rattle.reader.specs.Types.{Scan, Name, PlainName, UnscaledName, OrderedName, PairName, NoAllocateName, SizedOp, StoreByte, LoadByte, LoadSignedByte64, LoadSignedByte32, StoreHalf, LoadHalf, LoadSignedHalf64, LoadSignedHalf32, StoreWord, LoadWord, LoadSignedWord64, StoreDouble, LoadDouble, Prefetch, LiteralOp, LiteralWord, LiteralDouble, LiteralSignedWord, LiteralPrefetch, PairOp, StoreWords, LoadWords, LoadSignedWords, StoreDoubles, LoadDoubles}
 use Rattle.reader.specs.Scan.{packed, plainOf, stepOf, scanStart}
 use Rattle.reader.specs.Names.{narrowName, wideName, hintName, nameFor}

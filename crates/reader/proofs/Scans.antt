@@ -13,8 +13,7 @@ use lib.Seq.{set-set, getD-set-same}
 use Rattle.bits.specs.Choice.{pick}
 use Rattle.ascii.specs.Ascii.{dec, signedDec}
 use Rattle.text.specs.Texts.{registerText, baseText, operandText}
-use Rattle.text.specs.declared.operand.Operand.{Operand}
-use Rattle.text.specs.declared.operand.Operand.the-variants.{Narrow, Wide, Hint}
+use Rattle.mnemonic.specs.Operands.{Operand, Narrow, Wide, Hint}
 use Rattle.ascii.proofs.Decimals.{dec-one, dec-more}
 use Rattle.reader.specs.Types.{Scan}
 use Rattle.reader.specs.Scan.{packed, keyed, digited, plainOf, stepOf}

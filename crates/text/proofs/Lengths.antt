@@ -19,10 +19,8 @@ use Rattle.instruction.specs.declared.family.Family.{Family}
 use Rattle.instruction.specs.declared.family.Family.the-variants.{Empty, Literal, Pair, Ordered, Unscaled, PostIndex, PreIndex, Register, Unsigned}
 use Rattle.instruction.specs.declared.family.IndexOperands.{IndexOperands}
 use Rattle.instruction.specs.Instructions.{instructionOf}
-use Rattle.text.specs.declared.operand.Operand.{Operand}
-use Rattle.text.specs.declared.operand.Operand.the-variants.{Narrow, Wide, Hint}
 use Rattle.ascii.specs.Ascii.{asc, dec, signedDec}
-use Rattle.text.specs.Operands.{sizedOperand, pairOperand}
+use Rattle.mnemonic.specs.Operands.{Operand, Narrow, Wide, Hint, sizedOperand, pairOperand}
 use Rattle.mnemonic.specs.Mnemonics.{stemmed, noAllocateName, allocateName, plainName, unscaledName, orderedName, literalName, pairName}
 use Rattle.text.specs.Texts.{registerText, baseText, operandText, offsetTail, preTail, postTail, pairTail, extendName, amountText, extendText, indexTail, frontText, literalText, pairText, sizedText, familyText, textOf}
 use Rattle.text.specs.Writing.{wordText}

@@ -1,44 +1,26 @@
 -- Writing a text: what each return shows, over plain values. Assumes nothing.
-use Prim.Native.Nat.{ℕ, _+_, _≤_, _<_}
+use Prim.Native.Nat.{ℕ, suc, _+_, _≤_, _<_}
 use mathlib.Core.Path.{_≡_, refl, sym, ap, _∙_}
 use mathlib.Core.Bool.{Bool, true, false, _&&_, not}
-use mathlib.Core.List.{List, [], _∷_, _++_}
+use mathlib.Core.List.{List, []}
 use native.Mathlib.Nat.{zero-add}
 use native.Mathlib.Omega.{arith}
 use borrow.Author.Tests.{lt-ltb, le-ltb}
-use lib.ListN.{length, take, length-take}
-use lib.Seq.{sets-eq}
+use lib.ListN.{length}
 use Rattle.bits.specs.Choice.{pick}
-use Rattle.instruction.specs.declared.answer.Answer.the-variants.{Done, NotInSet, Undefined, NoRoom}
+use Rattle.instruction.specs.declared.answer.Answer.the-variants.{Done, NotInSet, Undefined, Unpredictable, NoRoom}
 use Rattle.instruction.specs.declared.answer.Decoded.{Decoded}
-use Rattle.instruction.specs.declared.family.Family.{Family}
+use Rattle.instruction.specs.declared.family.Instruction.{Instruction}
 use Rattle.instruction.specs.Table.{inSet}
 use Rattle.instruction.specs.Undefined.{undefined, allocated}
 use Rattle.instruction.specs.Instructions.{instructionOf}
-use Rattle.instruction.specs.Decoding.{decodeOf}
+use Rattle.instruction.specs.Answers.{answerNumber}
+use Rattle.instruction.specs.Unpredictable.{unpredictable}
+use Rattle.instruction.specs.Decoding.{decodeOf, classOf, empty}
 use Rattle.text.specs.Texts.{familyText, textOf}
 use Rattle.ascii.specs.Puts.{Puts}
 use Rattle.text.specs.Writing.{wordText, Outcome, copied, writeOf, isDone}
-use Rattle.ascii.proofs.Pieces.{same, fits}
-use Rattle.text.proofs.Lengths.{family-text-short}
-
--- ---- a line in a buffer that has room for it
-
-take-front : (p q : List ℕ) → take (length p) (p ++ q) ≡ p
-take-front [] q = refl
-take-front (b ∷ p) q = ap (λ (l : List ℕ). b ∷ l) (take-front p q)
-
-module _ (f : Family) {xs ys : List ℕ} {n : ℕ} (p : Puts xs 0 (familyText f) ys n) (h : 128 ≤ length xs) where
-  room : 0 + length (familyText f) ≤ length xs
-  room = omega (arith, family-text-short f)
-
-  pub line-within : n ≤ length ys
-  line-within = omega (arith, fits p room, same p, room)
-
-  pub line-is : take n ys ≡ familyText f
-  line-is =
-      let e : n ≡ length (familyText f) = fits p room ∙ zero-add (length (familyText f)) in
-      rw (e, p .text, sets-eq (familyText f) xs 0 room) (take-front (familyText f) _)
+use Rattle.ascii.proofs.Pieces.{fits}
 
 -- ---- copying it
 
@@ -52,9 +34,6 @@ module _ (t b : List ℕ) where
   copied-is h p =
       let r : 0 + length t ≤ length b = omega arith in
       rw (le-ltb (length b) (length t) h, fits p r, p .text, zero-add (length t))
-
-pub take-within : (n : ℕ) (l : List ℕ) → n ≤ length l → length (take n l) ≡ n
-take-within n l h = length-take n l ∙ omega arith
 
 -- ---- the word's own text
 
@@ -85,3 +64,17 @@ module _ (w : ℕ) (b : List ℕ) {d : Decoded} (e : d ≡ decodeOf w) {a : Bool
   write-done {t} h p r =
       let g = allocated-as true h in
       rw g (r ∙ ap (λ (x : List ℕ). copied x b) (p ∙ ap familyText (family-is g)))
+
+-- ---- a word that has no text
+
+no-text-by : (s u p : Bool) (t : Instruction) (k : ℕ) → answerNumber (pick s (pick u Undefined (pick p Unpredictable Done)) NotInSet) ≡ suc (suc k) → k < 2
+    → textOf (pick (s && not u) t empty) ≡ []
+unfolding textOf
+no-text-by true true p t k e h = refl
+no-text-by true false true t k e h = absurd (omega (arith, e))
+no-text-by true false false t k e h = absurd (omega (arith, e))
+no-text-by false u p t k e h = refl
+
+pub no-text : (w : ℕ) {n : ℕ} (k : ℕ) → n ≡ answerNumber (classOf w) → n ≡ suc (suc k) → k < 2 → textOf (decodeOf w .instruction) ≡ []
+unfolding decodeOf classOf allocated
+no-text w k e q h = no-text-by (inSet w) (undefined w) (unpredictable w) (instructionOf w) k (sym e ∙ q) h

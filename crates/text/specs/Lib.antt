@@ -1,3 +1,4 @@
-pub mod Operands
 pub mod Texts
 pub mod Writing
+pub mod Pieces
+pub mod Lines

@@ -5,10 +5,8 @@ use lib.Dec.{eqb}
 use lib.IntN.{ℤ, natAbs}
 use Rattle.bits.specs.Choice.{pick}
 use Rattle.ascii.specs.Ascii.{asc, dec, signedDec}
-use Rattle.text.specs.Operands.{sizedOperand, literalOperand, pairOperand}
+use Rattle.mnemonic.specs.Operands.{Operand, Narrow, Wide, Hint, sizedOperand, literalOperand, pairOperand}
 use Rattle.mnemonic.specs.Mnemonics.{plainName, unscaledName, orderedName, literalName, pairName}
-use Rattle.text.specs.declared.operand.Operand.{Operand}
-use Rattle.text.specs.declared.operand.Operand.the-variants.{Narrow, Wide, Hint}
 use Rattle.instruction.specs.declared.operation.SizedOp.{SizedOp}
 use Rattle.instruction.specs.declared.operation.LiteralOp.{LiteralOp}
 use Rattle.instruction.specs.declared.operation.PairOp.{PairOp}

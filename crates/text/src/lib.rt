@@ -1,17 +1,22 @@
-// The line of text of an instruction.
+// The line of text of a word.
+mod form;
+mod index;
 mod line;
-mod operand;
+mod number;
+mod piece;
 mod register;
-mod tail;
+mod store;
 
 use instruction::Answer;
-use instruction::Instruction;
+use instruction::Family;
+use store::Pieces;
 ghost use mathlib.Core.Path.{_≡_};
 ghost use Prim.Native.Nat.{_≤_};
-ghost use lib.ListN.{take};
+ghost use Rattle.instruction.specs.Decoding.{classOf, decodeOf};
 ghost use Rattle.ascii.specs.Puts.{Puts};
-ghost use Rattle.text.specs.Texts.{textOf};
+ghost use Rattle.text.specs.Texts.{textOf, familyText};
 ghost use Rattle.text.specs.Writing.{isDone, outcome, copied, writeOf};
+ghost use Rattle.text.specs.Lines.{Small, Sound, whole};
 
 // What writing a text returns. The length is 0 where it is refused.
 pub struct Written {
@@ -19,13 +24,38 @@ pub struct Written {
     pub length: usize,
 }
 
-// Puts the text of an instruction into a line at a position, as far as there is room, and returns the position
-// behind it.
-pub fn put(line: &mut [u8], at: usize, instruction: Instruction) -> usize
-    ensures { λ r. ⌜ Puts (now (line .entry)) at (textOf instruction) (now (line .exit)) r ⌝ }
+// What putting a text returns: the answer of its word, and the position behind the text.
+pub struct Shown {
+    pub answer: Answer,
+    pub end: usize,
+}
+
+// Puts the text of a word into a line at a position, as far as there is room. A word that has none puts nothing.
+pub fn put(line: &mut [u8], at: usize, word: u32) -> Shown
+    ensures { λ r. ⌜ (r .answer ≡ classOf word) × Puts (now (line .entry)) at (textOf (decodeOf word .instruction)) (now (line .exit)) (r .end) ⌝ }
 {
+    let examined = decoder::examine(word);
+    let answer = examined.answer;
+    let instruction = examined.instruction;
     let family = instruction.family;
-    line::put_family(line, at, family)
+    let number = instruction::answer_number(answer);
+    if number == 2 {
+        return Shown { answer, end: at };
+    }
+    if number == 3 {
+        return Shown { answer, end: at };
+    }
+    Shown {
+        answer,
+        end: put_family(line, at, family),
+    }
+}
+
+fn put_family(line: &mut [u8], at: usize, family: Family) -> usize
+    requires { ⌜ Small family ⌝ }
+    ensures { λ r. ⌜ Puts (now (line .entry)) at (familyText family) (now (line .exit)) r ⌝ }
+{
+    store::put_pieces(line, at, line::pieces_of(family))
 }
 
 // Puts the text of a word at the start of a buffer. A word that has none, and a buffer that is too short, are
@@ -40,9 +70,23 @@ pub fn write(word: u32, buffer: &mut [u8]) -> Written
     if !is_done(answer) {
         return Written { answer, length: 0 };
     }
-    let mut line = [0u8; 128];
-    let length = line::put_family(&mut line, 0, family);
-    copy_line(&line, length, buffer)
+    write_pieces(line::pieces_of(family), buffer)
+}
+
+fn write_pieces(pieces: Pieces, buffer: &mut [u8]) -> Written
+    requires { ⌜ Sound pieces ⌝ }
+    ensures { λ r. ⌜ outcome r (now (buffer .exit)) ≡ copied (whole pieces) (now (buffer .entry)) ⌝ }
+{
+    if buffer.len() < store::total(pieces) {
+        return Written {
+            answer: Answer::NoRoom,
+            length: 0,
+        };
+    }
+    Written {
+        answer: Answer::Done,
+        length: store::put_pieces(buffer, 0, pieces),
+    }
 }
 
 fn is_done(answer: Answer) -> bool
@@ -61,23 +105,5 @@ fn is_done(answer: Answer) -> bool
         Answer::NoSuchText => false,
         Answer::NoRoom => false,
         Answer::NoSuchInstruction => false,
-    }
-}
-
-// The first bytes of a line, of which it has enough.
-fn copy_line(line: &[u8], length: usize, buffer: &mut [u8]) -> Written
-    requires { ⌜ length ≤ lib.ListN.length (now line) ⌝ }
-    ensures { λ r. ⌜ outcome r (now (buffer .exit)) ≡ copied (take length (now (line .entry))) (now (buffer .entry)) ⌝ }
-{
-    if buffer.len() < length {
-        return Written {
-            answer: Answer::NoRoom,
-            length: 0,
-        };
-    }
-    let end = ascii::put_text(buffer, 0, &line[0..length]);
-    Written {
-        answer: Answer::Done,
-        length: end,
     }
 }

@@ -1,34 +1,46 @@
-// Registers and operands, put into a line at a position.
-use crate::operand::Operand;
-ghost use Rattle.ascii.specs.Puts.{Puts};
-ghost use Rattle.text.specs.Texts.{registerText, baseText, operandText};
+// Registers and operands before a piece of text.
+use crate::piece;
+use crate::piece::Piece;
+ghost use mathlib.Core.List.{_++_};
+ghost use Prim.Native.Nat.{_+_, _<_, _≤_};
+ghost use Rattle.ascii.specs.Ascii.{asc};
+ghost use Rattle.text.specs.Texts.{registerText, baseText};
+ghost use Rattle.text.specs.Pieces.{Low, Leads, Spells};
+ghost use Rattle.text.specs.Lines.{letterText};
 
 // The letter is w or x. Register 31 is the zero register.
-pub fn put_register(line: &mut [u8], at: usize, letter: u8, register: u32) -> usize
-    ensures { λ r. ⌜ Puts (now (line .entry)) at (registerText letter register) (now (line .exit)) r ⌝ }
+pub fn register(letter: u8, n: u32, rest: Piece) -> Piece
+    requires { ⌜ (n < 32) × (rest .length ≤ 5) × Low rest ⌝ }
+    ensures { λ r. ⌜ Leads (registerText letter n) rest r × (r .length ≤ rest .length + 3) ⌝ }
 {
-    if register == 31 {
-        return ascii::put_three(line, at, letter, b'z', b'r');
+    if n == 31 {
+        return piece::led(letter, piece::led(b'z', piece::led(b'r', rest)));
     }
-    ascii::put_lettered(line, at, letter, register as u64)
+    piece::led(letter, piece::digits(n, rest))
 }
 
-// Register 31 is the stack pointer.
-pub fn put_base(line: &mut [u8], at: usize, register: u32) -> usize
-    ensures { λ r. ⌜ Puts (now (line .entry)) at (baseText register) (now (line .exit)) r ⌝ }
+// A base behind its bracket. Register 31 is the stack pointer.
+pub fn base(n: u32, rest: Piece) -> Piece
+    requires { ⌜ (n < 32) × (rest .length ≤ 4) × Low rest ⌝ }
+    ensures { λ r. ⌜ Leads (asc "[" ++ baseText n) rest r × (r .length ≤ rest .length + 4) ⌝ }
 {
-    if register == 31 {
-        return ascii::put_two(line, at, b's', b'p');
+    if n == 31 {
+        return piece::led(b'[', piece::led(b's', piece::led(b'p', rest)));
     }
-    ascii::put_lettered(line, at, b'x', register as u64)
+    piece::led(b'[', piece::led(b'x', piece::digits(n, rest)))
 }
 
-pub fn put_operand(line: &mut [u8], at: usize, operand: Operand, register: u32) -> usize
-    ensures { λ r. ⌜ Puts (now (line .entry)) at (operandText operand register) (now (line .exit)) r ⌝ }
+// A first or second operand, by its letter, and the comma behind it.
+pub fn operand(letter: u8, n: u32) -> Piece
+    requires { ⌜ n < 32 ⌝ }
+    ensures { λ r. ⌜ Spells (letterText letter n ++ asc ", ") r × (r .length ≤ 5) ⌝ }
 {
-    match operand {
-        Operand::Narrow => put_register(line, at, b'w', register),
-        Operand::Wide => put_register(line, at, b'x', register),
-        Operand::Hint => ascii::put_lettered(line, at, b'#', register as u64),
+    let comma = Piece {
+        bytes: 0x202c,
+        length: 2,
+    };
+    if letter == b'#' {
+        return piece::led(letter, piece::digits(n, comma));
     }
+    register(letter, n, comma)
 }

@@ -1,39 +1,53 @@
 -- `mnemonic::unscaled_name` meets its contract. Assumes nothing.
-use Rattle.ascii.specs.Ascii.{unpacked}
+use Rattle.bits.specs.Bytes.{bytesOf}
 use borrow.Author.Needs.{needs}
 use Rattle.mnemonic.proofs.unscaled_name.Statement.{statement}
 use Rattle.mnemonic.proofs.unscaled_name.Tie as tie
 
 pub unscaled-name-spec : {M : Type 1} → statement M
-unfolding unpacked
+unfolding bytesOf
 unscaled-name-spec =
     tie.close
     (tie.spec
     (λ c. search needs)
+    (λ c κs. search needs)
     (λ c. search needs)
+    (λ c κs. search needs)
     (λ c. search needs)
+    (λ c κs. search needs)
     (λ c. search needs)
+    (λ c κs. search needs)
     (λ c. search needs)
+    (λ c κs. search needs)
     (λ c. search needs)
+    (λ c κs. search needs)
     (λ c. search needs)
+    (λ c κs. search needs)
     (λ c. search needs)
+    (λ c κs. search needs)
     (λ c. search needs)
+    (λ c κs. search needs)
     (λ c. search needs)
+    (λ c κs. search needs)
     (λ c. search needs)
+    (λ c κs. search needs)
     (λ c. search needs)
+    (λ c κs. search needs)
     (λ c. search needs)
+    (λ c κs. search needs)
     (λ c. search needs)
-    (λ c. rw (c .enum-told .given .1))
-    (λ c. rw (c .enum-told2 .given .1))
-    (λ c. rw (c .enum-told3 .given .1))
-    (λ c. rw (c .enum-told4 .given .1))
-    (λ c. rw (c .enum-told5 .given .1))
-    (λ c. rw (c .enum-told6 .given .1))
-    (λ c. rw (c .enum-told7 .given .1))
-    (λ c. rw (c .enum-told8 .given .1))
-    (λ c. rw (c .enum-told9 .given .1))
-    (λ c. rw (c .enum-told10 .given .1))
-    (λ c. rw (c .enum-told11 .given .1))
-    (λ c. rw (c .enum-told12 .given .1))
-    (λ c. rw (c .enum-told13 .given .1))
-    (λ c. rw (c .enum-told14 .given .1)))
+    (λ c κs. search needs)
+    (λ c. rw (c .before .enum-told .given .1, c .named .ensures))
+    (λ c. rw (c .before .enum-told2 .given .1, c .named2 .ensures))
+    (λ c. rw (c .before .enum-told3 .given .1, c .named3 .ensures))
+    (λ c. rw (c .before .enum-told4 .given .1, c .named4 .ensures))
+    (λ c. rw (c .before .enum-told5 .given .1, c .named5 .ensures))
+    (λ c. rw (c .before .enum-told6 .given .1, c .named6 .ensures))
+    (λ c. rw (c .before .enum-told7 .given .1, c .named7 .ensures))
+    (λ c. rw (c .before .enum-told8 .given .1, c .named8 .ensures))
+    (λ c. rw (c .before .enum-told9 .given .1, c .named9 .ensures))
+    (λ c. rw (c .before .enum-told10 .given .1, c .named10 .ensures))
+    (λ c. rw (c .before .enum-told11 .given .1, c .named11 .ensures))
+    (λ c. rw (c .before .enum-told12 .given .1, c .named12 .ensures))
+    (λ c. rw (c .before .enum-told13 .given .1, c .named13 .ensures))
+    (λ c. rw (c .before .enum-told14 .given .1, c .named14 .ensures)))

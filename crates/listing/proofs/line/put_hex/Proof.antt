@@ -1,6 +1,6 @@
 -- `listing::line::put_hex` meets its contract. Assumes nothing.
+use Rattle.bits.proofs.Bytes.{halves}
 use Rattle.listing.specs.Listing.{hex8}
-use Rattle.ascii.proofs.Pieces.{after}
 use borrow.Author.Needs.{needs}
 use Rattle.listing.proofs.line.put_hex.Statement.{statement}
 use Rattle.listing.proofs.line.put_hex.Tie as tie
@@ -13,4 +13,10 @@ put-hex-spec =
     (λ c κs. search needs)
     (λ c κs. search needs)
     (λ c. search needs)
-    (λ c. after (c .before .before .before .before .before .before .put-hex4 .ensures) (c .before .before .put-hex42 .ensures)))
+    (λ c. search needs)
+    (λ c κs. search needs)
+    (λ c. search needs)
+    (λ c.
+    let high = c .before .before .before .before .four-digits .ensures in
+    let low = c .before .before .before .four-digits2 .ensures in
+    rw (halves _ _ (high .1), high .0, low .0) at (c .before .before .put-eight .ensures)))

@@ -1,9 +1,7 @@
 -- `listing::line::put_line` meets its contract. Assumes nothing.
-use mathlib.Core.Path.{ap, _∙_}
-use Rattle.instruction.specs.Answers.{answerNumber}
 use Rattle.listing.specs.Listing.{answerText, lineText}
 use Rattle.ascii.proofs.Pieces.{after}
-use Rattle.listing.proofs.Steps.{content-is, ends}
+use Rattle.listing.proofs.Steps.{ends}
 use borrow.Author.Needs.{needs}
 use Rattle.listing.proofs.line.put_line.Statement.{statement}
 use Rattle.listing.proofs.line.put_line.Tie as tie
@@ -16,15 +14,10 @@ put-line-spec =
     (λ c κs. search needs)
     (λ c κs. search needs)
     (λ c κs. search needs)
-    (λ c κs. search needs)
-    (λ c κs. search needs)
     (λ c. search needs)
     (λ c. search needs)
     (λ c κs. search needs)
     (λ c. search needs)
     (λ c.
-    let x = c .before .before .before .before .before .before .before .before .before .before .before .before .before .before .before .before .before .before .examine .ensures in
-    let e = c .before .before .before .before .before .before .before .before .before .before .before .before .before .before .before .before .answer-number .ensures .0 ∙ ap answerNumber (x .0) in
-    ends
-    (after (after (c .before .before .before .before .before .before .before .before .before .before .before .before .before .before .put-hex .ensures) (c .before .before .before .before .before .before .before .before .before .before .put-byte .ensures)) (rw (content-is _ e (x .1)) at (c .before .before .before .before .before .before .put-content .ensures)))
-    (rw e at (c .before .before .put-three .ensures))))
+    let content = c .before .before .before .before .before .before .before .put-content .ensures in
+    ends (after (after (c .before .before .before .before .before .before .before .before .before .before .before .before .before .before .before .put-hex .ensures) (c .before .before .before .before .before .before .before .before .before .before .before .put-byte .ensures)) (content .2)) (rw (content .0) at (c .before .before .put-three .ensures))))

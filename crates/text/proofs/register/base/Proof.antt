@@ -1,0 +1,22 @@
+-- `text::register::base` meets its contract. Assumes nothing.
+use native.Mathlib.Omega.{arith}
+use borrow.Author.Tests.{eq-eqb, ne-eqb}
+use Rattle.text.specs.Texts.{baseText}
+use Rattle.text.proofs.Packing.{on}
+use borrow.Author.Needs.{needs}
+use Rattle.text.proofs.register.base.Statement.{statement}
+use Rattle.text.proofs.register.base.Tie as tie
+
+pub base-spec : {M : Type 1} → statement M
+unfolding baseText
+base-spec =
+    tie.close
+    (tie.spec
+    (λ c κs. search needs)
+    (λ c κs. search needs)
+    (λ c κs. search needs)
+    (λ c. (simp (eq-eqb _ _ (c .before .before .before .if1 .taken)) (on (on (c .led3 .ensures) (c .before .led2 .ensures)) (c .before .before .led .ensures)), omega (arith, c .led3 .ensures .longer, c .before .led2 .ensures .longer, c .before .before .led .ensures .longer)))
+    (λ c κs. search needs)
+    (λ c κs. search needs)
+    (λ c κs. search needs)
+    (λ c. (simp (ne-eqb _ _ (c .before .before .before .if1 .left)) (on (on (c .led5 .ensures) (c .before .led4 .ensures)) (c .before .before .digits .ensures .0)), omega (arith, c .led5 .ensures .longer, c .before .led4 .ensures .longer, c .before .before .digits .ensures .1))))

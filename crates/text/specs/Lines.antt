@@ -1,0 +1,64 @@
+-- A line of text in six pieces.
+use Prim.Native.Nat.{ℕ, _+_, _<_}
+use mathlib.Core.Path.{_≡_}
+use mathlib.Core.List.{List, [], _∷_, _++_}
+use lib.Dec.{eqb}
+use lib.IntN.{natAbs}
+use Rattle.bits.specs.Choice.{pick}
+use Rattle.ascii.specs.Ascii.{asc, dec}
+use Rattle.text.specs.Texts.{registerText, extendName, amountText}
+use Rattle.instruction.specs.declared.family.OffsetOperands.{OffsetOperands}
+use Rattle.instruction.specs.declared.family.Family.{Family}
+use Rattle.instruction.specs.declared.family.Family.the-variants.{Empty, Literal, Pair, Ordered, Unscaled, PostIndex, PreIndex, Register, Unsigned}
+use Rattle.mnemonic.specs.declared.Mnemonic.{Mnemonic}
+use Rattle.mnemonic.specs.Named.{known}
+use Rattle.text.specs.declared.store.Pieces.{Pieces}
+use Rattle.text.specs.Pieces.{textIn, Fit}
+
+pub record Sound (p : Pieces) : Type 0 where
+  pub name : Fit (p .name)
+  pub first : Fit (p .first)
+  pub second : Fit (p .second)
+  pub third : Fit (p .third)
+  pub fourth : Fit (p .fourth)
+  pub last : Fit (p .last)
+
+abbrev pub whole : Pieces → List ℕ
+whole p = textIn (p .name) ++ textIn (p .first) ++ textIn (p .second) ++ textIn (p .third) ++ textIn (p .fourth) ++ textIn (p .last)
+
+abbrev pub totalOf : Pieces → ℕ
+totalOf p = p .name .length + p .first .length + p .second .length + p .third .length + p .fourth .length + p .last .length
+
+pub record Made (t : List ℕ) (p : Pieces) : Type 0 where
+  pub text : whole p ≡ t
+  pub sound : Sound p
+
+-- an operand by its letter: w, x or #
+unfoldable pub letterText : ℕ → ℕ → List ℕ
+letterText letter r = pick (eqb letter 35) (35 ∷ dec r) (registerText letter r)
+
+-- a mnemonic and the first operand
+unfoldable pub frontIn : Mnemonic → ℕ → List ℕ
+frontIn m r = known m .letters ++ asc " " ++ letterText (known m .letter) r ++ asc ", "
+
+-- the numbers of an instruction that a word holds: registers, and offsets of at most seven digits
+abbrev pub SmallOffset : OffsetOperands → Type 0
+SmallOffset o = (o .target < 32) × (o .base < 32) × (natAbs (o .offset) < 10000000)
+
+abbrev pub Small : Family → Type 0
+Small Empty = Unit {0}
+Small (Literal op o) = (o .target < 32) × (natAbs (o .offset) < 10000000)
+Small (Pair op o) = (o .first < 32) × (o .second < 32) × (o .base < 32) × (natAbs (o .offset) < 10000000)
+Small (Ordered op o) = SmallOffset o
+Small (Unscaled op o) = SmallOffset o
+Small (PostIndex op o) = SmallOffset o
+Small (PreIndex op o) = SmallOffset o
+Small (Register op o) = (o .target < 32) × (o .base < 32) × (o .index < 32)
+Small (Unsigned op o) = SmallOffset o
+
+-- the extension of an index, and its amount with the bracket
+unfoldable pub extendPart : ℕ → ℕ → List ℕ
+extendPart option scaled = pick (eqb option 0b011) (pick (eqb scaled 1) (asc ", lsl") []) (asc ", " ++ extendName option)
+
+unfoldable pub amountPart : ℕ → ℕ → List ℕ
+amountPart scaled amount = amountText scaled amount ++ asc "]"
