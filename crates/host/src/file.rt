@@ -38,15 +38,15 @@ pub fn taints_in(flags: &[u8]) -> [bool; 32]
 // After a run with an answer of this number. Nothing is put back where the run was not begun.
 pub fn put_back(
     number: u64,
-    value: [u64; 32],
-    taint: [bool; 32],
+    value: &[u64; 32],
+    taint: &[bool; 32],
     pc: u64,
     registers: &mut [u64],
     flags: &mut [u8],
 )
     requires { ⌜ (33 ≤ length (now registers)) × (32 ≤ length (now flags)) ⌝ }
-    ensures { λ _. ⌜ (now (registers .exit) ≡ pick (isBegun number) (registersOut value pc (now (registers .entry))) (now (registers .entry)))
-        × (now (flags .exit) ≡ pick (isBegun number) (flagsOut taint (now (flags .entry))) (now (flags .entry))) ⌝ }
+    ensures { λ _. ⌜ (now (registers .exit) ≡ pick (isBegun number) (registersOut (now (value .entry)) pc (now (registers .entry))) (now (registers .entry)))
+        × (now (flags .exit) ≡ pick (isBegun number) (flagsOut (now (taint .entry)) (now (flags .entry))) (now (flags .entry))) ⌝ }
 {
     if is_begun(number) {
         put_values(value, registers);
@@ -55,10 +55,11 @@ pub fn put_back(
     }
 }
 
-fn put_values(value: [u64; 32], registers: &mut [u64])
+fn put_values(value: &[u64; 32], registers: &mut [u64])
     requires { ⌜ 32 ≤ length (now registers) ⌝ }
-    ensures { λ _. ⌜ now (registers .exit) ≡ sets (now (registers .entry)) 0 value ⌝ }
+    ensures { λ _. ⌜ now (registers .exit) ≡ sets (now (registers .entry)) 0 (now (value .entry)) ⌝ }
 {
+    all_values(*value);
     let mut i = 0;
     while i < 32 {
         registers[i] = value[i];
@@ -66,16 +67,27 @@ fn put_values(value: [u64; 32], registers: &mut [u64])
     }
 }
 
-fn put_flags(taint: [bool; 32], flags: &mut [u8])
+fn put_flags(taint: &[bool; 32], flags: &mut [u8])
     requires { ⌜ 32 ≤ length (now flags) ⌝ }
-    ensures { λ _. ⌜ now (flags .exit) ≡ sets (now (flags .entry)) 0 (map taintByte taint) ⌝ }
+    ensures { λ _. ⌜ now (flags .exit) ≡ sets (now (flags .entry)) 0 (map taintByte (now (taint .entry))) ⌝ }
 {
+    all_taints(*taint);
     let mut i = 0;
     while i < 32 {
         flags[i] = flag(taint[i]);
         i += 1;
     }
 }
+
+// An array behind a reference is not known to be full, and one that is handed over is. Nothing is copied: no code
+// is left of these calls.
+fn all_values(value: [u64; 32])
+    ensures { λ _. ⌜ length value ≡ 32 ⌝ }
+{}
+
+fn all_taints(taint: [bool; 32])
+    ensures { λ _. ⌜ length taint ≡ 32 ⌝ }
+{}
 
 fn is_tainted(flag: u8) -> bool
     ensures { λ r. ⌜ r ≡ tainted flag ⌝ }

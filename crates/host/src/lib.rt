@@ -70,7 +70,7 @@ pub extern "C" fn milestarling_run(
     );
     let answer = ran.answer;
     let number = answer_number(answer);
-    file::put_back(number, value, tainted, ran.pc, registers, flags);
+    file::put_back(number, &value, &tainted, ran.pc, registers, flags);
     RunReply {
         steps: ran.steps as u64,
         answer: number,

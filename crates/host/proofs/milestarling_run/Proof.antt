@@ -30,6 +30,6 @@ milestarling-run-spec =
     (λ c. search needs)
     (λ c.
     let back = c .before .before .before .before .put-back in
-    let ran = c .before .before .before .before .before .before .before .before .before .before .before .before .before .before .run-in in
-    let a = c .before .before .before .before .before .before .before .before .before .before .before .before .before .before .before .before .before .before .before .before .before .before .before .before .before .before .before .before .before .before .before .before .before .args in
-    handed _ (a .words .now) (a .registers .now) (a .flags .now) (a .memory .now) (a .taint .now) (a .trace .now) (ran .result) (omega (arith, c .before .before .before .before .before .before .before .before .before .before .before .before .before .before .before .before .before .before .before .before .before .before .before .before .before .before .if1 .left)) (omega (arith, c .before .before .before .before .before .before .before .before .before .before .before .before .before .before .before .before .before .before .before .before .before .before .before .before .before .if2 .left)) (c .before .before .before .before .before .before .before .before .before .before .before .before .before .before .before .before .before .before .before .before .before .before .before .values-in .ensures) (c .before .before .before .before .before .before .before .before .before .before .before .before .before .before .before .before .before .before .before .before .before .taints-in .ensures) (ran .ensures) (c .before .before .before .before .before .before .before .answer-number .ensures) (back .ensures .0) (back .ensures .1)))
+    let ran = c .before .before .before .before .before .before .before .before .before .before .before .before .before .before .before .before .run-in in
+    let a = c .before .before .before .before .before .before .before .before .before .before .before .before .before .before .before .before .before .before .before .before .before .before .before .before .before .before .before .before .before .before .before .before .before .before .before .args in
+    handed _ (a .words .now) (a .registers .now) (a .flags .now) (a .memory .now) (a .taint .now) (a .trace .now) (ran .result) (omega (arith, c .before .before .before .before .before .before .before .before .before .before .before .before .before .before .before .before .before .before .before .before .before .before .before .before .before .before .before .before .if1 .left)) (omega (arith, c .before .before .before .before .before .before .before .before .before .before .before .before .before .before .before .before .before .before .before .before .before .before .before .before .before .before .before .if2 .left)) (c .before .before .before .before .before .before .before .before .before .before .before .before .before .before .before .before .before .before .before .before .before .before .before .before .before .values-in .ensures) (c .before .before .before .before .before .before .before .before .before .before .before .before .before .before .before .before .before .before .before .before .before .before .before .taints-in .ensures) (ran .ensures) (c .before .before .before .before .before .before .before .before .before .answer-number .ensures) (back .ensures .0) (back .ensures .1)))
