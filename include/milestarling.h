@@ -95,6 +95,7 @@ struct milestarling_word_reply milestarling_word(const uint8_t *text, size_t tex
 /*
  * Writes the listing of little-endian words to the start of an output: a line for each with the word, its text and
  * its answer 0, 2, 3 or 4, and a line for bytes that are left over. Answers 0 or 10; the output changes only with 0.
+ * 128 bytes for each word, and 128 more, always suffice; a shorter output is measured first.
  */
 struct milestarling_text_reply milestarling_list(
     const uint8_t *bytes, size_t bytes_length, uint8_t *output, size_t output_length);

@@ -251,7 +251,7 @@ fn main() {
 
     let mut rates = Rates::default();
     let mut taken = BTreeMap::new();
-    let mut listing = vec![0; TEXTS * 120];
+    let mut listing = vec![0; (TEXTS + 1) * 128];
     for round in 0..ROUNDS {
         for (name, load) in &loads {
             let (mut ours, mut theirs) = (load.clone(), load.clone());
@@ -312,6 +312,9 @@ fn main() {
             }
             if !hooked.is_empty() {
                 rows.push((format!("{name} {hooked}"), "Unicorn, a hook that keeps a trace"));
+                if length == LONG {
+                    rows.push((format!("{name} hooked new"), "the same, words not run before"));
+                }
                 rows.push((format!("{name} {plain}"), "Unicorn, no hooks"));
             }
             rates.show(&format!("Lists of {length}, {title}"), "M steps/s", &rows);
@@ -341,12 +344,13 @@ fn main() {
     }
 }
 
-const DIFFERENCES: [&str; 12] = [
+const DIFFERENCES: [&str; 13] = [
     "What differs. Library and reference decode each word every time, test every access against the window and carry",
     "taints, in memory that they are lent. The reference keeps its registers in a struct of its own; the library",
     "copies them in and out with each call. Unicorn has neither taints nor a window: it translates the words once and",
     "runs the translation through a software memory unit, with its pages as the only test. For long lists it goes",
-    "round a loop of the guest, so that it is started once for many passes; word by word it is started for each. Every",
+    "round a loop of the guest, so that it is started once for many passes; word by word it is started for each. Words",
+    "that were not run before are translated first, and the translation counts; the library has none. Every",
     "store of Unicorn 2.0.1 takes a slow path, which looks for code to be translated anew, so loads alone are shown",
     "too; and a hook sees a pair as two accesses.",
     "LLVM and Capstone know the whole instruction set and print in their own notation. Both refuse most of the words",
