@@ -8,7 +8,6 @@ use Rattle.instruction.specs.Answers.{answerNumber}
 use Rattle.instruction.specs.Undefined.{allocated}
 use Rattle.instruction.specs.Decoding.{classOf}
 use Rattle.ascii.specs.Ascii.{asc}
-use Rattle.text.specs.Texts.{textOf}
 use Rattle.text.specs.Writing.{wordText, Outcome, copied}
 use Rattle.listing.specs.declared.Listed.{Listed}
 

@@ -2,7 +2,7 @@
 use Prim.Native.Nat.{ℕ, zero, suc, _+_, _*_, _/_, _%_, _^_, _≤_, _<_}
 use mathlib.Core.Path.{_≡_, refl, sym, ap, _∙_}
 use mathlib.Core.Bool.{Bool, true, false, _&&_, false≢true}
-use mathlib.Core.List.{List, [], _∷_, _++_, append-assoc, append-nil}
+use mathlib.Core.List.{List, [], _++_, append-assoc, append-nil}
 use native.Mathlib.Omega.{arith}
 use borrow.Author.Tests.{ne-eqb, leb-true, ltb-true}
 use lib.Dec.{eqb, leb, ltb, lit<}
@@ -19,7 +19,7 @@ use Rattle.text.specs.declared.store.Pieces.{Pieces}
 use Rattle.text.specs.Texts.{operandText, offsetTail, extendName, extendText, amountText, frontText}
 use Rattle.text.specs.Pieces.{textIn, Fit, Leads, Shows}
 use Rattle.text.proofs.Packing.{size}
-use Rattle.text.specs.Lines.{whole, Made, letterText, frontIn, extendPart, amountPart}
+use Rattle.text.specs.Lines.{Made, letterText, frontIn, extendPart, amountPart}
 
 pub nothing-shown : Shows [] (record { bytes = 0; length = 0 })
 unfolding textIn bytesOf

@@ -1,6 +1,6 @@
 -- The numbers of an instruction that a word stands for: registers below 32, and offsets of at most seven digits.
 -- Assumes nothing.
-use Prim.Native.Nat.{ℕ, zero, suc, _+_, _-_, _*_, _≤_, _<_}
+use Prim.Native.Nat.{ℕ, zero, suc, _-_, _*_, _≤_}
 use mathlib.Core.Path.{_≡_, refl}
 use mathlib.Core.Bool.{Bool, true, false}
 use native.Mathlib.Nat.{mul-le-mul, mul-le-mul-left}
@@ -16,11 +16,10 @@ use Rattle.instruction.specs.declared.line.Line.{Line}
 use Rattle.instruction.specs.declared.line.Line.the-variants.{NoLine, LiteralLine, PairLine, OrderedLine, UnscaledLine, PostLine, PreLine, RegisterLine, UnsignedLine}
 use Rattle.instruction.specs.declared.operation.SizedOp.{SizedOp}
 use Rattle.instruction.specs.Operations.{sizedBytes, pairBytes}
-use Rattle.instruction.specs.Table.{lineOf, inSet}
-use Rattle.instruction.specs.Undefined.{undefined, allocated}
-use Rattle.instruction.specs.Unpredictable.{unpredictable}
+use Rattle.instruction.specs.Table.{lineOf}
+use Rattle.instruction.specs.Undefined.{allocated}
 use Rattle.instruction.specs.Instructions.{sizedIn, literalIn, pairOpIn, pairIn, signedIn, indexIn, unsignedIn, familyIn, instructionOf}
-use Rattle.instruction.specs.Decoding.{decodeOf, classOf, empty}
+use Rattle.instruction.specs.Decoding.{decodeOf, empty}
 use Rattle.instruction.proofs.Codes.{sized, paired}
 use Rattle.text.specs.Lines.{SmallOffset, Small}
 

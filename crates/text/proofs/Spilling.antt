@@ -1,11 +1,11 @@
 -- Pieces that are stored with the zeros above them, and what stood behind the last put back. Assumes nothing.
-use Prim.Native.Nat.{ℕ, zero, suc, _+_, _-_, _/_, _%_, _^_, _≤_, _<_}
+use Prim.Native.Nat.{ℕ, zero, suc, _+_, _-_, _/_, _%_, _≤_, _<_}
 use mathlib.Core.Path.{_≡_, refl, sym, ap, _∙_}
 use mathlib.Core.List.{List, [], _∷_, _++_, append-assoc, append-nil}
 use native.Mathlib.Nat.{sub-zero, div-eq-of-lt}
 use native.Mathlib.Omega.{arith}
 use lib.ListN.{length, drop, getD, set, replicate, length-append, length-replicate, replicate-append-replicate}
-use lib.Seq.{sets, length-sets, set-set, set-comm, set-getD, getD-set-other, drop-nil}
+use lib.Seq.{sets, set-set, set-comm, set-getD, getD-set-other}
 use Rattle.bits.specs.Bytes.{bytesOf, spanOf}
 use Rattle.bits.proofs.Bytes.{bytes-more, bytes-none}
 use Rattle.ascii.specs.Puts.{Puts}

@@ -11,7 +11,6 @@ use instruction::Answer;
 use instruction::Family;
 use store::Pieces;
 ghost use mathlib.Core.Path.{_≡_};
-ghost use Prim.Native.Nat.{_≤_};
 ghost use Rattle.instruction.specs.Decoding.{classOf, decodeOf};
 ghost use Rattle.ascii.specs.Puts.{Puts};
 ghost use Rattle.text.specs.Texts.{textOf, familyText};

@@ -1,6 +1,5 @@
 -- `text::form::none` meets its contract. Assumes nothing.
 use Rattle.text.proofs.Forms.{nothing-shown}
-use borrow.Author.Needs.{needs}
 use Rattle.text.proofs.form.none.Statement.{statement}
 use Rattle.text.proofs.form.none.Tie as tie
 

@@ -2,7 +2,6 @@
 use native.Mathlib.Omega.{arith}
 use borrow.Author.Tests.{lt-ltb, le-ltb}
 use Rattle.text.specs.Pieces.{reachesOf}
-use borrow.Author.Needs.{needs}
 use Rattle.text.proofs.number.reaches.Statement.{statement}
 use Rattle.text.proofs.number.reaches.Tie as tie
 
