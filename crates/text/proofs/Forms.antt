@@ -18,7 +18,7 @@ use Rattle.text.specs.declared.piece.Piece.{Piece}
 use Rattle.text.specs.declared.store.Pieces.{Pieces}
 use Rattle.text.specs.Texts.{operandText, offsetTail, extendName, extendText, amountText, frontText}
 use Rattle.text.specs.Pieces.{textIn, Fit, Leads, Shows}
-use Rattle.text.proofs.Packing.{size}
+use Rattle.text.proofs.Packing.{size, comma, shows}
 use Rattle.text.specs.Lines.{Made, letterText, frontIn, extendPart, amountPart}
 
 pub nothing-shown : Shows [] (record { bytes = 0; length = 0 })
@@ -108,8 +108,7 @@ unfolding textIn
 constant {bytes} {length} e short low = record { text = e; fit = record { short = leb-true length 8 short; low = ltb-true bytes (256 ^ length) low } }
 
 pub comma-shown : Shows (asc ", ") (record { bytes = 0x202c; length = 2 })
-unfolding bytesOf
-comma-shown = constant refl refl refl
+comma-shown = shows comma (omega arith)
 
 pub sign-shown : Shows (asc ", #") (record { bytes = 0x23_202c; length = 3 })
 unfolding bytesOf

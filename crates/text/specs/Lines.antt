@@ -1,4 +1,4 @@
--- A line of text in six pieces.
+-- A line of text in six pieces: the route of the code to the texts of Texts.
 use Prim.Native.Nat.{ℕ, _+_, _<_}
 use mathlib.Core.Path.{_≡_}
 use mathlib.Core.List.{List, [], _∷_, _++_}

@@ -1,4 +1,4 @@
--- Short texts that are packed into numbers, and lines that are put together of six of them.
+-- Short texts that are packed into numbers: the route of the code, not what a line is, which Texts says.
 use Prim.Native.Nat.{ℕ, zero, suc, _+_, _/_, _%_, _^_, _≤_, _<_}
 use mathlib.Core.Path.{_≡_}
 use mathlib.Core.List.{List, [], _∷_, _++_}
