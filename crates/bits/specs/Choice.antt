@@ -1,5 +1,5 @@
--- Choices: by a test, and by a table.
-use Prim.Native.Nat.{ℕ}
+-- Choices: by a test, and by a table; and how many of some tests hold.
+use Prim.Native.Nat.{ℕ, suc}
 use mathlib.Core.Bool.{Bool, true, false}
 use mathlib.Core.List.{List, [], _∷_}
 use lib.Dec.{eqb}
@@ -13,3 +13,8 @@ pick false a b = b
 abbrev pub lookup : {A : Type 0} → A → List (ℕ × A) → ℕ → A
 lookup d [] k = d
 lookup d (e ∷ es) k = pick (eqb k (e .0)) (e .1) (lookup d es k)
+
+abbrev pub howMany : List Bool → ℕ
+howMany [] = 0
+howMany (true ∷ bs) = suc (howMany bs)
+howMany (false ∷ bs) = howMany bs

@@ -19,15 +19,9 @@ use Rattle.instruction.specs.Undefined.{undefinedIn, undefined, allocated}
 use Rattle.instruction.specs.Instructions.{familyIn, instructionOf}
 use Rattle.instruction.specs.Encoding.{wordOf, encodedAs, encodeOf}
 use Rattle.instruction.proofs.Lines.{line-has}
+use Rattle.encoder.specs.Exact.{encoded, noWord, Word, Exact}
 use Rattle.encoder.proofs.There.{there}
 use Rattle.encoder.proofs.Back.{back}
-
--- what encoding a word's instruction is to give, and what it gives where there is no word
-abbrev pub encoded : ℕ → Encoded
-encoded w = record { answer = Done; word = w }
-
-abbrev pub noWord : Encoded
-noWord = record { answer = NoSuchInstruction; word = 0 }
 
 allocated-there : (w : ℕ) → w < 2 ^ 32 → allocated w ≡ true → wordOf (instructionOf w .family) ≡ Holds w
 unfolding allocated inSet undefined instructionOf
@@ -35,7 +29,7 @@ allocated-there w h a =
     let p = both (isLine (lineOf w)) (not (undefinedIn (lineOf w) w)) a in
     there w h (lineOf w) (p .0) (line-has w (p .0)) (not-true _ (p .1))
 
--- 3. Encoding the instruction of an allocated word gives the word.
+-- encoding the instruction of an allocated word gives the word
 pub encode-decoded : (w : ℕ) → w < 2 ^ 32 → allocated w ≡ true → encodeOf (instructionOf w) ≡ encoded w
 unfolding encodeOf
 encode-decoded w h a = rw (allocated-there w h a, a)
@@ -53,17 +47,11 @@ given : (f : Field) → Given f (encodedAs f)
 given (Holds v) = given-word v (allocated v) refl
 given Unfit = inr refl
 
-not-encoded : {w : ℕ} → ¬ (noWord ≡ encoded w)
+pub not-encoded : {w : ℕ} → ¬ (noWord ≡ encoded w)
 not-encoded e =
     let z : NoSuchInstruction ≡ Done = ap (λ (x : Encoded). x .answer) e in
     let y : _≡_ {A = ℕ} 0 1 = cc in
     omega arith
-
--- an instruction is that of the allocated word w
-pub record Word (i : Instruction) (w : ℕ) : Type 0 where
-  pub below : w < 2 ^ 32
-  pub defined : allocated w ≡ true
-  pub instruction : instructionOf w ≡ i
 
 word-of : (i : Instruction) (w : ℕ) → wordOf (i .family) ≡ Holds w → allocated w ≡ true → Word i w
 unfolding instructionOf
@@ -75,15 +63,12 @@ word-of i w h a =
       instruction = ap (λ (F : Family). record { family = F }) (ap (λ l. familyIn l w) (b .0) ∙ b .1);
     }
 
--- 4. Encoding an instruction gives the word that it is the instruction of, or 11 and 0 where there is none.
-abbrev pub Exact : Instruction → Encoded → Type 0
-Exact i e = ((w : ℕ) × (e ≡ encoded w) × Word i w) ⊎ ((e ≡ noWord) × ((w : ℕ) → ¬ Word i w))
-
 exact-from : (i : Instruction) → Given (wordOf (i .family)) (encodeOf i) → Exact i (encodeOf i)
 exact-from i (inl g) = inl (g .0, g .1, word-of i (g .0) (g .2) (g .3))
 exact-from i (inr e) =
     inr (e, λ w x. not-encoded (sym e ∙ ap encodeOf (sym (x .instruction)) ∙ encode-decoded w (x .below) (x .defined)))
 
+-- encoding an instruction gives the word that it is the instruction of, or 11 and 0 where there is none
 pub encode-exact : (i : Instruction) → Exact i (encodeOf i)
 unfolding encodeOf
 encode-exact i = exact-from i (given (wordOf (i .family)))

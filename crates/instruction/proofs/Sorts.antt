@@ -1,20 +1,14 @@
 -- Every word is not of the set, undefined or allocated, and decoding answers accordingly. Assumes nothing.
-use Prim.Native.Nat.{ℕ, suc}
+use Prim.Native.Nat.{ℕ}
 use mathlib.Core.Path.{_≡_, refl}
 use mathlib.Core.Bool.{Bool, true, false, _&&_, not}
-use mathlib.Core.List.{List, [], _∷_}
+use mathlib.Core.List.{[], _∷_}
 use mathlib.Core.Logic.{_↔_}
-use Rattle.bits.specs.Choice.{pick}
+use Rattle.bits.specs.Choice.{pick, howMany}
 use Rattle.instruction.specs.Types.{Line, NoLine, LiteralLine, PairLine, OrderedLine, UnscaledLine, PostLine, PreLine, RegisterLine, UnsignedLine, Answer, Done, NotInSet, Undefined}
 use Rattle.instruction.specs.Table.{isLine, lineOf, inSet}
 use Rattle.instruction.specs.Undefined.{undefinedIn, undefined, allocated}
 use Rattle.instruction.specs.Decoding.{decodeOf}
-
--- how many of these hold
-abbrev pub howMany : List Bool → ℕ
-howMany [] = 0
-howMany (true ∷ bs) = suc (howMany bs)
-howMany (false ∷ bs) = howMany bs
 
 -- undefined words are of the set
 none-undefined : (l : Line) (w : ℕ) → isLine l ≡ false → undefinedIn l w ≡ false

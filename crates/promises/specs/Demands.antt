@@ -8,7 +8,7 @@ use mathlib.Core.List.{List, [], _∷_}
 use mathlib.Core.Logic.{_↔_}
 use lib.Dec.{ltb, eqb}
 use lib.ListN.{length, take}
-use Rattle.bits.specs.Choice.{pick}
+use Rattle.bits.specs.Choice.{pick, howMany}
 use Rattle.instruction.specs.declared.answer.Answer.the-variants.{Done, NoSuchText}
 use Rattle.instruction.specs.declared.family.Instruction.{Instruction}
 use Rattle.instruction.specs.Answers.{answerNumber}
@@ -18,7 +18,6 @@ use Rattle.instruction.specs.Unpredictable.{unpredictable}
 use Rattle.instruction.specs.Instructions.{instructionOf}
 use Rattle.instruction.specs.Decoding.{decodeOf, classOf}
 use Rattle.instruction.specs.Encoding.{encodeOf}
-use Rattle.instruction.proofs.Sorts.{howMany}
 use Rattle.access.specs.declared.transfer.Transfer.{Transfer}
 use Rattle.access.specs.declared.addressing.Addressing.{Addressing}
 use Rattle.access.specs.declared.Access.the-variants.{Moves}
@@ -30,12 +29,12 @@ use Rattle.machine.specs.Tests.{tests, lowest}
 use Rattle.execution.specs.Walk.{walkOf, afterSteps}
 use Rattle.execution.specs.Run.{machineRun}
 use Rattle.execution.specs.Secrecy.{Same, ShowsRun}
-use Rattle.encoder.proofs.RoundTrip.{Exact}
+use Rattle.encoder.specs.Exact.{Exact}
 use Rattle.text.specs.Texts.{textOf}
 use Rattle.text.specs.Writing.{wordText, writeOf}
 use Rattle.reader.specs.declared.Reading.{Reading}
 use Rattle.reader.specs.Reading.{LineOf, ReadOf}
-use Rattle.reader.proofs.Triangle.{Bijection, Allocated, Encodable, Readable}
+use Rattle.reader.specs.Triangle.{Bijection, Allocated, Encodable, Readable}
 
 -- the answer of a step
 abbrev pub stepAnswer : Window → ℕ → Machine → ℕ

@@ -1,37 +1,21 @@
 -- Words, instructions and lines: each pair is a bijection between the allocated words, the instructions that have a word and the
 -- texts that are read. Assumes nothing.
-use Prim.Native.Nat.{ℕ, _^_, _<_}
+use Prim.Native.Nat.{ℕ}
 use mathlib.Core.Path.{_≡_, refl, sym, ap, _∙_, subst}
-use mathlib.Core.Bool.{true}
 use mathlib.Core.List.{List}
 use mathlib.Core.Logic.{inl, inr}
 use native.Mathlib.Omega.{arith}
-use Rattle.instruction.specs.Undefined.{allocated}
 use Rattle.instruction.specs.Instructions.{instructionOf}
 use Rattle.instruction.specs.Encoding.{encodeOf}
 use Rattle.instruction.specs.declared.answer.Encoded.{Encoded}
-use Rattle.encoder.proofs.RoundTrip.{encode-decoded, Exact, encode-exact}
+use Rattle.encoder.specs.Exact.{Exact}
+use Rattle.encoder.proofs.RoundTrip.{encode-decoded, encode-exact}
 use Rattle.text.specs.Texts.{textOf}
 use Rattle.text.specs.Writing.{wordText}
 use Rattle.reader.specs.Types.{Done, Instruction, Reading}
 use Rattle.reader.specs.Reading.{LineOf, ReadOf}
+use Rattle.reader.specs.Triangle.{Bijection, Allocated, Encodable, Readable}
 use Rattle.reader.proofs.RoundTrip.{text-injective}
-
--- f leads from the members of A to those of B, to each from exactly one
-pub record Bijection {X Y : Type 0} (A : X → Type 0) (B : Y → Type 0) (f : X → Y) : Type 0 where
-  pub into : (x : X) → A x → B (f x)
-  pub one-one : (x y : X) → A x → A y → f x ≡ f y → x ≡ y
-  pub onto : (y : Y) → B y → (x : X) × A x × (f x ≡ y)
-
-abbrev pub Allocated : ℕ → Type 0
-Allocated w = (w < 2 ^ 32) × (allocated w ≡ true)
-
--- an instruction that encoding takes, and a text that reading takes
-abbrev pub Encodable : Instruction → Type 0
-Encodable i = encodeOf i .answer ≡ Done
-
-abbrev pub Readable : List ℕ → Type 0
-Readable t = (r : Reading) × ReadOf t r × (r .answer ≡ Done)
 
 -- ---- words and instructions
 

@@ -4,3 +4,4 @@ pub mod Names
 pub mod Tails
 pub mod Build
 pub mod Reading
+pub mod Triangle

@@ -1,0 +1,36 @@
+-- 01's starred examples as one list: "Examples, starred ones proved".
+use Prim.Native.Nat.{ℕ}
+use Prim.Native.String.{String}
+use mathlib.Core.Path.{_≡_}
+use mathlib.Core.Bool.{true}
+use mathlib.Core.List.{List, [], _∷_}
+use Rattle.instruction.specs.Answers.{answerNumber}
+use Rattle.instruction.specs.Undefined.{allocated}
+use Rattle.instruction.specs.Decoding.{classOf}
+use Rattle.ascii.specs.Ascii.{asc}
+use Rattle.text.specs.Writing.{wordText}
+
+-- an allocated word with its text, or a word with its answer
+pub data Example : Type 0 where
+  line : ℕ → String → Example
+  answer : ℕ → ℕ → Example
+
+abbrev pub Holds : List Example → Type 0
+Holds [] = Unit {0}
+Holds (line w t ∷ es) = (allocated w ≡ true) × (wordText w ≡ asc t) × Holds es
+Holds (answer w n ∷ es) = (answerNumber (classOf w) ≡ n) × Holds es
+
+abbrev pub examples : List Example
+examples =
+    line 0x385ff020 "ldurb w0, [x1, #-1]"
+    ∷ line 0xf9400420 "ldr x0, [x1, #8]"
+    ∷ line 0xf84107e0 "ldr x0, [sp], #16"
+    ∷ line 0xa9bf7bfd "stp x29, x30, [sp, #-16]!"
+    ∷ line 0x38e4c862 "ldrsb w2, [x3, w4, sxtw]"
+    ∷ line 0x198000c5 "ldapursb x5, [x6]"
+    ∷ line 0x58ffffe7 "ldr x7, #-4"
+    ∷ line 0xf8800020 "prfum #0, [x1]"
+    ∷ answer 0xb8c00020 3
+    ∷ answer 0x38e00862 3
+    ∷ answer 0xa9400020 4
+    ∷ []
