@@ -3,3 +3,4 @@ pub mod Parts
 pub mod Offsets
 pub mod Signs
 pub mod Bytes
+pub mod Lists

@@ -1,3 +1,4 @@
+pub mod Files
 pub mod Refusals
 pub mod Secrecy
 pub mod Walks

@@ -3,7 +3,7 @@ use Prim.Native.Nat.{ℕ, suc, _+_, _*_, _%_, _^_, _≤_, _<_}
 use mathlib.Core.Path.{_≡_, refl, ap}
 use mathlib.Core.Bool.{Bool, true, false, not}
 use mathlib.Core.List.{List, [], _∷_}
-use mathlib.Core.Logic.{_⊎_, inl, inr}
+use mathlib.Core.Logic.{inl, inr}
 use native.Mathlib.Omega.{arith}
 use borrow.Author.Tests.{eq-eqb, eqb-true, not-false}
 use lib.Dec.{ltb, eqb}
@@ -33,10 +33,8 @@ use Rattle.machine.specs.Step.{Step, stopped, moved, performOf, accessStep, wor
 use Rattle.machine.specs.Tests.{accessTests, lowest}
 use Rattle.machine.proofs.Answers.{answers-exact}
 use Rattle.execution.specs.Walk.{Walked, goOn, walkOf, notBegun, runOf}
+use Rattle.execution.specs.Ends.{Early}
 use Rattle.execution.specs.Run.{machineRun}
-
-abbrev pub Early : ℕ → Type 0
-Early number = (number ≡ 1) ⊎ (number ≡ 10)
 
 -- ---- a step in a window that is not bad answers neither
 
@@ -123,12 +121,17 @@ module _ (w : Window) where
   walk-begun (word ∷ ws) m c a e h = go-begun m (walkOf (stepOf w) ws) (walk-begun ws) (stepOf w word m) (step-begun w word m e) (step-stays w m e word) h
 
   module _ (ws : List ℕ) (m : Machine) (trace : List ℕ) where
+    -- a run that is begun answers neither 1 nor 10
+    pub begun-late : bad w m ≡ false → ltb (length trace) (length ws * 2) ≡ false → Begun (machineRun w ws m trace .answer)
+    unfolding runOf
+    begun-late e g = rw (e, g) (walk-begun ws m 0 0 e)
+
     early-at : (y z : Bool) → bad w m ≡ y → ltb (length trace) (length ws * 2) ≡ z → Early (answerNumber (machineRun w ws m trace .answer))
         → machineRun w ws m trace ≡ notBegun (machineRun w ws m trace .answer) m trace
     unfolding runOf
     early-at true z e g h = rw e
     early-at false true e g h = rw (e, g)
-    early-at false false e g h = absurd (walk-begun ws m 0 0 e (rw (e, g) at h))
+    early-at false false e g h = absurd (begun-late e g h)
 
     -- a run that answers 1 or 10 has changed no register, byte, taint or PC, and nothing of the trace
     pub early-unchanged : Early (answerNumber (machineRun w ws m trace .answer)) → machineRun w ws m trace ≡ notBegun (machineRun w ws m trace .answer) m trace

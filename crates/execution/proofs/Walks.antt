@@ -3,12 +3,14 @@ use Prim.Native.Nat.{ℕ, zero, suc, _+_, _*_, _≤_, _<_}
 use mathlib.Core.Path.{_≡_, refl, sym, ap, _∙_}
 use mathlib.Core.Bool.{Bool, true, false}
 use mathlib.Core.List.{List, [], _∷_}
+use mathlib.Core.Logic.{_⊎_, inl, inr}
 use native.Mathlib.Nat.{add-zero, zero-add}
 use native.Mathlib.Omega.{arith}
 use borrow.Author.Tests.{ltb-false}
 use lib.Dec.{ltb}
 use lib.ListN.{length, take, drop, getD, set, drop-of-length-le}
-use lib.Seq.{sets, sets-eq, take-append-seam, take-length, drop-cons, getD-take}
+use lib.Seq.{sets, take-length, drop-cons, getD-take}
+use Rattle.bits.proofs.Lists.{sets-front}
 use Rattle.instruction.specs.declared.answer.Answer.the-variants.{Done, BadWindow, NoRoom}
 use Rattle.instruction.specs.Answers.{answerNumber}
 use Rattle.machine.specs.Step.{Step, stopped, moved, Outcome, performed}
@@ -16,6 +18,7 @@ use Rattle.machine.proofs.Answers.{Refuses}
 use Rattle.machine.proofs.Taints.{Follows}
 use Rattle.secrecy.specs.Alike.{Shows}
 use Rattle.execution.specs.Walk.{Walked, halted, ahead, goOn, walkOf, Result, glue, notBegun, runOf, afterSteps}
+use Rattle.execution.specs.Ends.{alone, Kept, Tried, Ends, lastOf}
 use Rattle.execution.specs.Secrecy.{ShowsRun}
 
 -- ---- the loop
@@ -84,15 +87,10 @@ module _ {A : Type 0} (f : ℕ → A → Step A) where
   numbers-fit : (ws : List ℕ) (m : A) (trace : List ℕ) → ltb (length trace) (length ws * 2) ≡ false → length (walkOf f ws m 0 0 .numbers) ≤ length trace
   numbers-fit ws m trace e = omega (arith, ltb-false (length trace) (length ws * 2) e, numbers-long ws m 0 0, walk-short ws m 0 0)
 
-  trace-numbers : (tr vs : List ℕ) → length vs ≤ length tr → take (length vs) (sets tr 0 vs) ≡ vs
-  trace-numbers tr vs h =
-      let z : 0 + length vs ≤ length tr = omega arith in
-      rw (sets-eq vs tr 0, take-append-seam)
-
   -- what the trace of a walk begins with
   trace-begins : (ws : List ℕ) (m : A) (trace : List ℕ) → ltb (length trace) (length ws * 2) ≡ false
       → take ((0 + walkOf f ws m 0 0 .steps) * 2) (sets trace (0 * 2) (walkOf f ws m 0 0 .numbers)) ≡ walkOf f ws m 0 0 .numbers
-  trace-begins ws m trace e = rw (zero-add, ← numbers-long ws m 0 0) (trace-numbers trace (walkOf f ws m 0 0 .numbers) (numbers-fit ws m trace e))
+  trace-begins ws m trace e = rw (zero-add, ← numbers-long ws m 0 0) (sets-front (walkOf f ws m 0 0 .numbers) trace (numbers-fit ws m trace e))
 
 -- ---- two runs
 
@@ -199,10 +197,23 @@ module _ {A B : Type 0} (part : A → B) (rule : ℕ → ℕ → B → B) (f : �
     pub run-rule : part (runOf bad f ws m trace .machine) ≡ afterSteps rule ws (runOf bad f ws m trace .trace) (runOf bad f ws m trace .steps) (part m)
     run-rule = run-rule-at (bad m) (ltb (length trace) (length ws * 2)) refl refl
 
+-- ---- a part of the machine that no step changes
+
+module _ {A B : Type 0} (part : A → B) (f : ℕ → A → Step A) (follows : (w : ℕ) (m : A) → Follows part (λ a b. b) m (f w m)) where
+  after-none : (ws trace : List ℕ) (j : ℕ) (b : B) → afterSteps (λ w a b. b) ws trace j b ≡ b
+  unfolding afterSteps
+  after-none ws trace zero b = refl
+  after-none ws trace (suc j) b = after-none ws trace j b
+
+  -- a run leaves it as it was
+  pub run-leaves : (bad : A → Bool) (ws : List ℕ) (m : A) (trace : List ℕ) → part (runOf bad f ws m trace .machine) ≡ part m
+  run-leaves bad ws m trace =
+      run-rule part (λ w a b. b) f follows bad ws m trace ∙ after-none ws (runOf bad f ws m trace .trace) (runOf bad f ws m trace .steps) (part m)
+
 -- ---- what a refused run keeps
 
 -- the second walk does what the first has done, and is not refused
-pub record Keeps {A : Type 0} (t u : Walked A) : Type 0 where
+record Keeps {A : Type 0} (t u : Walked A) : Type 0 where
   pub machine : t .machine ≡ u .machine
   pub numbers : t .numbers ≡ u .numbers
   pub steps : t .steps ≡ u .steps
@@ -218,26 +229,81 @@ module _ {A : Type 0} (f : ℕ → A → Step A) where
       rw e (record { machine = t .machine; numbers = rw (← t .numbers); steps = ap suc (t .steps); done = t .done })
 
   -- the steps done are those of the list's beginning, run alone
-  pub walk-keeps : (ws : List ℕ) (m : A) (c a : ℕ) → Keeps (walkOf f ws m c a) (walkOf f (take (walkOf f ws m c a .steps) ws) m c a)
+  walk-keeps : (ws : List ℕ) (m : A) (c a : ℕ) → Keeps (walkOf f ws m c a) (walkOf f (take (walkOf f ws m c a .steps) ws) m c a)
   unfolding walkOf
   walk-keeps [] m c a = record { machine = refl; numbers = refl; steps = refl; done = refl }
   walk-keeps (w ∷ ws) m c a = go-keeps w ws m c a (f w m) refl (walk-keeps ws)
 
   module _ (bad : A → Bool) (ws : List ℕ) (m : A) (trace : List ℕ) where
-    abbrev Kept : Result A → Type 0
-    Kept t = (t .machine ≡ walkOf f (take (t .steps) ws) m 0 0 .machine) × (walkOf f (take (t .steps) ws) m 0 0 .answer ≡ Done)
-
-    keeps-at : (y z : Bool) → bad m ≡ y → ltb (length trace) (length ws * 2) ≡ z → Kept (runOf bad f ws m trace)
+    keeps-at : (y z : Bool) → bad m ≡ y → ltb (length trace) (length ws * 2) ≡ z → Kept f ws m trace (runOf bad f ws m trace)
     unfolding runOf walkOf
-    keeps-at true z e g = rw e (refl, refl)
-    keeps-at false true e g = rw (e, g) (refl, refl)
+    keeps-at true z e g = rw e (record { machine = refl; trace = refl; steps = refl; done = refl })
+    keeps-at false true e g = rw (e, g) (record { machine = refl; trace = refl; steps = refl; done = refl })
     keeps-at false false e g =
         let t = walk-keeps ws m 0 0 in
-        rw (e, g, zero-add) (t .machine, t .done)
+        rw (e, g, zero-add) (record { machine = t .machine; trace = ap (sets trace 0) (t .numbers); steps = t .steps; done = t .done })
 
-    -- a run leaves the machine that the steps done leave, run alone and not refused
-    pub run-keeps : Kept (runOf bad f ws m trace)
+    -- a run leaves what the steps done leave, run alone and not refused
+    pub run-keeps : Kept f ws m trace (runOf bad f ws m trace)
     run-keeps = keeps-at (bad m) (ltb (length trace) (length ws * 2)) refl refl
+
+-- ---- how a run ends
+
+module _ {A : Type 0} (f : ℕ → A → Step A) (refuses : (w : ℕ) (m : A) → Refuses (f w m)) where
+  -- the machine that is left is the same whatever the code and address before
+  machine-any : (ws : List ℕ) (m : A) (c a d b : ℕ) → walkOf f ws m c a .machine ≡ walkOf f ws m d b .machine
+  unfolding walkOf
+  machine-any [] m c a d b = refl
+  machine-any (w ∷ ws) m c a d b = refl
+
+  module _ (w : ℕ) (ws : List ℕ) (m n : A) (code address : ℕ) (e : f w m ≡ moved n code address) where
+    alone-later : (i : ℕ) → alone f (w ∷ ws) m (suc i) .machine ≡ alone f ws n i .machine
+    unfolding walkOf
+    alone-later i = rw e (machine-any (take i ws) n code address 0 0)
+
+    -- what is tried after a step done is tried one word later
+    later : (i : ℕ) (o : Outcome A) → Tried f ws n i o → Tried f (w ∷ ws) m (suc i) o
+    later i o (l, h) = (omega arith, rw (alone-later i) h)
+
+  -- the last step of words that are all done, with the code and address of the step before them
+  abbrev LastOf : List ℕ → A → ℕ → ℕ → Outcome A → Type 0
+  LastOf [] m c a o = o ≡ record { machine = m; answer = Done; code = c; address = a }
+  LastOf (w ∷ ws) m c a o = Tried f (w ∷ ws) m (length ws) o
+
+  abbrev EndsFrom : List ℕ → A → ℕ → ℕ → Walked A → Type 0
+  EndsFrom ws m c a t =
+      let o : Outcome A = record { machine = t .machine; answer = t .answer; code = t .code; address = t .address } in
+      ((t .steps ≡ length ws) × (t .answer ≡ Done) × LastOf ws m c a o) ⊎ (¬ (answerNumber (t .answer) ≡ 0) × Tried f ws m (t .steps) o)
+
+  last-later : (w : ℕ) (ws : List ℕ) (m n : A) (code address : ℕ) → f w m ≡ moved n code address → (o : Outcome A) → LastOf ws n code address o → Tried f (w ∷ ws) m (length ws) o
+  unfolding walkOf
+  last-later w [] m n code address e o h = (omega arith, rw (e, h))
+  last-later w (v ∷ vs) m n code address e o h = later w (v ∷ vs) m n code address e (length vs) o h
+
+  go-ends : (w : ℕ) (ws : List ℕ) (m : A) (c a : ℕ) (s : Step A) → f w m ≡ s → Refuses s → ((n : A) (d b : ℕ) → EndsFrom ws n d b (walkOf f ws n d b)) → EndsFrom (w ∷ ws) m c a (goOn m (walkOf f ws) s)
+  unfolding walkOf
+  go-ends w ws m c a (stopped answer address) e r k = inr (r, (omega arith, rw e))
+  go-ends w ws m c a (moved n code address) e r k = ends-later (walkOf f ws n code address) (k n code address)
+    where
+      ends-later : (t : Walked A) → EndsFrom ws n code address t → EndsFrom (w ∷ ws) m c a (ahead code address t)
+      ends-later t (inl (l, d, h)) = inl (ap suc l, d, last-later w ws m n code address e _ h)
+      ends-later t (inr (d, h)) = inr (d, later w ws m n code address e (t .steps) _ h)
+
+  walk-ends : (ws : List ℕ) (m : A) (c a : ℕ) → EndsFrom ws m c a (walkOf f ws m c a)
+  unfolding walkOf
+  walk-ends [] m c a = inl (refl, refl, refl)
+  walk-ends (w ∷ ws) m c a = go-ends w ws m c a (f w m) refl (refuses w m) (walk-ends ws)
+
+  ends-from : (ws : List ℕ) (m : A) (trace : List ℕ) (t : Walked A) → EndsFrom ws m 0 0 t → Ends f ws m (0 + t .steps) (lastOf (glue 0 trace t))
+  ends-from [] m trace t (inl (l, d, h)) = rw zero-add (inl (l, d, h))
+  ends-from (w ∷ ws) m trace t (inl (l, d, h)) = rw zero-add (inl (l, d, h))
+  ends-from ws m trace t (inr (d, h)) = rw zero-add (inr (d, h))
+
+  -- a run that is begun ends with every word done, or at the one that is refused
+  pub run-ends : (bad : A → Bool) (ws : List ℕ) (m : A) (trace : List ℕ) → bad m ≡ false → ltb (length trace) (length ws * 2) ≡ false
+      → Ends f ws m (runOf bad f ws m trace .steps) (lastOf (runOf bad f ws m trace))
+  unfolding runOf
+  run-ends bad ws m trace e g = rw (e, g) (ends-from ws m trace (walkOf f ws m 0 0) (walk-ends ws m 0 0))
 
 -- ---- the three ways that a run goes
 

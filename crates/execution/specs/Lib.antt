@@ -1,3 +1,4 @@
 pub mod Walk
+pub mod Ends
 pub mod Run
 pub mod Secrecy

@@ -7,14 +7,14 @@ use Rattle.machine.specs.Machine.{Machine}
 use Rattle.secrecy.specs.Alike.{Agree}
 use Rattle.execution.specs.Walk.{Result}
 
--- two machines with the same PC and taints, that agree on each register and each byte that is not tainted; a
--- register has a taint of its own
+-- two machines with the same PC and taints, that agree on each register that is not tainted and on each byte whose
+-- taint byte is 0: a byte that has none may differ. A register has a taint of its own.
 pub record Same (m n : Machine) : Type 0 where
   pub pc : m .pc ≡ n .pc
   pub taints : m .taints ≡ n .taints
   pub full : length (m .values) ≡ length (m .taints .registers)
   pub registers : Agree (λ i. getD (m .taints .registers) i false ≡ false) (m .values) (n .values)
-  pub bytes : Agree (λ i. getD (m .taints .bytes) i 0 ≡ 0) (m .memory) (n .memory)
+  pub bytes : Agree (λ i. getD (m .taints .bytes) i 1 ≡ 0) (m .memory) (n .memory)
 
 -- two runs that show the same, with the two numbers of the trace for each step done, and leave machines in a
 -- relation

@@ -141,7 +141,7 @@ module _ (sees : ℕ → Type 0) (clear : Bool → Type 0) (none : clear false) 
     step-at word false true len b e l = absurd (let z : _≡_ {A = ℕ} 0 1 = cc in omega arith)
 
     -- answer 1 is the same for both
-    pub bad-alike : bad w m ≡ bad w n
+    bad-alike : bad w m ≡ bad w n
     bad-alike = rw (h .bytes .size, h .taints .size, h .pc)
 
     pub step-alike : (word : ℕ) → Shows (Alike sees clear) (stepOf w word m) (stepOf w word n)

@@ -1,0 +1,62 @@
+-- A run keeps the size of the register file: as many values and as many taints as before. Assumes nothing.
+use Prim.Native.Nat.{ℕ}
+use mathlib.Core.Path.{_≡_, refl, ap}
+use mathlib.Core.Bool.{Bool}
+use mathlib.Core.List.{List}
+use lib.Dec.{eqb}
+use lib.ListN.{length, length-set}
+use Rattle.bits.proofs.Choices.{pick-by}
+use Rattle.instruction.specs.Answers.{answerNumber}
+use Rattle.instruction.specs.Decoding.{classOf}
+use Rattle.access.specs.declared.transfer.Transfer.{Transfer}
+use Rattle.access.specs.declared.addressing.Addressing.{Addressing}
+use Rattle.access.specs.declared.Access.{Access}
+use Rattle.access.specs.declared.Access.the-variants.{Nothing, Moves}
+use Rattle.plan.specs.declared.window.Window.{Window}
+use Rattle.plan.specs.declared.Plan.{Plan}
+use Rattle.plan.specs.declared.Plan.the-variants.{Refuse, Touch}
+use Rattle.plan.specs.Admission.{admitOf}
+use Rattle.plan.specs.Plans.{planOf}
+use Rattle.machine.specs.Rule.{moveRule, wordAccess}
+use Rattle.machine.specs.Machine.{Machine, operandsOf, effectOf}
+use Rattle.machine.specs.Step.{Step, performOf, accessStep, wordStep, bad, stepOf}
+use Rattle.machine.proofs.Taints.{Follows}
+use Rattle.execution.specs.Run.{machineRun}
+use Rattle.execution.proofs.Walks.{run-leaves}
+
+abbrev sizes : Machine → ℕ × ℕ
+sizes m = (length (m .values), length (m .taints .registers))
+
+effect-keeps : (t : Transfer) (written at next : ℕ) (m : Machine) → sizes (effectOf t written at next m) ≡ sizes m
+unfolding effectOf moveRule
+effect-keeps t written at next m =
+    let n = effectOf t written at next m in
+    let values : length (n .values) ≡ length (m .values) = pick-by (λ (v : List ℕ). length v ≡ length (m .values)) (t .store) (λ e. simp length-set) (λ e. simp length-set) in
+    let taints : length (n .taints .registers) ≡ length (m .taints .registers) = pick-by (λ (u : List Bool). length u ≡ length (m .taints .registers)) (t .store) (λ e. simp length-set) (λ e. simp length-set) in
+    λ i. (values i, taints i)
+
+module _ (w : Window) (m : Machine) where
+  abbrev Kept : Step Machine → Type 0
+  Kept s = Follows sizes (λ a b. b) m s
+
+  perform-keeps : (t : Transfer) (a : Addressing) (p : Plan) → Kept (performOf (w .origin) t a m p)
+  perform-keeps t a (Refuse answer address) = tt
+  perform-keeps t a (Touch address next) = effect-keeps t (a .written) _ next m
+
+  access-keeps : (x : Access) → Kept (accessStep (w .origin) (admitOf w (length (m .memory))) x m)
+  access-keeps Nothing = refl
+  access-keeps (Moves t a) = perform-keeps t a (planOf (admitOf w (length (m .memory))) t a (operandsOf a m))
+
+  step-keeps : (word : ℕ) → Kept (stepOf w word m)
+  unfolding stepOf wordStep
+  step-keeps word = pick-by Kept (bad w m) (λ e. tt) (λ e. pick-by Kept (eqb (answerNumber (classOf word)) 0) (λ d. access-keeps (wordAccess word)) (λ d. tt))
+
+module _ (w : Window) (words : List ℕ) (m : Machine) (trace : List ℕ) where
+  kept : sizes (machineRun w words m trace .machine) ≡ sizes m
+  kept = run-leaves sizes (stepOf w) (λ word n. step-keeps w n word) (bad w) words m trace
+
+  pub values-kept : length (machineRun w words m trace .machine .values) ≡ length (m .values)
+  values-kept = ap (λ (p : ℕ × ℕ). p .0) kept
+
+  pub taints-kept : length (machineRun w words m trace .machine .taints .registers) ≡ length (m .taints .registers)
+  taints-kept = ap (λ (p : ℕ × ℕ). p .1) kept

@@ -1,0 +1,49 @@
+-- What a run keeps, and how it ends: 01, "Memory, marks and the trace". Of any machine whose step takes a word.
+use Prim.Native.Nat.{ℕ, _<_}
+use mathlib.Core.Path.{_≡_}
+use mathlib.Core.List.{List, [], _∷_}
+use mathlib.Core.Logic.{_⊎_}
+use lib.ListN.{length, take, getD}
+use lib.Seq.{sets}
+use Rattle.instruction.specs.declared.answer.Answer.the-variants.{Done}
+use Rattle.instruction.specs.Answers.{answerNumber}
+use Rattle.machine.specs.Step.{Step, Outcome, performed}
+use Rattle.execution.specs.Walk.{Walked, walkOf, Result}
+
+-- the first i words, run alone
+abbrev pub alone : {A : Type 0} → (ℕ → A → Step A) → List ℕ → A → ℕ → Walked A
+alone f ws m i = walkOf f (take i ws) m 0 0
+
+-- what a run leaves is what the steps done leave, run alone, and none of those is refused
+pub record Kept {A : Type 0} (f : ℕ → A → Step A) (ws : List ℕ) (m : A) (before : List ℕ) (t : Result A) : Type 0 where
+  pub machine : t .machine ≡ alone f ws m (t .steps) .machine
+  pub trace : t .trace ≡ sets before 0 (alone f ws m (t .steps) .numbers)
+  pub steps : t .steps ≡ alone f ws m (t .steps) .steps
+  pub done : alone f ws m (t .steps) .answer ≡ Done
+
+-- the step of the word at i, from the machine as the steps before left it
+abbrev pub stepAt : {A : Type 0} → (ℕ → A → Step A) → List ℕ → A → ℕ → Outcome A
+stepAt f ws m i = performed (alone f ws m i .machine) (f (getD ws i 0) (alone f ws m i .machine))
+
+-- the last step tried is that of the word at i, and what is returned and left of it is this
+abbrev pub Tried : {A : Type 0} → (ℕ → A → Step A) → List ℕ → A → ℕ → Outcome A → Type 0
+Tried f ws m i o = (i < length ws) × (stepAt f ws m i ≡ o)
+
+-- every word is done, and the last step tried is that of the last word; an empty list has code and address 0
+abbrev pub AllDone : {A : Type 0} → (ℕ → A → Step A) → List ℕ → A → Outcome A → Type 0
+AllDone f [] m o = o ≡ record { machine = m; answer = Done; code = 0; address = 0 }
+AllDone f (w ∷ ws) m o = Tried f (w ∷ ws) m (length ws) o
+
+-- every word is done and the answer is 0, or the word at the number of steps done is the one that is refused
+abbrev pub Ends : {A : Type 0} → (ℕ → A → Step A) → List ℕ → A → ℕ → Outcome A → Type 0
+Ends f ws m steps o =
+    ((steps ≡ length ws) × (o .answer ≡ Done) × AllDone f ws m o)
+    ⊎ (¬ (answerNumber (o .answer) ≡ 0) × Tried f ws m steps o)
+
+-- what a run says of the last step tried
+abbrev pub lastOf : {A : Type 0} → Result A → Outcome A
+lastOf t = record { machine = t .machine; answer = t .answer; code = t .code; address = t .address }
+
+-- the answers that stop a run at its start, by their numbers
+abbrev pub Early : ℕ → Type 0
+Early number = (number ≡ 1) ⊎ (number ≡ 10)
