@@ -1,3 +1,4 @@
 pub mod Copies
 pub mod Replies
 pub mod Runs
+pub mod Secrecy

@@ -15,7 +15,8 @@ use Rattle.machine.specs.Machine.{Machine, machineWith}
 use Rattle.execution.specs.declared.RanIn.{RanIn}
 use Rattle.execution.specs.Walk.{Result, notBegun}
 use Rattle.execution.specs.Run.{machineRun, resultWith}
-use Rattle.execution.proofs.Refusals.{Early, early-unchanged}
+use Rattle.execution.specs.Ends.{Early}
+use Rattle.execution.proofs.Refusals.{early-unchanged}
 use Rattle.host.specs.declared.RunReply.{RunReply}
 use Rattle.host.specs.Hosting.{Hosted, hosted, machineIn, isBegun, registersOut, flagsOut, handedBack, hostRun}
 
