@@ -1,13 +1,16 @@
 -- The demands hold, by the theorems of the crates below and by the cases of their tests. Assumes nothing.
-use Prim.Native.Nat.{ℕ, _*_}
+use Prim.Native.Nat.{ℕ}
 use mathlib.Core.Path.{_≡_, refl, sym, ap, _∙_}
 use mathlib.Core.Bool.{Bool, true, false, not, _&&_}
 use mathlib.Core.List.{List, [], _∷_}
 use mathlib.Core.Logic.{_↔_, inl, inr}
 use native.Mathlib.Omega.{arith}
+use borrow.Author.Tests.{ne-eqb}
 use lib.Dec.{ltb, eqb}
 use lib.ListN.{length}
+use lib.Seq.{sets}
 use Rattle.bits.specs.Choice.{pick}
+use Rattle.bits.proofs.Choices.{pick-by}
 use Rattle.instruction.specs.declared.answer.Answer.{Answer}
 use Rattle.instruction.specs.declared.answer.Answer.the-variants.{Done, BadWindow, NotInSet, Undefined, Unpredictable, TaintedAddress, NoSuchText, NoRoom}
 use Rattle.instruction.specs.Answers.{answerNumber}
@@ -15,20 +18,34 @@ use Rattle.instruction.specs.Table.{inSet}
 use Rattle.instruction.specs.Undefined.{undefined, allocated}
 use Rattle.instruction.specs.Unpredictable.{unpredictable}
 use Rattle.instruction.specs.Decoding.{decodeOf, classOf}
+use Rattle.instruction.specs.Encoding.{encodeOf}
+use Rattle.instruction.proofs.Lines.{never-overlap}
 use Rattle.instruction.proofs.Sorts.{exactly-one}
+use Rattle.machine.specs.Rule.{Taints, wordRule}
 use Rattle.machine.specs.Machine.{Machine}
-use Rattle.machine.specs.Step.{bad, stepOf, performed}
+use Rattle.machine.specs.Step.{Step, stopped, moved, bad, stepOf, performed}
 use Rattle.machine.specs.Tests.{lowest}
-use Rattle.machine.proofs.Answers.{answers-exact, refused-unchanged, tainted-refused}
-use Rattle.execution.specs.Walk.{Walked, glue, notBegun, walkOf, runOf}
-use Rattle.execution.proofs.Walks.{run-keeps}
-use Rattle.execution.proofs.Secrecy.{demand-3 as demand-3-of-runs, taints-of-run}
+use Rattle.machine.proofs.Answers.{answers-exact, refused-unchanged, tainted-refused, Refuses, step-refuses}
+use Rattle.machine.proofs.Taints.{Follows, taintsIn, taints-by-rule}
+use Rattle.execution.specs.Walk.{runOf}
+use Rattle.execution.specs.Run.{machineRun}
+use Rattle.execution.proofs.Walks.{run-keeps, run-ends, run-bad, run-short}
+use Rattle.execution.proofs.Refusals.{begun-late, early-unchanged}
+use Rattle.execution.proofs.Secrecy.{step-same, demand-3 as demand-3-of-runs, taints-of-run}
 use Rattle.encoder.proofs.RoundTrip.{encode-exact}
 use Rattle.text.specs.Writing.{Outcome, wordText, copied, writeOf}
+use Rattle.text.proofs.Examples.{starred-examples}
+use Rattle.listing.specs.Listing.{listingOf, listOf}
+use Rattle.listing.proofs.Examples.{listing-example}
 use Rattle.reader.specs.declared.Reading.{Reading}
 use Rattle.reader.specs.Reading.{LineOf, ReadOf}
+use Rattle.reader.proofs.RoundTrip.{read-once}
 use Rattle.reader.proofs.Triangle.{triangle}
-use Rattle.promises.specs.Demands.{Demand1, Demand2, Demand3}
+use Rattle.host.proofs.Runs.{refused-unchanged as refused-calls}
+use Rattle.host.proofs.Secrecy.{hosted-taints, hosted-same}
+use Rattle.promises.specs.Answered.{oneOf}
+use Rattle.promises.specs.Demands.{Demand1, Demand2, Demand3, Library}
+use Rattle.promises.proofs.Answered.{by-definition, lowest-of-2, lowest-of-3, first-of-3, ten-or-none, step-number, run-number, encode-number, read-answered}
 
 decode-answer : (member wrong : Bool) → answerNumber (pick member (pick wrong Undefined Done) NotInSet) ≡ lowest 2 (not member ∷ wrong ∷ [])
 decode-answer true true = refl
@@ -48,6 +65,11 @@ write-answer true false true o p e f = ap answerNumber e
 write-answer true false false o p e f = ap answerNumber e
 write-answer false wrong short o p e f = ap answerNumber f
 
+write-number : (word : ℕ) (buffer : List ℕ)
+    → answerNumber (writeOf word buffer .answer) ≡ pick (not (inSet word)) 2 (pick (undefined word) 3 (pick (ltb (length buffer) (length (wordText word))) 10 0))
+unfolding writeOf decodeOf copied allocated
+write-number word buffer = write-answer (inSet word) (undefined word) (ltb (length buffer) (length (wordText word))) (copied (wordText word) buffer) _ refl refl
+
 done-not-none : {answer : Answer} → answer ≡ Done → ¬ (answer ≡ NoSuchText)
 done-not-none d e = let z : _≡_ {A = ℕ} 0 9 = ap answerNumber (sym d ∙ e) in omega arith
 
@@ -55,11 +77,56 @@ read-answer : (t : List ℕ) (r : Reading) → ReadOf t r → ((r .answer ≡ No
 read-answer t r (inl (d, l)) = (((λ e. absurd (done-not-none d e)), (λ n. absurd (n (r .word) l))), ((λ e. l), (λ k. d)))
 read-answer t r (inr (d, z, n)) = (((λ e. n), (λ k. d)), ((λ e. absurd (done-not-none e d)), (λ l. absurd (n (r .word) l))))
 
-run-answer : (b z : Bool) (m : Machine) (trace : List ℕ) (t : Walked Machine)
-    → answerNumber (pick b (notBegun BadWindow m trace) (pick z (notBegun NoRoom m trace) (glue 0 trace t)) .answer) ≡ pick b 1 (pick z 10 (answerNumber (t .answer)))
-run-answer true z m trace t = refl
-run-answer false true m trace t = refl
-run-answer false false m trace t = refl
+-- ---- a text or a listing, refused and done
+
+copied-refused : (short : Bool) (n : ℕ) (before after : List ℕ) → ¬ (answerNumber (pick short NoRoom Done) ≡ 0) → (pick short 0 n ≡ 0) × (pick short before after ≡ before)
+copied-refused true n before after h = (refl, refl)
+copied-refused false n before after h = absurd (h refl)
+
+copied-done : (short : Bool) (n : ℕ) (before after : List ℕ) → answerNumber (pick short NoRoom Done) ≡ 0 → (pick short 0 n ≡ n) × (pick short before after ≡ after)
+copied-done true n before after h = absurd (omega (arith, h))
+copied-done false n before after h = (refl, refl)
+
+abbrev Refused : List ℕ → Outcome → Type 0
+Refused buffer o = ¬ (answerNumber (o .answer) ≡ 0) → (o .length ≡ 0) × (o .buffer ≡ buffer)
+
+abbrev Completed : List ℕ → List ℕ → Outcome → Type 0
+Completed t buffer o = answerNumber (o .answer) ≡ 0 → (o .length ≡ length t) × (o .buffer ≡ sets buffer 0 t)
+
+refused-copy : (t buffer : List ℕ) → Refused buffer (copied t buffer)
+unfolding copied
+refused-copy t buffer h = copied-refused (ltb (length buffer) (length t)) (length t) buffer (sets buffer 0 t) h
+
+completed-copy : (t buffer : List ℕ) → Completed t buffer (copied t buffer)
+unfolding copied
+completed-copy t buffer h = copied-done (ltb (length buffer) (length t)) (length t) buffer (sets buffer 0 t) h
+
+-- a word that is not allocated is refused
+not-done : (member wrong : Bool) → (member && not wrong) ≡ false → ¬ (answerNumber (pick member (pick wrong Undefined Done) NotInSet) ≡ 0)
+not-done true true e h = omega arith
+not-done true false e h = let z : _≡_ {A = ℕ} 0 1 = cc in omega arith
+not-done false wrong e h = omega arith
+
+write-refused : (word : ℕ) (buffer : List ℕ) → Refused buffer (writeOf word buffer)
+unfolding writeOf
+write-refused word buffer = pick-by (Refused buffer) (allocated word) (λ e. refused-copy (wordText word) buffer) (λ e h. (refl, refl))
+
+write-done : (word : ℕ) (buffer : List ℕ) → Completed (wordText word) buffer (writeOf word buffer)
+unfolding writeOf decodeOf allocated
+write-done word buffer =
+    pick-by (Completed (wordText word) buffer) (inSet word && not (undefined word)) (λ e. completed-copy (wordText word) buffer)
+    (λ e h. absurd (not-done (inSet word) (undefined word) e h))
+
+list-answer : (short : Bool) → answerNumber (pick short NoRoom Done) ≡ pick short 10 0
+list-answer true = refl
+list-answer false = refl
+
+-- ---- steps
+
+step-marks : (rule : ℕ → Taints → Taints) (m : Machine) (s : Step Machine) → Refuses s → Follows taintsIn rule m s
+    → performed m s .machine .taints ≡ pick (eqb (answerNumber (performed m s .answer)) 0) (rule (performed m s .address) (m .taints)) (m .taints)
+step-marks rule m (stopped answer address) r h = rw (ne-eqb (answerNumber answer) 0 r)
+step-marks rule m (moved n code address) r h = h
 
 tainted-answer : (b d : Bool) (class : Answer) → answerNumber (pick b BadWindow (pick d TaintedAddress class)) ≡ pick b 1 (pick d 5 (answerNumber class))
 tainted-answer true d class = refl
@@ -67,16 +134,36 @@ tainted-answer false true class = refl
 tainted-answer false false class = refl
 
 pub demand-1 : Demand1
-unfolding decodeOf classOf runOf writeOf copied allocated
+unfolding decodeOf classOf listOf copied runOf
 demand-1 =
     record {
+      decoded = λ word. by-definition (decodeOf word) (ap (oneOf (0 ∷ 2 ∷ 3 ∷ [])) (decode-answer (inSet word) (undefined word)) ∙ lowest-of-2 (not (inSet word)) (undefined word));
+      classified =
+          λ word. by-definition (classOf word)
+          (ap (oneOf (0 ∷ 2 ∷ 3 ∷ 4 ∷ [])) (class-answer (inSet word) (undefined word) (unpredictable word)) ∙ lowest-of-3 (not (inSet word)) (undefined word) (unpredictable word));
+      encoded = λ i. by-definition (encodeOf i) (encode-number i);
+      written =
+          λ word buffer. by-definition (writeOf word buffer)
+          (ap (oneOf (0 ∷ 2 ∷ 3 ∷ 10 ∷ [])) (write-number word buffer) ∙ first-of-3 (not (inSet word)) (undefined word) (ltb (length buffer) (length (wordText word))));
+      read = read-answered;
+      listed = λ bytes output. by-definition (listOf bytes output) (ap (oneOf (0 ∷ 10 ∷ [])) (list-answer (ltb (length output) (length (listingOf bytes)))) ∙ ten-or-none (ltb (length output) (length (listingOf bytes))));
+      step = λ w word m. by-definition (performed m (stepOf w word m)) (step-number w word m);
+      run = λ w words m trace. by-definition (machineRun w words m trace) (run-number w words m trace);
       step-answers = answers-exact;
       decode-answers = λ word. decode-answer (inSet word) (undefined word);
       class-answers = λ word. class-answer (inSet word) (undefined word) (unpredictable word);
-      write-answers = λ word buffer. write-answer (inSet word) (undefined word) (ltb (length buffer) (length (wordText word))) (copied (wordText word) buffer) _ refl refl;
+      write-answers = write-number;
+      write-refused = write-refused;
+      write-done = write-done;
+      list-answers = λ bytes output. list-answer (ltb (length output) (length (listingOf bytes)));
+      list-refused = λ bytes output. refused-copy (listingOf bytes) output;
+      list-done = λ bytes output. completed-copy (listingOf bytes) output;
       read-answers = read-answer;
       encode-answers = encode-exact;
-      run-answers = λ w words m trace. run-answer (bad w m) (ltb (length trace) (length words * 2)) m trace (walkOf (stepOf w) words m 0 0);
+      run-window = λ w words m trace e. sym (run-bad (bad w) (stepOf w) words m trace refl e);
+      run-room = λ w words m trace e g. sym (run-short (bad w) (stepOf w) words m trace refl e g);
+      run-early = early-unchanged;
+      run-answers = λ w words m trace e g. (begun-late w words m trace e g, run-ends (stepOf w) (step-refuses w) (bad w) words m trace e g);
       refused-step = refused-unchanged;
       refused-run = λ w words m trace. run-keeps (stepOf w) (bad w) words m trace;
     }
@@ -84,12 +171,32 @@ demand-1 =
 pub demand-2 : Demand2
 demand-2 =
     let (line-of, words-records, records-lines, words-lines) = triangle in
-    record { one-sort = exactly-one; line-of-record = line-of; words-records = words-records; records-lines = records-lines; words-lines = words-lines }
+    record {
+      never-overlap = never-overlap;
+      one-sort = exactly-one;
+      line-of-record = line-of;
+      words-records = words-records;
+      records-lines = records-lines;
+      words-lines = words-lines;
+      read-once = read-once;
+      starred = starred-examples;
+      listing = listing-example;
+    }
 
 pub demand-3 : Demand3
 demand-3 =
     record {
       two-runs = demand-3-of-runs;
+      two-steps = λ w word m n h. step-same w m n h word;
       marks-at-end = taints-of-run;
+      marks-of-step = λ w word m. step-marks (wordRule (w .origin) word) m (stepOf w word m) (step-refuses w word m) (taints-by-rule w word m);
       marked-address = λ w word m t a e h. ap (λ s. answerNumber (performed m s .answer)) (tainted-refused w word m t a e h) ∙ tainted-answer (bad w m) (eqb (answerNumber (classOf word)) 0) (classOf word);
+    }
+
+pub library : Library
+library =
+    record {
+      early = refused-calls;
+      two-calls = λ w words registers flags memory taint trace others raised bytes marks trail h many wide room. hosted-same w words registers flags memory taint trace others raised bytes marks trail h many wide room;
+      marks-at-end = hosted-taints;
     }

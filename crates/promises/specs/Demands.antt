@@ -1,18 +1,20 @@
--- The three demands on Milestarling, each as one theorem over the definitions, in the order of their sentences. A
--- reader who trusts the definitions that are named here needs no other page. The contracts of the public functions say
--- that the code returns and leaves what these definitions say, on any input: no function has a condition to meet.
+-- The three demands on Milestarling, each as one theorem over the definitions, sentence by sentence. A reader who
+-- trusts the definitions that are named here needs no other page. The contracts of the public functions say that the
+-- code returns and leaves what these definitions say, on any input: no function has a condition to meet.
 use Prim.Native.Nat.{ℕ, _*_}
 use mathlib.Core.Path.{_≡_}
-use mathlib.Core.Bool.{true, not}
+use mathlib.Core.Bool.{true, false, not}
 use mathlib.Core.List.{List, [], _∷_}
 use mathlib.Core.Logic.{_↔_}
 use lib.Dec.{ltb, eqb}
-use lib.ListN.{length, take}
+use lib.ListN
+use lib.Seq.{sets}
 use Rattle.bits.specs.Choice.{pick, howMany}
-use Rattle.instruction.specs.declared.answer.Answer.the-variants.{Done, NoSuchText}
+use Rattle.instruction.specs.declared.answer.Answer.the-variants.{Done, BadWindow, NoSuchText, NoRoom}
 use Rattle.instruction.specs.declared.family.Instruction.{Instruction}
+use Rattle.instruction.specs.declared.line.Line.{Line}
 use Rattle.instruction.specs.Answers.{answerNumber}
-use Rattle.instruction.specs.Table.{inSet}
+use Rattle.instruction.specs.Table.{isLine, matches, inSet}
 use Rattle.instruction.specs.Undefined.{undefined, allocated}
 use Rattle.instruction.specs.Unpredictable.{unpredictable}
 use Rattle.instruction.specs.Instructions.{instructionOf}
@@ -24,64 +26,129 @@ use Rattle.access.specs.declared.Access.the-variants.{Moves}
 use Rattle.plan.specs.declared.window.Window.{Window}
 use Rattle.machine.specs.Rule.{wordAccess, wordRule}
 use Rattle.machine.specs.Machine.{Machine, operandsOf}
-use Rattle.machine.specs.Step.{bad, stepOf, performed}
+use Rattle.machine.specs.Step.{Outcome, bad, stepOf, performed}
 use Rattle.machine.specs.Tests.{tests, lowest}
-use Rattle.execution.specs.Walk.{walkOf, afterSteps}
+use Rattle.secrecy.specs.Alike.{Shows}
+use Rattle.execution.specs.Walk.{notBegun, afterSteps}
+use Rattle.execution.specs.Ends.{Kept, Ends, lastOf, Early}
 use Rattle.execution.specs.Run.{machineRun}
 use Rattle.execution.specs.Secrecy.{Same, ShowsRun}
 use Rattle.encoder.specs.Exact.{Exact}
 use Rattle.text.specs.Texts.{textOf}
 use Rattle.text.specs.Writing.{wordText, writeOf}
+use Rattle.text.specs.Examples.{Holds, examples}
+use Rattle.listing.specs.Listing.{listingOf, listOf}
+use Rattle.listing.specs.Examples.{exampleBytes, exampleLines}
 use Rattle.reader.specs.declared.Reading.{Reading}
 use Rattle.reader.specs.Reading.{LineOf, ReadOf}
 use Rattle.reader.specs.Triangle.{Bijection, Allocated, Encodable, Readable}
+use Rattle.host.specs.Hosting.{machineIn, hosted, hostRun}
+use Rattle.host.specs.Secrecy.{machineLeft, ShowsHosted}
+use Rattle.promises.specs.Answered.{Answered, Is}
 
--- the answer of a step
+-- all that a step returns and leaves, and its answer
+abbrev pub stepped : Window → ℕ → Machine → Outcome Machine
+stepped w word m = performed m (stepOf w word m)
+
 abbrev pub stepAnswer : Window → ℕ → Machine → ℕ
-stepAnswer w word m = answerNumber (performed m (stepOf w word m) .answer)
+stepAnswer w word m = answerNumber (stepped w word m .answer)
 
 pub record Demand1 : Type 0 where
-  -- "Each refusal has its number in document 01 and is given exactly when 01 says": of a step, 1 to 8
+  -- "Any word, any registers, any memory and any text get an answer, and nobody has to check first"
+  pub decoded : (word : ℕ) → Answered (Is (decodeOf word)) (λ r. answerNumber (r .answer)) (0 ∷ 2 ∷ 3 ∷ [])
+  pub classified : (word : ℕ) → Answered (Is (classOf word)) answerNumber (0 ∷ 2 ∷ 3 ∷ 4 ∷ [])
+  pub encoded : (i : Instruction) → Answered (Is (encodeOf i)) (λ r. answerNumber (r .answer)) (0 ∷ 11 ∷ [])
+  pub written : (word : ℕ) (buffer : List ℕ) → Answered (Is (writeOf word buffer)) (λ r. answerNumber (r .answer)) (0 ∷ 2 ∷ 3 ∷ 10 ∷ [])
+  pub read : (t : List ℕ) → Answered (ReadOf t) (λ r. answerNumber (r .answer)) (0 ∷ 9 ∷ [])
+  pub listed : (bytes output : List ℕ) → Answered (Is (listOf bytes output)) (λ r. answerNumber (r .answer)) (0 ∷ 10 ∷ [])
+  pub step : (w : Window) (word : ℕ) (m : Machine) → Answered (Is (stepped w word m)) (λ r. answerNumber (r .answer)) (0 ∷ 1 ∷ 2 ∷ 3 ∷ 4 ∷ 5 ∷ 6 ∷ 7 ∷ 8 ∷ [])
+  pub run : (w : Window) (words : List ℕ) (m : Machine) (trace : List ℕ)
+      → Answered (Is (machineRun w words m trace)) (λ r. answerNumber (r .answer)) (0 ∷ 1 ∷ 2 ∷ 3 ∷ 4 ∷ 5 ∷ 6 ∷ 7 ∷ 8 ∷ 10 ∷ [])
+  -- "Each refusal has its number in document 01 and is given exactly when 01 says": of a step, the lowest of 1 to 8
   pub step-answers : (w : Window) (word : ℕ) (m : Machine) → stepAnswer w word m ≡ lowest 1 (tests w word m)
-  -- of decoding, 2 and 3, and of a listing, 4 too
+  -- of decoding, 2 and 3, and of a listing's line, 4 too
   pub decode-answers : (word : ℕ) → answerNumber (decodeOf word .answer) ≡ lowest 2 (not (inSet word) ∷ undefined word ∷ [])
   pub class-answers : (word : ℕ) → answerNumber (classOf word) ≡ lowest 2 (not (inSet word) ∷ undefined word ∷ unpredictable word ∷ [])
-  -- of writing a text, 2, 3 and 10
+  -- of writing a text, 2, 3 and 10 in that order; refused, its length is 0 and the buffer is as it was
   pub write-answers : (word : ℕ) (buffer : List ℕ)
-      → answerNumber (writeOf word buffer .answer) ≡ pick (not (inSet word)) 2 (pick (undefined word) 3 (pick (ltb (length buffer) (length (wordText word))) 10 0))
+      → answerNumber (writeOf word buffer .answer) ≡ pick (not (inSet word)) 2 (pick (undefined word) 3 (pick (ltb (ListN.length buffer) (ListN.length (wordText word))) 10 0))
+  pub write-refused : (word : ℕ) (buffer : List ℕ) → ¬ (answerNumber (writeOf word buffer .answer) ≡ 0) → (writeOf word buffer .length ≡ 0) × (writeOf word buffer .buffer ≡ buffer)
+  pub write-done : (word : ℕ) (buffer : List ℕ) → answerNumber (writeOf word buffer .answer) ≡ 0
+      → (writeOf word buffer .length ≡ ListN.length (wordText word)) × (writeOf word buffer .buffer ≡ sets buffer 0 (wordText word))
+  -- of a listing, 10, likewise
+  pub list-answers : (bytes output : List ℕ) → answerNumber (listOf bytes output .answer) ≡ pick (ltb (ListN.length output) (ListN.length (listingOf bytes))) 10 0
+  pub list-refused : (bytes output : List ℕ) → ¬ (answerNumber (listOf bytes output .answer) ≡ 0) → (listOf bytes output .length ≡ 0) × (listOf bytes output .buffer ≡ output)
+  pub list-done : (bytes output : List ℕ) → answerNumber (listOf bytes output .answer) ≡ 0
+      → (listOf bytes output .length ≡ ListN.length (listingOf bytes)) × (listOf bytes output .buffer ≡ sets output 0 (listingOf bytes))
   -- of reading a text, 9: no allocated word has it for its line; else 0 and the word
   pub read-answers : (t : List ℕ) (r : Reading) → ReadOf t r → ((r .answer ≡ NoSuchText) ↔ ((word : ℕ) → ¬ LineOf word t)) × ((r .answer ≡ Done) ↔ LineOf (r .word) t)
   -- of encoding, 11: the one word that decodes to the instruction, or none does
   pub encode-answers : (i : Instruction) → Exact i (encodeOf i)
-  -- of a run, 1 and then 10 before any step, and after that what the steps answer
-  pub run-answers : (w : Window) (words : List ℕ) (m : Machine) (trace : List ℕ)
-      → answerNumber (machineRun w words m trace .answer) ≡ pick (bad w m) 1 (pick (ltb (length trace) (length words * 2)) 10 (answerNumber (walkOf (stepOf w) words m 0 0 .answer)))
+  -- of a run, 1 and then 10 at its start, and only there: steps, code and address are 0, and nothing is written
+  pub run-window : (w : Window) (words : List ℕ) (m : Machine) (trace : List ℕ) → bad w m ≡ true → machineRun w words m trace ≡ notBegun BadWindow m trace
+  pub run-room : (w : Window) (words : List ℕ) (m : Machine) (trace : List ℕ) → bad w m ≡ false → ltb (ListN.length trace) (ListN.length words * 2) ≡ true
+      → machineRun w words m trace ≡ notBegun NoRoom m trace
+  pub run-early : (w : Window) (words : List ℕ) (m : Machine) (trace : List ℕ) → Early (answerNumber (machineRun w words m trace .answer))
+      → machineRun w words m trace ≡ notBegun (machineRun w words m trace .answer) m trace
+  -- after that every word is done and the answer is 0, or the word at the number of steps done is the one refused, and
+  -- answer, code and address are that step's, from the machine as the steps before left it
+  pub run-answers : (w : Window) (words : List ℕ) (m : Machine) (trace : List ℕ) → bad w m ≡ false → ltb (ListN.length trace) (ListN.length words * 2) ≡ false
+      → let r = machineRun w words m trace in
+      ¬ Early (answerNumber (r .answer)) × Ends (stepOf w) words m (r .steps) (lastOf r)
   -- "A refused step changes no register, byte, mark or program counter"
-  pub refused-step : (w : Window) (word : ℕ) (m : Machine) → ¬ (stepAnswer w word m ≡ 0) → performed m (stepOf w word m) .machine ≡ m
-  -- "a refused run keeps the steps done before and nothing of the refused one"
-  pub refused-run : (w : Window) (words : List ℕ) (m : Machine) (trace : List ℕ)
-      → let done = walkOf (stepOf w) (take (machineRun w words m trace .steps) words) m 0 0 in
-      (machineRun w words m trace .machine ≡ done .machine) × (done .answer ≡ Done)
+  pub refused-step : (w : Window) (word : ℕ) (m : Machine) → ¬ (stepAnswer w word m ≡ 0) → stepped w word m .machine ≡ m
+  -- "a refused run keeps the steps done before and nothing of the refused one": machine, trace and number of steps
+  pub refused-run : (w : Window) (words : List ℕ) (m : Machine) (trace : List ℕ) → Kept (stepOf w) words m trace (machineRun w words m trace)
 
 pub record Demand2 : Type 0 where
   -- "Each step does what Arm's published A64 definition says": the definitions of accesses, plans and steps are that;
   -- `step` and `run` return and leave what they say
-  -- "Every allocated word of the set has one record and one line of text": a word is exactly one of not of the set,
-  -- undefined, and allocated
+  -- "Every allocated word of the set has one record and one line of text": a word matches at most one line of 01's
+  -- table, and is exactly one of not of the set, undefined, and allocated
+  pub never-overlap : (word : ℕ) (a b : Line) → isLine a ≡ true → isLine b ≡ true → matches word a ≡ true → matches word b ≡ true → a ≡ b
   pub one-sort : (word : ℕ) → howMany (not (inSet word) ∷ undefined word ∷ allocated word ∷ []) ≡ 1
   -- "and each of the three leads back to the other two"
   pub line-of-record : (word : ℕ) → wordText word ≡ textOf (instructionOf word)
   pub words-records : Bijection Allocated Encodable instructionOf
   pub records-lines : Bijection Encodable Readable textOf
   pub words-lines : Bijection Allocated Readable wordText
+  -- and a text is read as one word only
+  pub read-once : (t : List ℕ) (r s : Reading) → ReadOf t r → ReadOf t s → r ≡ s
+  -- 01's starred examples, and its example of a listing
+  pub starred : Holds examples
+  pub listing : listingOf exampleBytes ≡ exampleLines
 
 pub record Demand3 : Type 0 where
-  -- "both take the same number of steps, write the same trace, end with the same answer, code, address, program counter
-  -- and marks, and have equal values in every register and byte unmarked at the end"
-  pub two-runs : (w : Window) (words : List ℕ) (m n : Machine) (trace trail : List ℕ) → Same m n → length trace ≡ length trail → ShowsRun Same (machineRun w words m trace) (machineRun w words n trail)
-  -- "the marks at the end are exactly those that 01's rule makes of the starting marks over the steps done"
+  -- "Registers and bytes may be marked secret. For every list of words, words that a step refuses included, take two
+  -- runs of demand 2 over that list. They start with the same marks, window, program counter and trace room, and with
+  -- equal values in every unmarked register and byte. Then, whatever the marked ones hold in either run, both take the
+  -- same number of steps, write the same trace, end with the same answer, code, address, program counter and marks, and
+  -- have equal values in every register and byte unmarked at the end."
+  pub two-runs : (w : Window) (words : List ℕ) (m n : Machine) (trace trail : List ℕ) → Same m n → ListN.length trace ≡ ListN.length trail
+      → ShowsRun Same (machineRun w words m trace) (machineRun w words n trail)
+  -- of a single step, likewise
+  pub two-steps : (w : Window) (word : ℕ) (m n : Machine) → Same m n → Shows Same (stepOf w word m) (stepOf w word n)
+  -- "In each run the marks at the end are exactly those that 01's rule makes of the starting marks over the steps done"
   pub marks-at-end : (w : Window) (words : List ℕ) (m : Machine) (trace : List ℕ)
       → machineRun w words m trace .machine .taints ≡ afterSteps (wordRule (w .origin)) words (machineRun w words m trace .trace) (machineRun w words m trace .steps) (m .taints)
-  -- "a step that would take one from anything marked gets answer 5, unless one of 1 to 4 comes first"
+  pub marks-of-step : (w : Window) (word : ℕ) (m : Machine)
+      → stepped w word m .machine .taints ≡ pick (eqb (stepAnswer w word m) 0) (wordRule (w .origin) word (stepped w word m .address) (m .taints)) (m .taints)
+  -- "A password can't choose an address: a step that would take one from anything marked gets answer 5, unless one of 1
+  -- to 4 comes first"
   pub marked-address : (w : Window) (word : ℕ) (m : Machine) (t : Transfer) (a : Addressing) → wordAccess word ≡ Moves t a → operandsOf a m .tainted ≡ true
       → stepAnswer w word m ≡ pick (bad w m) 1 (pick (eqb (answerNumber (classOf word)) 0) 5 (answerNumber (classOf word)))
+
+-- What the library for C and Rust carries over of this, its registers and marks being lent slices
+pub record Library : Type 0 where
+  -- with 1 and 10 every slice is as it was
+  pub early : (w : Window) (words registers flags memory taint trace : List ℕ)
+      → let ran = hostRun w words registers flags memory taint trace in
+      Early (ran .reply .answer) → ran ≡ hosted (ran .reply) registers flags memory taint trace
+  -- demand 3 of two calls with slices of the same lengths
+  pub two-calls : (w : Window) (words registers flags memory taint trace others raised bytes marks trail : List ℕ) → Same (machineIn registers flags memory taint) (machineIn others raised bytes marks)
+      → ListN.length registers ≡ ListN.length others → ListN.length flags ≡ ListN.length raised → ListN.length trace ≡ ListN.length trail
+      → ShowsHosted (hostRun w words registers flags memory taint trace) (hostRun w words others raised bytes marks trail)
+  -- and its marks at the end
+  pub marks-at-end : (w : Window) (words registers flags memory taint trace : List ℕ)
+      → let ran = hostRun w words registers flags memory taint trace in
+      machineLeft ran .taints ≡ afterSteps (wordRule (w .origin)) words (ran .trace) (ran .reply .steps) (machineIn registers flags memory taint .taints)

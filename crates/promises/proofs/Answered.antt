@@ -1,0 +1,133 @@
+-- Every entry answers, with a number of 01's table. Assumes nothing.
+use Prim.Native.Nat.{ℕ, _*_}
+use mathlib.Core.Path.{_≡_, refl, sym, ap, _∙_}
+use mathlib.Core.Bool.{Bool, true, false, not}
+use mathlib.Core.List.{List, [], _∷_, _++_}
+use mathlib.Core.Logic.{inl, inr}
+use native.Mathlib.Omega.{arith}
+use lib.Dec.{ltb, eqb}
+use lib.ListN.{length, getD}
+use Rattle.bits.specs.Choice.{pick}
+use Rattle.instruction.specs.declared.answer.Encoded.{Encoded}
+use Rattle.instruction.specs.declared.family.Instruction.{Instruction}
+use Rattle.instruction.specs.Answers.{answerNumber}
+use Rattle.instruction.specs.Table.{inSet}
+use Rattle.instruction.specs.Undefined.{undefined}
+use Rattle.instruction.specs.Unpredictable.{unpredictable}
+use Rattle.instruction.specs.Encoding.{encodeOf}
+use Rattle.access.specs.declared.Access.{Access}
+use Rattle.access.specs.declared.Access.the-variants.{Nothing, Moves}
+use Rattle.plan.specs.declared.window.Window.{Window}
+use Rattle.plan.specs.Address.{addressOf}
+use Rattle.plan.specs.Admission.{totalOf, misaligned, outside, guarded}
+use Rattle.machine.specs.Rule.{wordAccess}
+use Rattle.machine.specs.Machine.{Machine, operandsOf}
+use Rattle.machine.specs.Step.{Outcome, bad, stepOf, performed}
+use Rattle.machine.specs.Tests.{accessTests, lowest}
+use Rattle.machine.proofs.Answers.{answers-exact, step-refuses}
+use Rattle.execution.specs.Walk.{runOf}
+use Rattle.execution.specs.Ends.{alone, Ends, lastOf}
+use Rattle.execution.specs.Run.{machineRun}
+use Rattle.execution.proofs.Walks.{run-ends}
+use Rattle.encoder.specs.Exact.{Exact}
+use Rattle.encoder.proofs.RoundTrip.{encode-exact}
+use Rattle.reader.specs.declared.Reading.{Reading}
+use Rattle.reader.specs.Reading.{ReadOf}
+use Rattle.reader.proofs.RoundTrip.{read-some, read-once}
+use Rattle.promises.specs.Answered.{oneOf, Answered, Is}
+
+pub by-definition : {R : Type 0} (x : R) {number : R → ℕ} {numbers : List ℕ} → oneOf numbers (number x) ≡ true → Answered (Is x) number numbers
+by-definition x {number} {numbers} h =
+    record { some = (x, refl); one = λ r s e g. e ∙ sym g; answer = λ r e. ap (λ y. oneOf numbers (number y)) e ∙ h }
+
+-- ---- numbers that the lowest of some tests can be
+
+pub lowest-of-2 : (a b : Bool) → oneOf (0 ∷ 2 ∷ 3 ∷ []) (lowest 2 (a ∷ b ∷ [])) ≡ true
+lowest-of-2 true b = refl
+lowest-of-2 false true = refl
+lowest-of-2 false false = refl
+
+pub lowest-of-3 : (a b c : Bool) → oneOf (0 ∷ 2 ∷ 3 ∷ 4 ∷ []) (lowest 2 (a ∷ b ∷ c ∷ [])) ≡ true
+lowest-of-3 true b c = refl
+lowest-of-3 false true c = refl
+lowest-of-3 false false true = refl
+lowest-of-3 false false false = refl
+
+pub first-of-3 : (a b c : Bool) → oneOf (0 ∷ 2 ∷ 3 ∷ 10 ∷ []) (pick a 2 (pick b 3 (pick c 10 0))) ≡ true
+first-of-3 true b c = refl
+first-of-3 false true c = refl
+first-of-3 false false true = refl
+first-of-3 false false false = refl
+
+pub ten-or-none : (a : Bool) → oneOf (0 ∷ 10 ∷ []) (pick a 10 0) ≡ true
+ten-or-none true = refl
+ten-or-none false = refl
+
+abbrev pub stepNumbers : List ℕ
+stepNumbers = 0 ∷ 1 ∷ 2 ∷ 3 ∷ 4 ∷ 5 ∷ 6 ∷ 7 ∷ 8 ∷ []
+
+lowest-of-4 : (a b c d : Bool) → oneOf stepNumbers (lowest 5 (a ∷ b ∷ c ∷ d ∷ [])) ≡ true
+lowest-of-4 true b c d = refl
+lowest-of-4 false true c d = refl
+lowest-of-4 false false true d = refl
+lowest-of-4 false false false true = refl
+lowest-of-4 false false false false = refl
+
+lowest-of-8 : (w : Window) (x : Access) (m : Machine) (a b c d : Bool) → oneOf stepNumbers (lowest 1 (a ∷ b ∷ c ∷ d ∷ accessTests w x m)) ≡ true
+lowest-of-8 w x m true b c d = refl
+lowest-of-8 w x m false true c d = refl
+lowest-of-8 w x m false false true d = refl
+lowest-of-8 w x m false false false true = refl
+lowest-of-8 w Nothing m false false false false = refl
+lowest-of-8 w (Moves t a) m false false false false =
+    let x = addressOf a (operandsOf a m) in
+    lowest-of-4 (operandsOf a m .tainted) (misaligned (t .ordered) (totalOf t) x) (outside (totalOf t) x (w .origin) (length (m .memory))) (guarded (t .store) x w)
+
+-- ---- steps and runs
+
+pub step-number : (w : Window) (word : ℕ) (m : Machine) → oneOf stepNumbers (answerNumber (performed m (stepOf w word m) .answer)) ≡ true
+step-number w word m = rw (answers-exact w word m) (lowest-of-8 w (wordAccess word) m (bad w m) (not (inSet word)) (undefined word) (unpredictable word))
+
+either-way : (z a b : Bool) → (a ≡ true → b ≡ true) → pick z true a ≡ true → pick z true b ≡ true
+either-way true a b h e = refl
+either-way false a b h e = h e
+
+with-more : (ks : List ℕ) (k n : ℕ) → oneOf ks n ≡ true → oneOf (ks ++ (k ∷ [])) n ≡ true
+with-more [] k n h = absurd (let z : _≡_ {A = ℕ} 0 1 = cc in omega arith)
+with-more (j ∷ ks) k n h = either-way (eqb n j) (oneOf ks n) (oneOf (ks ++ (k ∷ [])) n) (with-more ks k n) h
+
+abbrev pub runNumbers : List ℕ
+runNumbers = 0 ∷ 1 ∷ 2 ∷ 3 ∷ 4 ∷ 5 ∷ 6 ∷ 7 ∷ 8 ∷ 10 ∷ []
+
+module _ (w : Window) (words : List ℕ) (m : Machine) (trace : List ℕ) where
+  ended-number : (steps : ℕ) (o : Outcome Machine) → Ends (stepOf w) words m steps o → oneOf runNumbers (answerNumber (o .answer)) ≡ true
+  ended-number steps o (inl (l, d, h)) = rw d
+  ended-number steps o (inr (d, (l, h))) =
+      with-more stepNumbers 10 (answerNumber (o .answer)) (rw h at (step-number w (getD words steps 0) (alone (stepOf w) words m steps .machine)))
+
+  number-at : (y z : Bool) → bad w m ≡ y → ltb (length trace) (length words * 2) ≡ z → oneOf runNumbers (answerNumber (machineRun w words m trace .answer)) ≡ true
+  unfolding runOf
+  number-at true z e g = rw e
+  number-at false true e g = rw (e, g)
+  number-at false false e g =
+      let r = machineRun w words m trace in
+      ended-number (r .steps) (lastOf r) (run-ends (stepOf w) (step-refuses w) (bad w) words m trace e g)
+
+  pub run-number : oneOf runNumbers (answerNumber (machineRun w words m trace .answer)) ≡ true
+  run-number = number-at (bad w m) (ltb (length trace) (length words * 2)) refl refl
+
+-- ---- encoding and reading
+
+exact-number : (i : Instruction) (e : Encoded) → Exact i e → oneOf (0 ∷ 11 ∷ []) (answerNumber (e .answer)) ≡ true
+exact-number i e (inl (w, h, x)) = rw h
+exact-number i e (inr (h, n)) = rw h
+
+pub encode-number : (i : Instruction) → oneOf (0 ∷ 11 ∷ []) (answerNumber (encodeOf i .answer)) ≡ true
+encode-number i = exact-number i (encodeOf i) (encode-exact i)
+
+read-number : (t : List ℕ) (r : Reading) → ReadOf t r → oneOf (0 ∷ 9 ∷ []) (answerNumber (r .answer)) ≡ true
+read-number t r (inl (d, l)) = rw d
+read-number t r (inr (d, z, n)) = rw d
+
+pub read-answered : (t : List ℕ) → Answered (ReadOf t) (λ r. answerNumber (r .answer)) (0 ∷ 9 ∷ [])
+read-answered t = record { some = read-some t; one = read-once t; answer = read-number t }

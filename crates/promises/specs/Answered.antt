@@ -1,0 +1,21 @@
+-- What "get an answer" means: for every input there is exactly one result, and its answer is one of 01's table.
+use Prim.Native.Nat.{ℕ}
+use mathlib.Core.Path.{_≡_}
+use mathlib.Core.Bool.{Bool, true, false}
+use mathlib.Core.List.{List, [], _∷_}
+use lib.Dec.{eqb}
+use Rattle.bits.specs.Choice.{pick}
+
+abbrev pub oneOf : List ℕ → ℕ → Bool
+oneOf [] n = false
+oneOf (k ∷ ks) n = pick (eqb n k) true (oneOf ks n)
+
+-- `allows` is what is promised of a result, and `numbers` are the answers that can be given
+pub record Answered {R : Type 0} (allows : R → Type 0) (number : R → ℕ) (numbers : List ℕ) : Type 0 where
+  pub some : (r : R) × allows r
+  pub one : (r s : R) → allows r → allows s → r ≡ s
+  pub answer : (r : R) → allows r → oneOf numbers (number r) ≡ true
+
+-- a result that a definition gives
+abbrev pub Is : {R : Type 0} → R → R → Type 0
+Is x r = r ≡ x
