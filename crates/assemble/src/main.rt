@@ -3,6 +3,12 @@
 use libc::STDIN_FILENO;
 use libc::STDOUT_FILENO;
 use reader::Reading;
+ghost use mathlib.Core.Path.{_≡_};
+ghost use Prim.Native.Nat.{_≤_, _+_, _*_};
+ghost use lib.Dec.{eqb};
+ghost use lib.ListN.{length};
+ghost use Rattle.bits.specs.Choice.{pick};
+ghost use Rattle.assemble.specs.Lines.{newlines};
 
 // How far the input is read: whether to go on, and how many bytes of a line that is not yet ended are kept.
 struct Kept {
@@ -34,10 +40,12 @@ fn main() {
 }
 
 // Answers the lines that end in the next block. It stops after the last block, and after a write that failed.
-fn assemble_block(line: &mut [u8], count: usize) -> Kept {
+fn assemble_block(line: &mut [u8], count: usize) -> Kept
+    requires { ⌜ count ≤ length (now line) ⌝ }
+    ensures { λ r. ⌜ r .count ≤ length (now (line .exit)) ⌝ }
+{
     let mut block = io::buffer();
     let n = io::read_full(STDIN_FILENO, &mut block);
-    // A byte ends at most one line, and the answer to a line has 11 bytes.
     let mut output = io::large_buffer();
     let progress = assemble_bytes(&block[..n], line, count, &mut output);
     if !write_start(&output, progress.end) {
@@ -52,7 +60,11 @@ fn assemble_block(line: &mut [u8], count: usize) -> Kept {
     }
 }
 
-fn assemble_bytes(bytes: &[u8], line: &mut [u8], count: usize, output: &mut [u8]) -> Progress {
+// An answer has 11 bytes, and each line that ends here gets one: none is lost.
+fn assemble_bytes(bytes: &[u8], line: &mut [u8], count: usize, output: &mut [u8]) -> Progress
+    requires { ⌜ (count ≤ length (now line)) × (length (now bytes) * 11 ≤ length (now output)) ⌝ }
+    ensures { λ r. ⌜ (r .count ≤ length (now (line .exit))) × (r .end ≡ newlines (now (bytes .entry)) * 11) ⌝ }
+{
     let mut progress = Progress { count, end: 0 };
     let mut i = 0;
     while i < bytes.len() {
@@ -62,7 +74,10 @@ fn assemble_bytes(bytes: &[u8], line: &mut [u8], count: usize, output: &mut [u8]
     progress
 }
 
-fn take_byte(byte: u8, line: &mut [u8], progress: Progress, output: &mut [u8]) -> Progress {
+fn take_byte(byte: u8, line: &mut [u8], progress: Progress, output: &mut [u8]) -> Progress
+    requires { ⌜ (progress .count ≤ length (now line)) × (progress .end + 11 ≤ length (now output)) ⌝ }
+    ensures { λ r. ⌜ (r .count ≤ length (now (line .exit))) × (r .end ≡ progress .end + pick (eqb byte 10) 1 0 * 11) ⌝ }
+{
     let count = progress.count;
     let end = progress.end;
     if byte == b'\n' {
@@ -77,7 +92,9 @@ fn take_byte(byte: u8, line: &mut [u8], progress: Progress, output: &mut [u8]) -
 }
 
 // The last line may lack its newline.
-fn finish(line: &[u8], count: usize) {
+fn finish(line: &[u8], count: usize)
+    requires { ⌜ count ≤ length (now line) ⌝ }
+{
     if count > 0 {
         let mut output = [0u8; 16];
         let end = put_answer(&mut output, 0, line, count);
@@ -85,14 +102,18 @@ fn finish(line: &[u8], count: usize) {
     }
 }
 
-fn put_answer(output: &mut [u8], at: usize, line: &[u8], count: usize) -> usize {
-    if count <= line.len() {
-        return put_reading(output, at, reader::read(&line[0..count]));
-    }
-    at
+fn put_answer(output: &mut [u8], at: usize, line: &[u8], count: usize) -> usize
+    requires { ⌜ (count ≤ length (now line)) × (at + 11 ≤ length (now output)) ⌝ }
+    ensures { λ r. ⌜ r ≡ at + 11 ⌝ }
+{
+    put_reading(output, at, reader::read(&line[0..count]))
 }
 
-fn put_reading(output: &mut [u8], at: usize, reading: Reading) -> usize {
+// Eight digits, a tab, a digit and a newline.
+fn put_reading(output: &mut [u8], at: usize, reading: Reading) -> usize
+    requires { ⌜ at + 11 ≤ length (now output) ⌝ }
+    ensures { λ r. ⌜ r ≡ at + 11 ⌝ }
+{
     let answer = reading.answer;
     let number = instruction::answer_number(answer);
     let mut digits = [0u8; 16];

@@ -2,9 +2,14 @@
 // The listing is made by the crate listing; here bytes are only moved.
 use libc::STDIN_FILENO;
 use libc::STDOUT_FILENO;
-ghost use Prim.Native.Nat.{_<_, _≤_};
+use listing::Listed;
+ghost use mathlib.Core.Path.{_≡_};
+ghost use Prim.Native.Nat.{_<_, _≤_, _+_, _/_};
+ghost use lib.ListN.{length, take};
+ghost use Rattle.instruction.specs.Answers.{answerNumber};
+ghost use Rattle.listing.specs.Listing.{listingOf};
 
-// The bytes of a part: with the longest line for each of its words, its listing has room in the output.
+// The bytes of a part: 2,046 words, for which an output of 262,144 bytes has room, at 128 for a line.
 const PART: usize = 8184;
 
 // A proved loop has to end, and nothing says that the input does. So the loop counts its turns down, from a
@@ -19,7 +24,9 @@ fn main() {
 
 // Lists one block of the input, and says whether to go on: not after the last block, nor after a write that
 // failed. A block holds a whole number of words, so that none lies in two.
-fn list_block(output: &mut [u8]) -> bool {
+fn list_block(output: &mut [u8]) -> bool
+    requires { ⌜ length (now output) ≡ 262144 ⌝ }
+{
     let mut block = io::large_buffer();
     let n = io::read_full(STDIN_FILENO, &mut block);
     if !list_bytes(&block[..n], output) {
@@ -28,11 +35,17 @@ fn list_block(output: &mut [u8]) -> bool {
     n == 65536
 }
 
-fn list_bytes(bytes: &[u8], output: &mut [u8]) -> bool {
+fn list_bytes(bytes: &[u8], output: &mut [u8]) -> bool
+    requires { ⌜ length (now output) ≡ 262144 ⌝ }
+{
     let mut at = 0;
     while at < bytes.len() {
         let end = part_end(at, bytes.len());
-        let listed = listing::list(&bytes[at..end], output);
+        let listed = list_part(&bytes[at..end], output);
+        let answer = listed.answer;
+        if instruction::answer_number(answer) != 0 {
+            return false;
+        }
         if !write_start(output, listed.length) {
             return false;
         }
@@ -43,12 +56,20 @@ fn list_bytes(bytes: &[u8], output: &mut [u8]) -> bool {
 
 fn part_end(at: usize, len: usize) -> usize
     requires { ⌜ at < len ⌝ }
-    ensures { λ r. ⌜ (at < r) × (r ≤ len) ⌝ }
+    ensures { λ r. ⌜ (at < r) × (r ≤ len) × (r ≤ at + 8184) ⌝ }
 {
     if len - at < PART {
         return len;
     }
     at + PART
+}
+
+// The listing of a part is never refused, and is what the output begins with: no line is lost.
+fn list_part(part: &[u8], output: &mut [u8]) -> Listed
+    requires { ⌜ length (now part) / 4 < length (now output) / 128 ⌝ }
+    ensures { λ r. ⌜ (answerNumber (r .answer) ≡ 0) × (take (r .length) (now (output .exit)) ≡ listingOf (now (part .entry))) ⌝ }
+{
+    listing::list(part, output)
 }
 
 fn write_start(output: &[u8], end: usize) -> bool {

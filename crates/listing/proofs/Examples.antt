@@ -15,5 +15,5 @@ use Rattle.listing.specs.Listing.{hexDigit, hex4, hex8, contentText, ans
 use Rattle.listing.specs.Examples.{exampleBytes, exampleLines}
 
 pub listing-example : listingOf exampleBytes ≡ exampleLines
-unfolding listingOf lineText hexDigit hex4 hex8 contentText answerText shortText wordOf wordText textOf registerText baseText offsetTail postTail frontText sizedText dec signedDec instructionOf lineOf part signedOf sizedAt sizedIn signedIn classOf inSet allocated undefined undefinedSize undefinedPrefetch unpredictable baseIs
+unfolding lineText hexDigit hex4 hex8 contentText answerText shortText wordOf wordText textOf registerText baseText offsetTail postTail frontText sizedText dec signedDec instructionOf lineOf part signedOf sizedAt sizedIn signedIn classOf inSet allocated undefined undefinedSize undefinedPrefetch unpredictable baseIs
 listing-example = refl

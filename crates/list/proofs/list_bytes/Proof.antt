@@ -1,4 +1,5 @@
--- `list::list_bytes` is safe and ends. The measure is what is left of the bytes. Assumes nothing.
+-- `list::list_bytes` is safe, ends, and meets what `list_part` asks: a part has at most 8,184 bytes. The measure is what is
+-- left of the bytes. Assumes nothing.
 use Prim.Native.Nat.{_≤_, _-_}
 use mathlib.Core.Path.{_≡_}
 use lib.ListN.{length}
@@ -24,6 +25,9 @@ list-bytes-spec =
     (λ c. search needs)
     (λ c. search needs)
     (λ c κs. search needs)
+    (λ c κs. search needs)
+    (λ c. search needs)
+    (λ c. search needs)
     (λ c κs. search needs)
     (λ c. search needs)
     (λ c. search needs)
