@@ -105,7 +105,7 @@ class State:
 
 
 class Outcome(NamedTuple):
-    """What a run returns and leaves."""
+    """What a run, or a step by itself, returns and leaves."""
     steps: int
     answer: int
     code: int
@@ -307,6 +307,12 @@ class Model:
                 self.write_back(state, access, moved)
         state.pc = self.next_pc(state.pc)
         return 0, code, address
+
+    def single(self, word, given, room):
+        """A step by itself, beside a trace of so many numbers that it doesn't know of."""
+        state = given.copy()
+        answer, code, address = self.step(word, state)
+        return Outcome(int(answer == 0), answer, code, address, state, [UNTOUCHED] * room)
 
     def run(self, words, given, room):
         """A run over the words with a trace of so many numbers."""

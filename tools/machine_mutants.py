@@ -1,10 +1,11 @@
 """Wrong machines, each with one error that a program might have.
 
 The stored cases have to tell every one of them from the right machine. The first list has the errors that 01 warns of
-and those that must not be provable, the second has further slips, and the last has wrong runs.
+and those that must not be provable, the second has further slips, the third has those that only one value or one window
+shows, and the last two have wrong runs and wrong steps by themselves.
 """
 from machine_model import (
-    LAST, LITERAL, ORDERED, PAIR, PAIR_OFFSET, REGISTER, SIGNED_32, SIGNED_64, SPACE, UNTOUCHED, Model, Outcome)
+    LAST, LITERAL, ORDERED, PAIR, PAIR_OFFSET, REGISTER, SIGNED_32, SIGNED_64, SPACE, UNTOUCHED, ZEROS, Model, Outcome)
 
 
 class KeepsUpperHalf(Model):
@@ -737,8 +738,150 @@ class PcOfFirst(Model):
         self.first = given.pc
         return super().run(words, given, room)
 
+    def single(self, word, given, room):
+        self.first = given.pc
+        return super().single(word, given, room)
+
     def base_of(self, state, access):
         return self.first if access.base is None else super().base_of(state, access)
 
 
 RUNS = [CopiesFirstStep, GoesOn, AnswersLastDone, ForgetsAll, EmptyUntested, PcOfFirst]
+
+
+# Wrong steps, which a step by itself shows and a run doesn't.
+
+class ChangedStep(Model):
+    def single(self, word, given, room):
+        return self.changed(super().single(word, given, room), given, room)
+
+
+class TracesStep(ChangedStep):
+    """A step writes to the trace beside it."""
+
+    def changed(self, outcome, given, room):
+        trace = [outcome.code, outcome.address] + outcome.trace[2:]
+        return outcome._replace(trace=trace) if outcome.steps and room >= 2 else outcome
+
+
+class StepNeedsRoom(ChangedStep):
+    """A step is refused where its trace would have no room."""
+
+    def changed(self, outcome, given, room):
+        return without_room(given, room) if room < 2 else outcome
+
+
+class CountsRefusedStep(ChangedStep):
+    def changed(self, outcome, given, room):
+        return outcome._replace(steps=1)
+
+
+class StepLeavesPc(ChangedStep):
+    """A step leaves PC to its caller."""
+
+    def changed(self, outcome, given, room):
+        outcome.state.pc = given.pc
+        return outcome
+
+
+STEPS = [TracesStep, StepNeedsRoom, CountsRefusedStep, StepLeavesPc]
+
+
+# Right but at one value, or in one window.
+
+class SignedLoad(Model):
+    """The sign of a loaded value is taken from another number on, for one width of load and one kind."""
+    width, above, first = None, None, None
+
+    def extended(self, access, value, old):
+        if (access.width, access.above) != (self.width, self.above):
+            return super().extended(access, value, old)
+        bits = 8 * self.width
+        number = value - (1 << bits) if value >= self.first else value
+        return number % (SPACE if self.above == SIGNED_64 else 1 << 32)
+
+
+def signed_loads():
+    """Each width and kind with the sign one too early, and one too late."""
+    kinds = [(1, SIGNED_64, 'Byte64'), (1, SIGNED_32, 'Byte32'), (2, SIGNED_64, 'Half64'), (2, SIGNED_32, 'Half32'),
+             (4, SIGNED_64, 'Word64')]
+    for width, above, name in kinds:
+        for move, how in ((-1, 'Early'), (1, 'Late')):
+            fields = {'width': width, 'above': above, 'first': (1 << 8 * width - 1) + move}
+            yield type(name + 'Signed' + how, (SignedLoad,), fields)
+
+
+class UnsignedLoadSigned(Model):
+    """A load with zeros above is signed at its highest value bit."""
+
+    def extended(self, access, value, old):
+        kind = SIGNED_64 if access.above == ZEROS and access.width < 8 else access.above
+        return super().extended(access._replace(above=kind), value, old)
+
+
+class SignedIndex(Model):
+    """The sign of a 32-bit index is taken from another number on."""
+    first = None
+
+    def index_of(self, state, access):
+        if access.option != 0b110:
+            return super().index_of(state, access)
+        value = self.read_index(state, access)[0] % (1 << 32)
+        return (value - (1 << 32) if value >= self.first else value) << access.shift
+
+
+class IndexSignedEarly(SignedIndex):
+    first = (1 << 31) - 1
+
+
+class IndexSignedLate(SignedIndex):
+    first = (1 << 31) + 1
+
+
+class IndexCutWhereSigned(Model):
+    """A 32-bit index that is signed is cut to 32 bits again when it is shifted."""
+
+    def index_of(self, state, access):
+        index = super().index_of(state, access)
+        return index % (1 << 32) if access.option == 0b110 and access.shift else index
+
+
+class IndexShiftCut(Model):
+    """A 32-bit index loses what is shifted out of 32 bits."""
+
+    def index_of(self, state, access):
+        index = super().index_of(state, access)
+        return index % (1 << 32) if access.option == 0b010 else index
+
+
+class OneReadOnlyIsNone(Model):
+    """One read-only byte protects nothing."""
+
+    def is_read_only(self, state, access, address):
+        return state.readonly != 1 and super().is_read_only(state, access, address)
+
+
+class FirstAddressInside(Model):
+    """A window that begins at 1 is taken to begin at 0."""
+
+    def is_outside(self, state, access, address):
+        return (state.origin, address) != (1, 0) and super().is_outside(state, access, address)
+
+
+class LastAddressInside(Model):
+    """A window that ends one byte before 2^64 is taken to end there."""
+
+    def is_outside(self, state, access, address):
+        end = SPACE if state.end() == SPACE - 1 else state.end()
+        return not (state.origin <= address and address + self.span(access) <= end)
+
+
+class LastAddressOutside(Model):
+    """The last byte of the address space is never inside."""
+
+    def is_outside(self, state, access, address):
+        return address + self.span(access) == SPACE or super().is_outside(state, access, address)
+
+
+EDGES = [*signed_loads(), UnsignedLoadSigned, IndexSignedEarly, IndexSignedLate, IndexCutWhereSigned, IndexShiftCut,
+         OneReadOnlyIsNone, FirstAddressInside, LastAddressInside, LastAddressOutside]

@@ -115,17 +115,15 @@ def words_in_window(words, state):
     return False
 
 
-def compare(model, case):
-    """How many steps of a case Unicorn confirms, how many of them prefetches, and why none are, if so."""
-    if not model.run(case.words, case.state, case.room).steps:
+def compare(model, case, steps):
+    """How many of the steps done in a case Unicorn confirms, how many are prefetches, and why none are, if so."""
+    if not steps:
         return 0, 0, NO_STEP
     if words_in_window(case.words, case.state):
         return 0, 0, CODE_IN_WINDOW
     state, emulated, confirmed, prefetches = case.state.copy(), Emulated(case.words, case.state), 0, 0
-    for word in case.words:
-        answer, code, address = model.step(word, state)
-        if answer != 0:
-            break
+    for word in case.words[:steps]:
+        _, code, address = model.step(word, state)
         difference = emulated.difference(state, code, address) if emulated.step() else 'refused'
         if difference:
             raise SystemExit('no rule for %08x in %s: Unicorn has %s' % (word, case.group, difference))

@@ -2,7 +2,7 @@
 """Writes crates/replay/stdin and crates/replay/stdout: machines and words, and what must become of them.
 
     apt-get install python3-unicorn
-    python3 tools/replay_cases.py                   cases of one word, and runs of many behind them
+    python3 tools/replay_cases.py                   steps, and runs of many words behind them
     python3 tools/replay_cases.py --endings DIR     writes small inputs that end in each way, and what must come
     python3 tools/replay_cases.py --self-check      counts the cases that tell each wrong machine from the right one
 
@@ -14,7 +14,7 @@ crates/list/stdout, which LLVM and binutils have made. The other answers, window
 alone. None of it comes from this project's code.
 
 replay_format.py has the format. The stored input ends inside a case, and the option --endings makes the other endings.
-Made with unicorn 2.0.1 from Debian 12, in some ten seconds. The output is the same each time.
+Made with unicorn 2.0.1 from Debian 12, in some fifteen seconds. The output is the same each time.
 """
 import argparse
 import collections
@@ -22,13 +22,14 @@ import os
 import random
 
 from machine_model import FAMILIES, Model, fields_of
-from machine_mutants import RUNS, SAME, SLIPS, WARNED
-from replay_format import bad_ending, case_bytes, case_lines, write_endings
+from machine_mutants import EDGES, RUNS, SAME, SLIPS, STEPS, WARNED
+from replay_edges import all_edges
+from replay_format import bad_ending, case_bytes, case_lines, outcome_of, write_endings
 from replay_runs import all_runs, largest_case
 from replay_states import access_of, is_unpredictable, registers_of
-from replay_steps import all_steps, flaws_of
+from replay_steps import all_steps, both_ways, flaws_of
 
-STEPS_SEED, RUNS_SEED = 3, 4
+STEPS_SEED, RUNS_SEED, EDGES_SEED = 3, 4, 5
 MODEL = Model()
 
 
@@ -40,10 +41,6 @@ def show(title, counts):
     print(title)
     for name, count in sorted(counts.items(), key=lambda item: str(item[0]).rjust(2)):
         print('%7d  %s' % (count, name))
-
-
-def outcome_of(model, case):
-    return model.run(case.words, case.state, case.room)
 
 
 def write(cases, outcomes):
@@ -70,7 +67,7 @@ def confirm(cases, outcomes):
     from machine_unicorn import compare, reaches, refuses_undefined
     counts, skipped, refusals = collections.Counter(), collections.Counter(), collections.Counter()
     for case, outcome in zip(cases, outcomes):
-        confirmed, prefetches, why = compare(MODEL, case)
+        confirmed, prefetches, why = compare(MODEL, case, outcome.steps)
         counts['loads and stores'] += confirmed - prefetches
         counts['prefetches'] += prefetches
         if why:
@@ -149,7 +146,7 @@ def differing(mutant, cases, right):
 
 def self_check(cases, outcomes):
     right = [comparable(outcome) for outcome in outcomes]
-    lists = [('warned of', WARNED), ('further', SLIPS)] + [('runs', RUNS)]
+    lists = [('warned of', WARNED), ('further', SLIPS), ('edges', EDGES), ('runs', RUNS), ('steps', STEPS)]
     unseen = []
     for title, mutants in lists:
         print(title)
@@ -169,7 +166,7 @@ def main():
     parser.add_argument('--endings', metavar='DIR')
     parser.add_argument('--self-check', action='store_true')
     options = parser.parse_args()
-    cases = all_steps(random.Random(STEPS_SEED))
+    cases = both_ways(all_steps(random.Random(STEPS_SEED)) + all_edges(random.Random(EDGES_SEED)))
     if options.endings:
         return write_endings(options.endings, MODEL, cases[0], largest_case(random.Random(RUNS_SEED)))
     cases += all_runs(random.Random(RUNS_SEED))
@@ -183,7 +180,8 @@ def main():
     show('cases by group', collections.Counter(case.group for case in cases))
     show_flaws(cases)
     show_coverage(cases, outcomes)
-    print('%d cases, %d steps done' % (len(cases), sum(outcome.steps for outcome in outcomes)))
+    print('%d cases, %d of them steps by themselves, %d steps done' % (
+        len(cases), sum(case.single for case in cases), sum(outcome.steps for outcome in outcomes)))
 
 
 if __name__ == '__main__':

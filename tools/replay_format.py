@@ -1,8 +1,9 @@
 """The input and output of the program `replay`: cases as bytes, and what must come as lines.
 
-A case, numbers little-endian: seven 64-bit numbers, which are W words, L bytes of memory, K bytes of taint, T numbers
-of trace, origin, r and PC; 32 64-bit numbers, X0 to X30 and SP; 32 bytes, their taints, where nonzero is tainted; W
-words of 4 bytes; L bytes; K bytes. The trace starts with 2^64 - 1 in every place.
+A case, numbers little-endian: eight 64-bit numbers, which are W words, L bytes of memory, K bytes of taint, T numbers
+of trace, origin, r, PC, and 0 for a run of the words or 1 for one step of the first of them; 32 64-bit numbers, X0 to
+X30 and SP; 32 bytes, their taints, where nonzero is tainted; W words of 4 bytes; L bytes; K bytes. The trace starts
+with 2^64 - 1 in every place, and a step leaves it so. A step that is done counts as 1.
 
 The lines of a case, fields parted by tabs:
 
@@ -15,8 +16,8 @@ The lines of a case, fields parted by tabs:
 No memory or taint gives an empty field after its tab, and no trace gives `trace` alone, since it has no fields.
 
 A case over the limits gives the one line `case`, number, `too large`, and input that ends inside a case the one line
-`case`, number, `cut short`; nothing comes after either. The limits are looked at once the seven numbers are there, so
-a case over them needs no more, and fewer than seven numbers are cut short whatever they are.
+`case`, number, `cut short`; nothing comes after either. The limits are looked at once the eight numbers are there, so
+a case over them needs no more, and fewer than eight numbers are cut short whatever they are.
 """
 import os
 import struct
@@ -34,17 +35,26 @@ class Case(NamedTuple):
     words: tuple
     state: State
     room: int = 2
+    # One step of the first word, and not a run.
+    single: bool = False
 
 
-def header(words, memory, taint, room, origin=0, readonly=0, pc=0):
-    return struct.pack('<7Q', words, memory, taint, room, origin, readonly, pc)
+def outcome_of(model, case):
+    if case.single:
+        return model.single(case.words[0], case.state, case.room)
+    return model.run(case.words, case.state, case.room)
+
+
+def header(words, memory, taint, room, origin=0, readonly=0, pc=0, single=False):
+    return struct.pack('<8Q', words, memory, taint, room, origin, readonly, pc, single)
 
 
 def case_bytes(number, case):
     """The number only chooses what a tainted register's byte is: any value but 0 will do."""
     state = case.state
     return b''.join((
-        header(len(case.words), len(state.memory), len(state.taint), case.room, state.origin, state.readonly, state.pc),
+        header(len(case.words), len(state.memory), len(state.taint), case.room, state.origin, state.readonly, state.pc,
+               case.single),
         struct.pack('<32Q', *state.registers),
         bytes(TAINTED[(number + i) % 4] if tainted else 0 for i, tainted in enumerate(state.tainted)),
         struct.pack('<%dI' % len(case.words), *case.words), state.memory, state.taint))
@@ -66,12 +76,12 @@ def bad_ending(number, why):
 
 def endings(model, case, largest):
     """Inputs that end in each way, by name, with what must come: a good case, the ending, and bytes after it."""
-    whole, lines = case_bytes(0, case), case_lines(0, model.run(case.words, case.state, case.room))
-    cut = [('cut-after-%d-bytes' % length, whole[:length]) for length in (1, 8, 55, 56, 57, 311, 343, 346, 350)]
+    whole, lines = case_bytes(0, case), case_lines(0, outcome_of(model, case))
+    cut = [('cut-after-%d-bytes' % length, whole[:length]) for length in (1, 8, 63, 64, 65, 319, 351, 354, 358)]
     cut.append(('cut-by-the-last-byte', whole[:-1]))
     yield 'nothing', b'', ''
     yield 'one-case', whole, lines
-    yield 'at-the-limits', case_bytes(0, largest), case_lines(0, model.run(largest.words, largest.state, largest.room))
+    yield 'at-the-limits', case_bytes(0, largest), case_lines(0, outcome_of(model, largest))
     for name, ending in cut:
         yield name, whole + ending, lines + bad_ending(1, 'cut short')
         yield name + '-first', ending, bad_ending(0, 'cut short')
@@ -81,7 +91,7 @@ def endings(model, case, largest):
         # The rest of the case needn't be there, and if there is more, it isn't read.
         yield 'too-many-%s' % name, whole + header(*over) + whole, lines + bad_ending(1, 'too large')
         yield 'far-too-many-%s' % name, whole + header(*far), lines + bad_ending(1, 'too large')
-        yield 'cut-before-the-limits-%s' % name, header(*far)[:55], bad_ending(0, 'cut short')
+        yield 'cut-before-the-limits-%s' % name, header(*far)[:63], bad_ending(0, 'cut short')
 
 
 def write_endings(directory, model, case, largest):

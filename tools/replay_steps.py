@@ -15,6 +15,8 @@ from replay_states import (
 
 # Done cases for each choice of an instruction. The runs add more of each, so that every register stands in every place.
 EACH = {LITERAL: 20, PAIR: 17, REGISTER: 10, **{family: 16 for family in SIZED}}
+# One in so many is done as a run of one word too, and one in so many steps stands beside a trace.
+ALSO_RUN, BESIDE_TRACE = 5, 16
 
 
 def step(group, word, state, room=2):
@@ -22,6 +24,8 @@ def step(group, word, state, room=2):
 
 
 # 01's examples, with the values that it gives.
+EXAMPLES = 'examples of 01'
+
 
 def example_state(origin=4096, length=16, readonly=4, x1=4101, sp=0, bytes_at={4100: 128}):
     memory = bytearray(length)
@@ -67,7 +71,7 @@ def examples():
         (0xa9bf7bfd, dict(readonly=0, sp=4112), (0, 80, 4096), {31: 4096}),
     ]
     for word, changed, expected, registers in plain:
-        yield step('examples of 01', word, example_state(**changed)), expected, registers
+        yield step(EXAMPLES, word, example_state(**changed)), expected, registers
 
 
 def example_cases():
@@ -434,7 +438,7 @@ def flaws_of(case):
         first = max(address, state.origin)
         if access.store and first < min(address + access.length(), state.origin + state.readonly):
             flaws.append(8)
-    return flaws + [10] * (case.room < 2)
+    return flaws + [10] * (case.room < 2 and not case.single)
 
 
 def flawed_word(rng, flaws):
@@ -488,6 +492,17 @@ def random_cases(rng):
         for number in rng.sample(range(32), 20):
             state.registers[number] = (state.origin + rng.randrange(-2, 10)) % SPACE
         yield step('any word and state', word, state)
+
+
+def both_ways(cases):
+    """Each case as a step by itself, and some as a run too. What a trace of another length does, only a run shows."""
+    both = []
+    for i, case in enumerate(cases):
+        if case.room == 2:
+            both.append(case._replace(single=True, room=0 if i % BESIDE_TRACE else 2))
+        if case.room != 2 or case.group == EXAMPLES or i % ALSO_RUN == 0:
+            both.append(case)
+    return both
 
 
 def all_steps(rng):

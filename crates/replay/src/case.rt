@@ -1,8 +1,9 @@
-// A case of the input, little-endian: seven numbers, the 32 registers and a byte of taint for each, the words,
+// A case of the input, little-endian: eight numbers, the 32 registers and a byte of taint for each, the words,
 // memory, and its taint bytes. It is read piece by piece into buffers that its sizes are tested against.
 use crate::input;
 use crate::show;
 use execution::Ran;
+use instruction::Answer;
 use machine::State;
 use machine::Window;
 ghost use Prim.Native.Nat.{_≤_};
@@ -15,7 +16,8 @@ const MOST_BYTES: usize = 4096;
 
 const MOST_TRACE: usize = 1024;
 
-// The seven numbers that a case starts with: four sizes, the window without its length, and the program counter.
+// The eight numbers that a case starts with: four sizes, the window without its length, the program counter, and
+// whether the case is one step of its first word: 0 is a run of all words.
 struct Head {
     words: usize,
     memory: usize,
@@ -24,17 +26,18 @@ struct Head {
     origin: u64,
     readonly: u64,
     pc: u64,
+    single: u64,
 }
 
 // Replays the next case of the input, and says whether to go on: not where the input ends, nor after a case
 // that is cut short or too large, nor after a write that failed.
 pub fn replay(number: u64, output: &mut [u8]) -> bool {
-    let mut bytes = [0u8; 56];
+    let mut bytes = [0u8; 64];
     let n = input::read(&mut bytes);
     if n == 0 {
         return false;
     }
-    if n < 56 {
+    if n < 64 {
         show::refusal(output, number, b"cut short");
         return false;
     }
@@ -59,6 +62,7 @@ fn head_of(bytes: &[u8]) -> Head {
         origin: input::number(bytes, 32),
         readonly: input::number(bytes, 40),
         pc: input::number(bytes, 48),
+        single: input::number(bytes, 56),
     }
 }
 
@@ -102,7 +106,7 @@ fn replay_in(
         show::refusal(output, number, b"cut short");
         return false;
     }
-    let ran = run_words(head, start, memory, taint, trace);
+    let ran = replay_words(head, start, memory, taint, trace);
     show::case(output, number, ran, memory, taint, trace)
 }
 
@@ -117,7 +121,7 @@ fn read_rest(start: &mut [u8], memory: &mut [u8], taint: &mut [u8]) -> bool {
     input::fill(taint)
 }
 
-fn run_words(
+fn replay_words(
     head: Head,
     start: &[u8],
     memory: &mut [u8],
@@ -127,15 +131,39 @@ fn run_words(
     requires { ⌜ head .words ≤ 512 ⌝ }
 {
     let count = head.words;
-    let words = input::words(start, count);
-    let registers = input::registers(start);
     let state = State {
-        registers,
+        registers: input::registers(start),
         pc: head.pc,
     };
     let window = Window {
         origin: head.origin,
         readonly: head.readonly,
     };
+    let words = input::words(start, count);
+    if head.single != 0 {
+        return step_word(words[0], state, window, memory, taint);
+    }
     execution::run(&words[0..count], state, window, memory, taint, trace)
+}
+
+// One step, told as a run of one word would be. It has no trace to write to. Where a case has no words, its first
+// is 0.
+fn step_word(word: u32, state: State, window: Window, memory: &mut [u8], taint: &mut [u8]) -> Ran {
+    let stepped = machine::step(word, state, window, memory, taint);
+    let after = stepped.state;
+    let answer = stepped.answer;
+    Ran {
+        state: after,
+        steps: steps_done(answer),
+        answer,
+        code: stepped.code,
+        address: stepped.address,
+    }
+}
+
+fn steps_done(answer: Answer) -> usize {
+    if instruction::answer_number(answer) == 0 {
+        return 1;
+    }
+    0
 }
