@@ -1,6 +1,7 @@
 //! 01's own examples, and the package's types, by their safe names.
 
 use milestarling::{listing, Access, Answer, Instruction, Machine, Refusal, Register, Registers, Window};
+use std::array::from_fn;
 use std::error::Error;
 
 #[test]
@@ -34,9 +35,9 @@ fn example_of_a_listing() {
     assert_eq!(listing(&[]), "");
 }
 
-/// Origin 4096, len 16, r 4, X1 = 4101, byte 128 at 4100.
+/// Origin 4096, len 16, r 4, X1 = 4101, byte 128 at 4100, and other bytes elsewhere.
 fn example() -> Machine<Vec<u8>, Vec<u8>> {
-    let mut machine = Machine::new(Window::at(4096).readonly(4), vec![0; 16], vec![0; 16]);
+    let mut machine = Machine::new(Window::at(4096).readonly(4), (1..=16).collect(), vec![0; 16]);
     machine.memory_mut()[4] = 128;
     machine.registers[Register::X1] = 4101;
     machine
@@ -67,33 +68,37 @@ fn examples_of_refusals() {
     assert!(at(store, 4100).is_ok());
     assert_eq!(at(0xa940_0020, 4096), Err(Answer::Unpredictable));
 
-    let mut machine = Machine::new(Window::at(16u64.wrapping_neg()), vec![0; 16], vec![0; 16]);
+    let mut machine = Machine::new(Window::at(16u64.wrapping_neg()), (1..=16).collect::<Vec<u8>>(), vec![0; 16]);
     // ldurb, ldurh and ldapurh w0, [x1, #-1], with 0 in x1
     assert_eq!(machine.step(0x385f_f020), Ok(Access { code: 1, address: u64::MAX }));
+    assert_eq!(machine.registers[Register::X0], 16);
     assert_eq!(machine.step(0x785f_f020).unwrap_err().answer(), Answer::OutOfWindow);
     assert_eq!(machine.step(0x595f_f020).unwrap_err().answer(), Answer::Misaligned);
 }
 
 #[test]
 fn lent_memory_is_changed_in_place() {
-    let (mut memory, mut taint) = ([0; 16], [7; 16]);
+    let (mut memory, mut taint): ([u8; 16], [u8; 16]) = (from_fn(|at| 50 + at as u8), from_fn(|at| 7 + at as u8));
+    let (mut left, mut left_taint) = (memory, taint);
     let mut machine = Machine::new(Window::at(0), &mut memory[..], &mut taint[..]);
     machine.registers[Register::X0] = 0x0102;
     assert_eq!(machine.step(0x7900_0020), Ok(Access { code: 66, address: 0 })); // strh w0, [x1]
     let (registers, ..) = machine.into_parts();
-    assert_eq!((registers.pc(), &memory[..3], &taint[..3]), (4, &[2, 1, 0][..], &[0, 0, 7][..]));
+    left[..2].copy_from_slice(&[2, 1]);
+    left_taint[..2].fill(0);
+    assert_eq!((registers.pc(), memory, taint), (4, left, left_taint));
 }
 
 #[test]
 fn a_run_keeps_what_was_done_before_a_refusal() {
     let mut machine = example();
     let words = [0x385f_f020, 0x3800_1420, 0x0000_0000, 0x385f_f020]; // ldurb, strb w0, [x1], #1, not of the set
-    let rest = Access { code: 99, address: 99 };
-    let mut trace = [rest; 5];
+    let rest: [Access; 5] = from_fn(|at| Access { code: 90 + at as u64, address: 99 - at as u64 });
+    let mut trace = rest;
     let refusal = machine.run(&words, &mut trace).unwrap_err();
     assert_eq!((refusal.answer(), refusal.steps(), refusal.address()), (Answer::NotInSet, 2, None));
     assert_eq!(trace[..2], [Access { code: 1, address: 4100 }, Access { code: 65, address: 4101 }]);
-    assert_eq!(trace[2..], [rest; 3]);
+    assert_eq!(trace[2..], rest[2..]);
     assert_eq!((machine.registers[Register::X1], machine.registers.pc()), (4102, 8));
     assert_eq!(refusal.to_string(), "refused (2): the word is no load or store that this machine takes, after 2 steps");
 }

@@ -5,7 +5,7 @@ mod support;
 
 use milestarling::{list, listing, raw};
 use reference::{DONE, NO_ROOM};
-use support::{any_word, Random};
+use support::{any_word, distinct, Random};
 
 fn image(random: &mut Random, length: usize) -> Vec<u8> {
     let mut bytes = Vec::with_capacity(length + 4);
@@ -18,12 +18,14 @@ fn image(random: &mut Random, length: usize) -> Vec<u8> {
 
 /// Compares the listing of bytes in an output of this length, and returns the answer.
 fn compare(bytes: &[u8], room: usize) -> u8 {
-    let mut ours = vec![0xa5; room];
+    let mut ours = distinct(room);
     let mut theirs = ours.clone();
     let reply = raw::list(bytes, &mut ours);
     let (answer, length) = reference::listing::list(bytes, &mut theirs);
-    assert_eq!((reply.answer, reply.length), (answer as u64, length as u64), "{bytes:02x?}, {room}");
-    assert_eq!(ours, theirs, "{bytes:02x?}, {room}");
+    let shown = &bytes[..bytes.len().min(40)];
+    assert_eq!((reply.answer, reply.length), (answer as u64, length as u64), "{shown:02x?}.., {room}");
+    let differs = ours.iter().zip(&theirs).position(|(our, their)| our != their);
+    assert_eq!(differs, None, "the first byte that differs, {shown:02x?}.., {room}");
     answer
 }
 

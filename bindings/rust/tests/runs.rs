@@ -7,7 +7,7 @@ use milestarling::raw;
 use reference::decoding::{decode, Family, Instruction, Operation};
 use reference::running::{self, Outcome, State, Window};
 use reference::*;
-use support::{any_word, word_of_line, Random};
+use support::{about_power, about_powers, any_word, distinct, word_of_line, Random};
 
 /// What lies before and behind a buffer that was lent, and in a trace that wasn't written.
 const GUARD: usize = 24;
@@ -96,11 +96,13 @@ impl Case {
 
 /// A number that is often at an end of its range.
 fn number(random: &mut Random) -> u64 {
-    match random.below(6) {
+    match random.below(8) {
         0 => random.below(300) as u64,
         1 => (random.below(300) as u64).wrapping_neg(),
-        2 => 1 << random.below(64),
-        3 => (random.word() as i32) as u64,
+        2 | 3 => about_power(random),
+        // In the low half, which is all that some indexes and stores take.
+        4 => random.next() << 32 | about_power(random) & 0xffff_ffff,
+        5 => (random.word() as i32) as u64,
         _ => random.next(),
     }
 }
@@ -136,6 +138,11 @@ fn taints(random: &mut Random, bytes: &mut [u8]) {
 fn guarded(random: &mut Random, len: usize) -> Vec<u8> {
     let mut bytes = vec![0; len + 2 * GUARD];
     random.fill(&mut bytes);
+    for part in bytes.chunks_exact_mut(8) {
+        if random.once_in(4) {
+            part.copy_from_slice(&about_power(random).to_le_bytes());
+        }
+    }
     bytes
 }
 
@@ -190,6 +197,16 @@ fn blank(random: &mut Random, len: usize, words: usize) -> Case {
     case
 }
 
+/// What an index register's value adds to the base.
+fn index_taken(instruction: &Instruction, index: u64) -> u64 {
+    let taken = match instruction.option {
+        0b010 => index & 0xffff_ffff,
+        0b110 => index as u32 as i32 as i64 as u64,
+        _ => index,
+    };
+    taken << if instruction.shifted { instruction.size } else { 0 }
+}
+
 /// Sets the registers that a step takes its address from so that the access is about a place in the window.
 fn aim(random: &mut Random, case: &mut Case, instruction: &Instruction) {
     let len = case.len();
@@ -218,14 +235,8 @@ fn aim(random: &mut Random, case: &mut Case, instruction: &Instruction) {
                     case.registers[rm as usize]
                 }
             };
-            let taken = match instruction.option {
-                0b010 => index & 0xffff_ffff,
-                0b110 => index as u32 as i32 as i64 as u64,
-                _ => index,
-            };
-            let shift = if instruction.shifted { instruction.size } else { 0 };
             if instruction.rn != instruction.rm || instruction.rn == 31 {
-                case.registers[instruction.rn as usize] = target.wrapping_sub(taken << shift);
+                case.registers[instruction.rn as usize] = target.wrapping_sub(index_taken(instruction, index));
             }
         }
         _ if instruction.is_post() => case.registers[instruction.rn as usize] = target,
@@ -361,16 +372,21 @@ fn long_runs() {
     assert!(steps > 500_000 && longest > 1000, "{steps} steps, the longest run {longest}");
 }
 
+/// One word of each operation and width that moves x2, and x3 where it is a pair, with x1 as base and offset 0: ordered
+/// ones, pairs, singles.
+fn plain_words() -> Vec<u32> {
+    (0..4u32)
+        .flat_map(|size| (0..4u32).map(move |opc| size << 30 | opc << 22 | 1 << 5 | 2))
+        .flat_map(|top| [top | 0x1900_0000, top | 0x3900_0000, top | 0x2900_0000 | 3 << 10])
+        .filter(|&word| decode(word).is_ok_and(|it| it.operation != Operation::Prefetch))
+        .collect()
+}
+
 /// The two ends of an address, a pair and a taint in every place of a small window.
 #[test]
 fn every_place_of_a_small_window() {
     let mut random = Random::new(14);
-    // One word of each operation and width, with x1 as base and offset 0: ordered ones, pairs, singles.
-    let words: Vec<u32> = (0..4u32)
-        .flat_map(|size| (0..4u32).map(move |opc| size << 30 | opc << 22 | 1 << 5 | 2))
-        .flat_map(|top| [top | 0x1900_0000, top | 0x3900_0000, top | 0x2900_0c00 | 3 << 10])
-        .filter(|&word| decode(word).is_ok_and(|it| it.operation != Operation::Prefetch))
-        .collect();
+    let words = plain_words();
     let mut compared = 0;
     for origin in [0, 4096, 4101, 32u64.wrapping_neg()] {
         for readonly in [0, 1, 7, 16, 32] {
@@ -378,8 +394,13 @@ fn every_place_of_a_small_window() {
                 for place in -20i64..40 {
                     let mut case = blank(&mut random, 32, 1);
                     case.window = Window { origin, readonly };
+                    case.memory = distinct(32 + 2 * GUARD);
+                    // One byte alone is tainted, or each in a way of its own.
                     case.taint = vec![0; 32 + 2 * GUARD];
                     case.taint[GUARD + random.below(32)] = 1;
+                    if random.once_in(2) {
+                        case.taint = distinct(32 + 2 * GUARD);
+                    }
                     case.register_taints[1] = 0;
                     case.registers[1] = origin.wrapping_add(place as u64);
                     case.registers[32] &= !3;
@@ -393,24 +414,85 @@ fn every_place_of_a_small_window() {
     println!("{compared} steps");
 }
 
+/// A case of one word whose access is done: x1 is its base, and x4 its index if it has one.
+fn plain_case(random: &mut Random, word: u32) -> Case {
+    let mut case = blank(random, 48, 1);
+    case.window = Window { origin: 4096, readonly: 0 };
+    case.memory = distinct(48 + 2 * GUARD);
+    case.taint = vec![0; 48 + 2 * GUARD];
+    taints(random, &mut case.taint);
+    case.trace = (0..2 + 2 * GUARD).map(|_| random.next()).collect();
+    case.registers[1] = 4096 + 16;
+    case.registers[32] &= !3;
+    case.register_taints[1] = 0;
+    case.register_taints[4] = 0;
+    case.words.push(word);
+    case
+}
+
+/// Each load and store of each value that is next to a power of two, the signs of every width among them.
+#[test]
+fn values_about_powers() {
+    let mut random = Random::new(15);
+    let values: Vec<u64> = about_powers().collect();
+    for word in plain_words() {
+        let width = 1 << decode(word).unwrap().size;
+        for (at, &value) in values.iter().enumerate() {
+            let mut case = plain_case(&mut random, word);
+            let second = values[(at + 1) % values.len()];
+            (case.registers[2], case.registers[3]) = (value, second);
+            let memory = &mut inner(&mut case.memory)[16..];
+            memory[..width].copy_from_slice(&value.to_le_bytes()[..width]);
+            memory[width..2 * width].copy_from_slice(&second.to_le_bytes()[..width]);
+            assert_eq!(case.compare().answer, DONE);
+        }
+    }
+}
+
+/// Each load and store by each index that is next to a power of two, with every option and S, also where only the low
+/// half of the index is such a number.
+#[test]
+fn indexes_about_powers() {
+    let mut random = Random::new(16);
+    let tops = (0..4u32).flat_map(|size| (0..4u32).map(move |opc| size << 30 | opc << 22));
+    let words = tops.flat_map(|top| (0..16u32).map(move |index| top | 0x3824_0822 | index << 12));
+    for word in words {
+        let Ok(instruction) = decode(word) else { continue };
+        if instruction.operation == Operation::Prefetch {
+            continue;
+        }
+        for value in about_powers() {
+            for index in [value, random.next() << 32 | value & 0xffff_ffff] {
+                let mut case = plain_case(&mut random, word);
+                case.registers[4] = index;
+                case.registers[1] = (4096u64 + 16).wrapping_sub(index_taken(&instruction, index));
+                assert_eq!(case.compare().answer, DONE);
+            }
+        }
+    }
+}
+
 /// Slices too short for the registers, which only a caller of `raw` can lend.
 #[test]
 fn short_registers() {
     let words = [0xf940_0420];
+    let numbers = |length| (0..length as u64).map(|at| 4 + 8 * at).collect::<Vec<u64>>();
     for (values, taints) in [(32, 32), (33, 31), (0, 0), (33, 0), (0, 32)] {
-        let (mut registers, mut register_taints) = (vec![4; values], vec![1; taints]);
-        let (mut memory, mut taint, mut trace) = ([1; 16], [0; 16], [7; 2]);
+        let (mut registers, mut register_taints) = (numbers(values), distinct(taints));
+        let (mut memory, mut taint, mut trace) = (distinct(16), distinct(16), numbers(2));
         let reply = raw::run(&words, &mut registers, &mut register_taints, 0, 0, &mut memory, &mut taint, &mut trace);
         assert_eq!((reply.steps, reply.answer, reply.code, reply.address), (0, 10, 0, 0));
-        assert!(registers.iter().all(|&value| value == 4) && register_taints.iter().all(|&byte| byte == 1));
-        assert_eq!((memory, taint, trace), ([1; 16], [0; 16], [7; 2]));
+        assert_eq!((registers, register_taints), (numbers(values), distinct(taints)));
+        assert_eq!((memory, taint, trace), (distinct(16), distinct(16), numbers(2)));
     }
     // Longer ones keep their rest.
-    let (mut registers, mut register_taints) = ([0; 40], [0; 40]);
-    registers[33..].fill(9);
-    register_taints[32..].fill(9);
-    let (mut memory, mut taint, mut trace) = ([1; 16], [0; 16], [7; 2]);
+    let (mut registers, mut register_taints) = (numbers(40), distinct(40));
+    registers[1] = 0;
+    register_taints[1] = 0;
+    let (mut memory, mut taint, mut trace) = (distinct(16), vec![0; 16], numbers(2));
     let reply = raw::run(&words, &mut registers, &mut register_taints, 0, 0, &mut memory, &mut taint, &mut trace);
     assert_eq!((reply.steps, reply.answer, reply.code, reply.address), (1, 0, 8, 8));
-    assert_eq!((&registers[33..], &register_taints[32..]), (&[9; 7][..], &[9; 8][..]));
+    assert_eq!((registers[0], registers[2], registers[32]), (0x0f0e_0d0c_0b0a_0908, 20, 4 + 8 * 32 + 4));
+    assert_eq!((&registers[33..], &register_taints[32..]), (&numbers(40)[33..], &distinct(40)[32..]));
+    assert_eq!((memory, taint, trace), (distinct(16), vec![0; 16], vec![8, 8]));
 }

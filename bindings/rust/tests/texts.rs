@@ -7,12 +7,20 @@ use milestarling::raw;
 use reference::{reading, writing, DONE, NOT_IN_SET, NO_ROOM, NO_SUCH_TEXT, UNDEFINED};
 use support::{allocated_word, any_word, Random};
 
-/// What a buffer holds that nothing was written to.
-const FILLING: u8 = 0xa5;
+/// What a buffer holds that nothing was written to: bytes that differ from each other, and that no line has.
+const FILLING: [u8; 64] = {
+    let mut bytes = [0; 64];
+    let mut at = 0;
+    while at < 64 {
+        bytes[at] = 0x80 + at as u8;
+        at += 1;
+    }
+    bytes
+};
 
 /// Compares the line of a word in a buffer of this length, and returns the answer.
 fn compare_line(word: u32, length: usize) -> u8 {
-    let (mut ours, mut theirs) = ([FILLING; 64], [FILLING; 64]);
+    let (mut ours, mut theirs) = (FILLING, FILLING);
     let reply = raw::text(word, &mut ours[..length]);
     let (answer, written) = writing::write(word, &mut theirs[..length]);
     assert_eq!(
@@ -30,7 +38,7 @@ fn compare_reading(text: &[u8]) -> u8 {
     assert_eq!((reply.answer, reply.word), (answer as u64, word as u64), "text {:?}", String::from_utf8_lossy(text));
     if answer == DONE {
         // The only text that is taken is the line itself.
-        let mut line = [0; 64];
+        let mut line = FILLING;
         let reply = raw::text(word, &mut line);
         assert_eq!(&line[..reply.length as usize], text, "the line of {word:08x}");
     }
@@ -39,7 +47,7 @@ fn compare_reading(text: &[u8]) -> u8 {
 
 /// Compares a word's line and the way back.
 fn compare_both_ways(word: u32) -> u8 {
-    let (mut ours, mut theirs) = ([FILLING; 48], [FILLING; 48]);
+    let (mut ours, mut theirs) = (FILLING, FILLING);
     let reply = raw::text(word, &mut ours);
     let (answer, written) = writing::write(word, &mut theirs);
     assert_eq!((reply.answer, reply.length, ours), (answer as u64, written as u64, theirs), "word {word:08x}");

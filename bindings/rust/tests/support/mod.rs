@@ -44,6 +44,26 @@ impl Random {
     }
 }
 
+/// So many bytes to fill a buffer with: 251 that differ from each other, over and over, so that a byte in a wrong place
+/// shows.
+pub fn distinct(length: usize) -> Vec<u8> {
+    (0..length).map(|at| (at % 251) as u8).collect()
+}
+
+/// 2^k - 1, 2^k and 2^k + 1 for each k up to 64, modulo 2^64.
+pub fn about_powers() -> impl Iterator<Item = u64> {
+    (0..=64).flat_map(|k| {
+        let power = 1u64.checked_shl(k).unwrap_or(0);
+        [power.wrapping_sub(1), power, power.wrapping_add(1)]
+    })
+}
+
+/// One of these.
+pub fn about_power(random: &mut Random) -> u64 {
+    let power = 1u64.checked_shl(random.below(65) as u32).unwrap_or(0);
+    power.wrapping_add(random.below(3) as u64).wrapping_sub(1)
+}
+
 /// The bits that each line of 01's table fixes, and their values: literal, pair, ordered, unscaled, post, pre,
 /// register, unsigned.
 pub const LINES: [(u32, u32); 8] = [
