@@ -1,25 +1,19 @@
 #!/usr/bin/env bash
-# Tests the Rust package over the static library and times it beside its peers, with Rust 1.70 or later. The library is
-# built where it isn't there; MILESTARLING_LIB may name another directory that has libhost.a. The peers come from Debian
-# packages, which are installed where they aren't there; that needs root.
+# Tests the Rust package over the static library, with Rust 1.70 or later: it has no dependencies, so that neither a
+# network nor a place to keep packages is needed. The library is built where it isn't there; MILESTARLING_LIB may name
+# another directory that has libhost.a. Arguments go to `cargo test`.
 set -euo pipefail
 cd "$(dirname "${BASH_SOURCE[0]}")/.."
-
-packages=(gcc make libunicorn-dev libcapstone-dev llvm-19-dev)
-missing=()
-for package in "${packages[@]}"; do
-    if [ "$(dpkg-query -W -f '${db:Status-Status}' "$package" 2>/dev/null || true)" != installed ]; then
-        missing+=("$package")
-    fi
-done
-if [ ${#missing[@]} -gt 0 ]; then
-    apt-get install -y --no-install-recommends "${missing[@]}"
-fi
 
 if [ -z "${MILESTARLING_LIB:-}" ] && [ ! -e target/staticlib/libhost.a ]; then
     rt staticlib host
 fi
-
-(cd bindings/rust && cargo test --release)
-make -C bindings/bench
-(cd bindings/rust && cargo run --release --example bench)
+# A cargo of rustup's looks for its compiler below HOME, which may be another than the one that it was put in.
+beside="$(dirname "$(command -v cargo)")/../../.rustup"
+if [ -z "${RUSTUP_HOME:-}" ] && [ ! -d "${HOME:-}/.rustup" ] && [ -d "$beside" ]; then
+    export RUSTUP_HOME="$beside"
+fi
+# All that cargo writes stands here.
+export CARGO_TARGET_DIR="$PWD/target/cargo" CARGO_HOME="$PWD/target/cargo/home"
+cd bindings/rust
+cargo test --release --offline "$@"

@@ -1,0 +1,25 @@
+#!/usr/bin/env bash
+# Times the Rust package over the static library beside its peers. They come from Debian packages, which are installed
+# where they aren't there; that needs root. The library is built where it isn't there.
+set -euo pipefail
+cd "$(dirname "${BASH_SOURCE[0]}")/.."
+
+packages=(gcc make libunicorn-dev libcapstone-dev llvm-19-dev)
+missing=()
+for package in "${packages[@]}"; do
+    if [ "$(dpkg-query -W -f '${db:Status-Status}' "$package" 2>/dev/null || true)" != installed ]; then
+        missing+=("$package")
+    fi
+done
+if [ ${#missing[@]} -gt 0 ]; then
+    apt-get install -y --no-install-recommends "${missing[@]}"
+fi
+
+if [ -z "${MILESTARLING_LIB:-}" ] && [ ! -e target/staticlib/libhost.a ]; then
+    rt staticlib host
+fi
+
+make -C bindings/bench
+export CARGO_TARGET_DIR="$PWD/target/cargo"
+cd bindings/rust
+cargo run --release --offline --example bench
