@@ -5,6 +5,12 @@
  *
  * A slice is a pointer and the number of its elements. The pointer is never null, even where the length is 0, and
  * a slice that isn't const overlaps no other slice of the call. Beyond that no function has a condition to meet.
+ *
+ * The host's own duty: taints follow a value through the loads and stores that are done here, and nowhere else. A host
+ * that computes between two calls (add, and, mov, ..) must carry them itself: the result is tainted where an operand
+ * is. And it must not branch on a tainted value, nor take one for an address of its own. A host that loads a letter of
+ * a password into x1, sets x2 = x1 & 15 without setting x2's taint, and then runs `ldrb w3, [x7, x2]`, gets answer 0
+ * and a trace whose address tells the password. With x2's taint set it gets answer 5.
  */
 #ifndef MILESTARLING_H
 #define MILESTARLING_H

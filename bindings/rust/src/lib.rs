@@ -9,6 +9,15 @@
 //! - [`listing`] lists bytes.
 //! - [`raw`] has the library's functions as they are.
 //!
+//! # The host's own duty
+//!
+//! Taints follow a value through the loads and stores that are done here, and nowhere else. A host that computes between
+//! two steps must carry them itself: the result is tainted where an operand is. And it must not branch on a tainted
+//! value, nor take one for an address of its own. A host that loads a letter of a password into X1, sets X2 to
+//! `x1 & 15` without its taint, and then steps `ldrb w3, [x7, x2]`, is not refused, and the trace tells the password.
+//!
+//! # An example
+//!
 //! ```
 //! use milestarling::{Instruction, Machine, Register, Window};
 //!
