@@ -47,7 +47,7 @@ four-are {a} {b} {c} {d} h i j k =
     ∙ ap (λ (l : List ℕ). a ∷ l) (bytes-cons 2 b (c + d * 256) i ∙ ap (λ (l : List ℕ). b ∷ l) (bytes-cons 1 c d j ∙ rw e))
 
 -- what stands above n bytes changes none of them
-bytes-low : (n a b : ℕ) → bytesOf n (a + b * 256 ^ n) ≡ bytesOf n a
+pub bytes-low : (n a b : ℕ) → bytesOf n (a + b * 256 ^ n) ≡ bytesOf n a
 unfolding bytesOf
 bytes-low zero a b = refl
 bytes-low (suc n) a b =

@@ -43,7 +43,7 @@ quotient-pos : (n s q : ℕ) → q * s ≡ suc n → 0 < q
 quotient-pos n s zero e = omega (arith, zero-mul s, e)
 quotient-pos n s (suc q) e = omega arith
 
-mul-pos : (a b : ℕ) → 0 < a → 0 < b → 0 < a * b
+pub mul-pos : (a b : ℕ) → 0 < a → 0 < b → 0 < a * b
 mul-pos a b h k = omega (arith, mul-le-mul h k)
 
 -- ---- with a sign

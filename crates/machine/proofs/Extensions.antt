@@ -7,7 +7,7 @@ use lib.Dec.{lit<}
 use lib.Pow.{pow-add, pow-pos, shl-exact}
 use Rattle.memory.specs.Extension.{largest}
 
-two-256 : (n : ℕ) → 2 ^ (8 * n) ≡ 256 ^ n
+pub two-256 : (n : ℕ) → 2 ^ (8 * n) ≡ 256 ^ n
 two-256 zero = refl
 two-256 (suc n) = rw (mul-suc, pow-add, two-256 n) (sym (pow-suc 256 n))
 

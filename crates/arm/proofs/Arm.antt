@@ -1,0 +1,101 @@
+-- A step does what Arm's page says, with 01's choices: the page of each line (`line-step`), and the answers before it.
+-- Assumes nothing.
+use Prim.Native.Nat.{ℕ, _+_, _%_, _^_, _≤_}
+use mathlib.Core.Path.{_≡_, refl, ap, _∙_}
+use mathlib.Core.Bool.{Bool, true, false, not, _||_}
+use lib.Dec.{ltb, eqb}
+use lib.ListN.{length}
+use borrow.Author.Tests.{ltb-false}
+use Rattle.bits.specs.Choice.{pick}
+use Rattle.bits.proofs.Choices.{neither}
+use Rattle.instruction.specs.declared.answer.Answer.the-variants.{Done, BadWindow, NotInSet, Undefined, Unpredictable}
+use Rattle.instruction.specs.declared.line.Line.{Line}
+use Rattle.instruction.specs.declared.line.Line.the-variants.{NoLine, LiteralLine, PairLine, OrderedLine, UnscaledLine, PostLine, PreLine, RegisterLine, UnsignedLine}
+use Rattle.instruction.specs.Answers.{answerNumber}
+use Rattle.instruction.specs.Table.{isLine, lineOf, inSet}
+use Rattle.instruction.specs.Undefined.{undefinedIn, undefined, allocated}
+use Rattle.instruction.specs.Unpredictable.{unpredictableIn, unpredictable}
+use Rattle.instruction.specs.Instructions.{familyIn, instructionOf}
+use Rattle.instruction.specs.Decoding.{decodeOf, classOf}
+use Rattle.access.specs.Accesses.{familyAccess, accessOf}
+use Rattle.plan.specs.declared.window.Window.{Window}
+use Rattle.plan.specs.Window.{badWindow}
+use Rattle.plan.specs.Admission.{admitOf}
+use Rattle.machine.specs.Rule.{wordAccess}
+use Rattle.machine.specs.Machine.{Machine}
+use Rattle.machine.specs.Step.{Step, stopped, bad, wordStep, stepOf}
+use Rattle.arm.specs.Real.{Real}
+use Rattle.arm.specs.Pages.{pageOf}
+use Rattle.arm.specs.Choices.{badStart, armOf, armStep}
+use Rattle.arm.proofs.Steps.{Ready, Steps}
+use Rattle.arm.proofs.Families.{never, unscaled-step, ordered-step, post-step, pre-step, unsigned-step, indexed-step, literal-step}
+use Rattle.arm.proofs.Pairs.{pair-step}
+
+-- ---- the page of a word
+
+module _ (w : Window) (m : Machine) (r : Ready w m) (word : ℕ) where
+  line-step : (l : Line) → isLine l ≡ true → undefinedIn l word ≡ false → unpredictableIn l word ≡ false → wordAccess word ≡ familyAccess (familyIn l word)
+      → Steps w m l word (pageOf l word .operation word (armOf w m))
+  line-step NoLine t u v e = absurd (never t)
+  line-step LiteralLine t u v e = literal-step w m r word e
+  line-step PairLine t u v e = pair-step w m r word u v e
+  line-step OrderedLine t u v e = ordered-step w m r word u e
+  line-step UnscaledLine t u v e = unscaled-step w m r word u e
+  line-step PostLine t u v e = post-step w m r word u v e
+  line-step PreLine t u v e = pre-step w m r word u v e
+  line-step RegisterLine t u v e = indexed-step w m r word u e
+  line-step UnsignedLine t u v e = unsigned-step w m r word u e
+
+  access-of : inSet word ≡ true → undefined word ≡ false → wordAccess word ≡ familyAccess (familyIn (lineOf word) word)
+  unfolding decodeOf accessOf allocated instructionOf
+  access-of t u = rw (t, u)
+
+  page-step : inSet word ≡ true → undefined word ≡ false → unpredictable word ≡ false
+      → Steps w m (lineOf word) word (pageOf (lineOf word) word .operation word (armOf w m))
+  unfolding inSet undefined unpredictable
+  page-step t u v = line-step (lineOf word) t u v (access-of t u)
+
+-- ---- answer 1
+
+pub bad-is : (w : Window) (m : Machine) → bad w m ≡ badStart w m
+unfolding badWindow badStart
+bad-is w m =
+    let len = length (m .memory) in
+    go (ltb (2 ^ 64) (w .origin + len)) (ltb len (w .readonly)) (not (eqb (length (m .taints .bytes)) len)) (not (eqb (m .pc % 4) 0))
+  where
+    go : (a b c d : Bool) → pick a true (pick b true (pick c true d)) ≡ (a || b || c || d)
+    go true b c d = refl
+    go false true c d = refl
+    go false false true d = refl
+    go false false false d = refl
+
+top-is : (w : Window) (m : Machine) → badStart w m ≡ false → w .origin + length (m .memory) ≤ 2 ^ 64
+unfolding badStart
+top-is w m h = ltb-false (2 ^ 64) (w .origin + length (m .memory)) (first _ _ _ _ h)
+  where
+    first : (a b c d : Bool) → (a || b || c || d) ≡ false → a ≡ false
+    first a b c d h = neither a b (neither (a || b) c (neither (a || b || c) d h .0) .0) .0
+
+-- ---- answers 2 to 4
+
+chosen-is : (x y : Step Machine) (member wrong loose : Bool) → (member ≡ true → wrong ≡ false → loose ≡ false → x ≡ y)
+    → let class = pick member (pick wrong Undefined (pick loose Unpredictable Done)) NotInSet in
+    pick (eqb (answerNumber class) 0) x (stopped class 0)
+    ≡ pick (not member) (stopped NotInSet 0) (pick wrong (stopped Undefined 0) (pick loose (stopped Unpredictable 0) y))
+chosen-is x y false wrong loose f = refl
+chosen-is x y true true loose f = refl
+chosen-is x y true false true f = refl
+chosen-is x y true false false f = f refl refl refl
+
+-- ---- the step
+
+after-bad : (x y : Step Machine) (b : Bool) → (b ≡ false → x ≡ y) → pick b (stopped BadWindow 0) x ≡ pick b (stopped BadWindow 0) y
+after-bad x y true f = refl
+after-bad x y false f = f refl
+
+pub step-as-arm : (w : Window) (word : ℕ) (m : Machine) → Real m → stepOf w word m ≡ armStep w word m
+unfolding stepOf wordStep armStep classOf
+step-as-arm w word m r =
+    ap (λ (b : Bool). pick b (stopped BadWindow 0) (wordStep (w .origin) (admitOf w (length (m .memory))) word m)) (bad-is w m)
+    ∙ after-bad _ _ (badStart w m)
+    (λ e. chosen-is _ _ (inSet word) (undefined word) (unpredictable word) (page-step w m (record { real = r; top = top-is w m e }) word))

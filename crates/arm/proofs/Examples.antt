@@ -1,0 +1,49 @@
+-- 01's examples on the pages themselves: what the three loads of its byte 128 give, and refusals of each kind. Assumes nothing.
+use Prim.Native.Nat.{ℕ, _-_, _^_}
+use mathlib.Core.Path.{_≡_, refl}
+use mathlib.Core.Bool.{false}
+use mathlib.Core.List.{[], _∷_, _++_, map}
+use lib.ListN.{getD, replicate}
+use Rattle.bits.specs.Fields.{part}
+use Rattle.instruction.specs.Answers.{answerNumber}
+use Rattle.instruction.specs.Table.{lineOf, inSet}
+use Rattle.instruction.specs.Undefined.{undefined, undefinedSize, undefinedOption, undefinedPair}
+use Rattle.instruction.specs.Unpredictable.{unpredictable, baseIs, pairBaseIs, unpredictablePair}
+use Rattle.plan.specs.declared.window.Window.{Window}
+use Rattle.machine.specs.Machine.{Machine}
+use Rattle.machine.specs.Step.{performed}
+use Rattle.arm.specs.Pseudocode.{SignExtend, ZeroExtend, Add, X, setX, base, Mem}
+use Rattle.arm.specs.Unscaled.{unscaled}
+use Rattle.arm.specs.Marks.{anyMarked, marksOf}
+use Rattle.arm.specs.Choices.{badStart, armStep}
+
+abbrev window : Window
+window = record { origin = 4096; readonly = 4 }
+
+-- X1 is 4101, and the byte at 4100 is 128
+abbrev start : Machine
+start =
+    record {
+      values = 0 ∷ 4101 ∷ replicate 30 0;
+      pc = 8;
+      memory = replicate 4 0 ++ (128 ∷ replicate 11 0);
+      taints = record { registers = replicate 32 false; bytes = replicate 16 0 };
+    }
+
+abbrev loaded : ℕ → ℕ
+loaded word = getD (performed start (armStep window word start) .machine .values) 0 0
+
+abbrev answer : ℕ → ℕ
+answer word = answerNumber (performed start (armStep window word start) .answer)
+
+-- ldurb, and ldursb to 32 and to 64 bits, at 4100
+loads : map loaded (0x385ff020 ∷ 0x38dff020 ∷ 0x389ff020 ∷ []) ≡ (128 ∷ 4294967168 ∷ (2 ^ 64 - 128) ∷ [])
+unfolding armStep badStart lineOf inSet undefined undefinedSize unpredictable part unscaled SignExtend ZeroExtend Add X setX base Mem marksOf anyMarked
+loads = refl
+
+-- not of the set; two undefined words; an unpredictable pair
+-- 8 bytes at 4104, which are inside, and at 4105; a byte stored at 4099, among the first r, and at 4100
+answers : map answer (0x91000000 ∷ 0xb8c00020 ∷ 0x38e00862 ∷ 0xa9400020 ∷ 0xf8403020 ∷ 0xf8404020 ∷ 0x381fe020 ∷ 0x381ff020 ∷ [])
+    ≡ (2 ∷ 3 ∷ 3 ∷ 4 ∷ 0 ∷ 7 ∷ 8 ∷ 0 ∷ [])
+unfolding armStep badStart lineOf inSet undefined undefinedSize undefinedOption undefinedPair unpredictable baseIs pairBaseIs unpredictablePair part unscaled SignExtend Add X base
+answers = refl

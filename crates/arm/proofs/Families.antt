@@ -1,0 +1,321 @@
+-- The pages of one register, each with its family: the two form the same address (`based-form`, `index-form`,
+-- `literal-form`), and then `all-sizes` says the rest. Assumes nothing.
+use Prim.Native.Nat.{ℕ, _*_, _^_, _≤_, _<_}
+use mathlib.Core.Path.{_≡_, refl, sym, ap, _∙_}
+use mathlib.Core.Bool.{Bool, true, false, not, _&&_, _||_}
+use native.Mathlib.Nat.{mod-eq-of-lt}
+use native.Mathlib.Omega.{arith}
+use lib.Dec.{eqb}
+use lib.ListN.{getD, List·getD-eq-default}
+use borrow.Author.Tests.{eqb-false, eq-eqb, ne-eqb}
+use Rattle.bits.specs.Choice.{pick}
+use Rattle.bits.specs.Fields.{part, field}
+use Rattle.bits.specs.Signed.{signedOf, twosComplement}
+use Rattle.bits.proofs.Choices.{neither}
+use Rattle.bits.proofs.Parts.{part-lt}
+use Rattle.registers.specs.File.{zeroSlot}
+use Rattle.memory.specs.Extension.{extendedOf}
+use Rattle.instruction.specs.declared.line.Line.{Line}
+use Rattle.instruction.specs.declared.line.Line.the-variants.{LiteralLine, OrderedLine, UnscaledLine, PostLine, PreLine, RegisterLine, UnsignedLine}
+use Rattle.instruction.specs.Operations.{sizedAt, sizeOf, literalAt}
+use Rattle.instruction.specs.Undefined.{sizeOpc, undefinedSize, undefinedPrefetch, undefinedOption}
+use Rattle.instruction.specs.Unpredictable.{baseIs}
+use Rattle.instruction.specs.Instructions.{sizedIn, literalIn, signedIn, indexIn, unsignedIn, familyIn}
+use Rattle.instruction.proofs.Codes.{sized, sized-code}
+use Rattle.access.specs.declared.addressing.Addressing.{Addressing}
+use Rattle.access.specs.declared.Access.the-variants.{Moves}
+use Rattle.access.specs.Transfers.{literalTransfer}
+use Rattle.access.specs.Addressings.{based, shiftOf, indexedMode, literalMode}
+use Rattle.access.specs.Accesses.{sizedAccess, literalMoves, literalAccess, familyAccess}
+use Rattle.plan.specs.declared.window.Window.{Window}
+use Rattle.plan.specs.Address.{sumOf, indexOf, shiftedOf}
+use Rattle.plan.specs.Admission.{misaligned}
+use Rattle.machine.specs.Rule.{wordAccess}
+use Rattle.machine.specs.Machine.{Machine, operandsOf}
+use Rattle.arm.specs.Pseudocode.{Arm, LOAD, PREFETCH, Concat, SignExtend, ZeroExtend, LSL, Add, X, setX, base, Mem, ExtendReg, Operation, hint, loads, case}
+use Rattle.arm.specs.Unscaled.{unscaled}
+use Rattle.arm.specs.Ordered.{ordered}
+use Rattle.arm.specs.Immediate.{immediate, postIndex, preIndex, unsigned}
+use Rattle.arm.specs.Indexed.{indexed}
+use Rattle.arm.specs.Literal.{literal}
+use Rattle.arm.specs.Marks.{mark}
+use Rattle.arm.specs.Pages.{pageOf}
+use Rattle.arm.specs.Choices.{marked, crosses, armOf}
+use Rattle.arm.proofs.Bits.{add-is, imm9-is, imm12-is, imm19-is, index-is, extended-is}
+use Rattle.arm.proofs.Places.{base-is, x-is}
+use Rattle.arm.proofs.Marks.{mark-is}
+use Rattle.arm.proofs.Steps.{Ready, Steps, same-block}
+use Rattle.arm.proofs.Singles.{four, Form, one-load, extended-none, all-sizes}
+
+-- ---- what the tests of a word say
+
+known-sizes : (w : ℕ) → undefinedSize w ≡ false → ¬ (sizeOpc w ≡ 0b10_11) × ¬ (sizeOpc w ≡ 0b11_11)
+unfolding undefinedSize
+known-sizes w h =
+    let p = neither (eqb (sizeOpc w) 0b10_11) (eqb (sizeOpc w) 0b11_11) h in
+    (eqb-false (sizeOpc w) 0b10_11 (p .0), eqb-false (sizeOpc w) 0b11_11 (p .1))
+
+pub never : _≡_ {A = Bool} false true → ⊥
+never e = let z : _≡_ {A = ℕ} 0 1 = cc in omega arith
+
+-- a base that is not the register t: its slot is another
+pub apart : (n t : ℕ) → n < 32 → (not (eqb n 31) && eqb n t) ≡ false → ¬ (n ≡ zeroSlot t)
+apart n t l h e = go (eqb t 31) refl e
+  where
+    go : (b : Bool) → eqb t 31 ≡ b → n ≡ pick b 32 t → ⊥
+    go true f e = omega arith
+    go false f e =
+        let x : eqb n 31 ≡ false = ne-eqb n 31 (λ g. eqb-false t 31 f (sym e ∙ g)) in
+        let y : _≡_ {A = Bool} true false = rw (x, eq-eqb n t e) at h in
+        never (sym y)
+
+-- one of two, in the machine's words and in 01's
+either : (a b : Bool) → pick a true b ≡ (a || b)
+either true b = refl
+either false b = refl
+
+module _ (w : Window) (m : Machine) (r : Ready w m) (l : Line) (word : ℕ) where
+  abbrev s : Arm
+  s = armOf w m
+
+  abbrev n : ℕ
+  n = field 9 5 word
+
+  base-register : base n s ≡ getD (m .values) n 0
+  base-register = base-is s (r .real .registers) (r .real .values) n
+
+  -- ---- a base and an offset
+
+  module _ (offset : ℕ) (post wback : Bool) where
+    abbrev a : Addressing
+    a = based n offset post (pick wback n 32)
+
+    based-sum : sumOf a (operandsOf a m) ≡ Add (base n s) offset
+    unfolding based sumOf shiftedOf indexOf
+    based-sum = rw (base-register, add-is, List·getD-eq-default (m .values) 0 {n = 32} (omega (arith, r .real .registers))) (omega arith)
+
+    based-mark : operandsOf a m .tainted ≡ (getD (m .taints .registers) n false || false)
+    unfolding based
+    based-mark = rw (List·getD-eq-default (m .taints .registers) false {n = 32} (omega (arith, r .real .marks))) (either (getD (m .taints .registers) n false) false)
+
+    pub based-form : (ordered : Bool) → pageOf l word .wback ≡ wback → (getD (m .taints .registers) n false || false) ≡ marked (pageOf l word) word m
+        → (wback ≡ true → ¬ (n ≡ zeroSlot (field 4 0 word)))
+        → ((k address : ℕ) → 0 < k → k ≤ 16 → misaligned ordered k address ≡ crosses (pageOf l word) address k)
+        → Form w m l word a ordered wback (pick post (base n s) (Add (base n s) offset)) (Add (base n s) offset)
+    unfolding based
+    based-form ordered b e p q =
+        record {
+          mark = based-mark ∙ e;
+          first = ap (λ (x : ℕ). pick post x (sumOf a (operandsOf a m))) (sym base-register) ∙ ap (λ (x : ℕ). pick post (base n s) x) based-sum;
+          sum = based-sum;
+          written = refl;
+          back = b;
+          apart = p;
+          block = λ k. q k _;
+        }
+
+module _ (w : Window) (m : Machine) (r : Ready w m) (word : ℕ) where
+  size-lt : field 31 30 word < 4
+  size-lt = part-lt 30 2 word
+
+  opc-lt : field 23 22 word < 4
+  opc-lt = part-lt 22 2 word
+
+  abbrev size : ℕ
+  size = field 31 30 word
+
+  abbrev opc : ℕ
+  opc = field 23 22 word
+
+  abbrev offset9 : ℕ
+  offset9 = SignExtend 9 64 (field 20 12 word)
+
+  offset9-is : offset9 ≡ twosComplement (signedOf 256 1 (field 20 12 word))
+  offset9-is = imm9-is (field 20 12 word) (part-lt 12 9 word)
+
+  pub unscaled-step : undefinedSize word ≡ false → wordAccess word ≡ familyAccess (familyIn UnscaledLine word)
+      → Steps w m UnscaledLine word (unscaled word (armOf w m))
+  unfolding unscaled misaligned signedIn sizedIn
+  unscaled-step u e =
+      let k = known-sizes word u in
+      let form = based-form w m r UnscaledLine word offset9 false false false refl refl (λ h. absurd (never h)) (λ k x p q. refl) in
+      all-sizes w m r UnscaledLine word _ false false _ _ form refl size opc size-lt opc-lt (k .0) (k .1) (rw offset9-is e)
+
+  pub ordered-step : (undefinedSize word || undefinedPrefetch word) ≡ false → wordAccess word ≡ familyAccess (familyIn OrderedLine word)
+      → Steps w m OrderedLine word (ordered word (armOf w m))
+  unfolding ordered misaligned signedIn sizedIn
+  ordered-step u e =
+      let k = known-sizes word (neither (undefinedSize word) (undefinedPrefetch word) u .0) in
+      let form = based-form w m r OrderedLine word offset9 false false true refl refl (λ h. absurd (never h)) (λ k x p q. same-block x k p q) in
+      all-sizes w m r OrderedLine word _ true false _ _ form refl size opc size-lt opc-lt (k .0) (k .1) (rw offset9-is e)
+
+  -- with writeback
+  base-apart : baseIs (field 4 0 word) word ≡ false → ¬ (field 9 5 word ≡ zeroSlot (field 4 0 word))
+  unfolding baseIs
+  base-apart h = apart (field 9 5 word) (field 4 0 word) (part-lt 5 5 word) h
+
+  pub post-step : (undefinedSize word || undefinedPrefetch word) ≡ false → baseIs (field 4 0 word) word ≡ false
+      → wordAccess word ≡ familyAccess (familyIn PostLine word) → Steps w m PostLine word (postIndex word (armOf w m))
+  unfolding immediate misaligned signedIn sizedIn
+  post-step u b e =
+      let k = known-sizes word (neither (undefinedSize word) (undefinedPrefetch word) u .0) in
+      let form = based-form w m r PostLine word offset9 true true false refl refl (λ h. base-apart b) (λ k x p q. refl) in
+      all-sizes w m r PostLine word _ false true _ _ form refl size opc size-lt opc-lt (k .0) (k .1) (rw offset9-is e)
+
+  pub pre-step : (undefinedSize word || undefinedPrefetch word) ≡ false → baseIs (field 4 0 word) word ≡ false
+      → wordAccess word ≡ familyAccess (familyIn PreLine word) → Steps w m PreLine word (preIndex word (armOf w m))
+  unfolding immediate misaligned signedIn sizedIn
+  pre-step u b e =
+      let k = known-sizes word (neither (undefinedSize word) (undefinedPrefetch word) u .0) in
+      let form = based-form w m r PreLine word offset9 false true false refl refl (λ h. base-apart b) (λ k x p q. refl) in
+      all-sizes w m r PreLine word _ false true _ _ form refl size opc size-lt opc-lt (k .0) (k .1) (rw offset9-is e)
+
+  -- the size of an operation is that of its word
+  size-back : undefinedSize word ≡ false → sizeOf (sizedIn word) ≡ size
+  unfolding sizedIn
+  size-back u =
+      let k = known-sizes word u in
+      let a = size-lt in
+      let b = opc-lt in
+      omega (arith, sized-code (sizeOpc word) (omega arith) (k .0) (k .1), sized (sizedAt (sizeOpc word)))
+
+  pub unsigned-step : undefinedSize word ≡ false → wordAccess word ≡ familyAccess (familyIn UnsignedLine word)
+      → Steps w m UnsignedLine word (unsigned word (armOf w m))
+  unfolding immediate misaligned unsignedIn sizedIn
+  unsigned-step u e =
+      let k = known-sizes word u in
+      let offset : ℕ = LSL (ZeroExtend 12 64 (field 21 10 word)) size in
+      let offset-is : field 21 10 word * 2 ^ sizeOf (sizedIn word) ≡ offset =
+      rw (size-back u) (sym (imm12-is (field 21 10 word) size (part-lt 10 12 word) size-lt)) in
+      let form = based-form w m r UnsignedLine word offset false false false refl refl (λ h. absurd (never h)) (λ k x p q. refl) in
+      all-sizes w m r UnsignedLine word _ false false _ _ form refl size opc size-lt opc-lt (k .0) (k .1) (rw (← offset-is) e)
+
+  -- ---- a base and an index
+
+  abbrev i : ℕ
+  i = field 20 16 word
+
+  abbrev option : ℕ
+  option = field 15 13 word
+
+  abbrev shift : ℕ
+  shift = pick (eqb (field 12 12 word) 1) size 0
+
+  shift-lt : shift < 4
+  shift-lt = go (eqb (field 12 12 word) 1)
+    where
+      go : (b : Bool) → pick b size 0 < 4
+      go true = size-lt
+      go false = omega arith
+
+  abbrev indexingBy : ℕ → Addressing
+  indexingBy size =
+      record {
+        relative = false;
+        base = field 9 5 word;
+        offset = 0;
+        index = zeroSlot i;
+        option = option;
+        shift = pick (eqb (field 12 12 word) 1) size 0;
+        post = false;
+        written = 32;
+      }
+
+  abbrev indexing : Addressing
+  indexing = indexingBy size
+
+  option-set : undefinedOption word ≡ false → ¬ (field 1 1 option ≡ 0)
+  unfolding undefinedOption part
+  option-set h z = eqb-false (field 14 14 word) 0 h (omega arith)
+
+  index-x : X i 64 (armOf w m) ≡ getD (m .values) (zeroSlot i) 0
+  index-x = x-is (armOf w m) (r .real .registers) i 64 (omega arith) ∙ mod-eq-of-lt (r .real .values (zeroSlot i))
+
+  index-sum : undefinedOption word ≡ false
+      → sumOf indexing (operandsOf indexing m) ≡ Add (base (field 9 5 word) (armOf w m)) (ExtendReg i option shift (armOf w m))
+  unfolding sumOf shiftedOf
+  index-sum u =
+      rw (base-register w m r RegisterLine word, index-is i (armOf w m) option shift (part-lt 13 3 word) (option-set u) shift-lt, index-x, add-is) (omega arith)
+
+  index-mark : operandsOf indexing m .tainted ≡ marked (pageOf RegisterLine word) word m
+  index-mark =
+      let u = m .taints .registers in
+      either (getD u (field 9 5 word) false) (getD u (zeroSlot i) false)
+      ∙ ap (λ (b : Bool). getD u (field 9 5 word) false || b) (mark-is u (r .real .marks) i)
+
+  index-form : undefinedOption word ≡ false
+      → let address = Add (base (field 9 5 word) (armOf w m)) (ExtendReg i option shift (armOf w m)) in
+      Form w m RegisterLine word indexing false false address address
+  unfolding misaligned
+  index-form u =
+      record {
+        mark = index-mark;
+        first = index-sum u;
+        sum = index-sum u;
+        written = refl;
+        back = refl;
+        apart = λ h. absurd (never h);
+        block = λ k p q. refl;
+      }
+
+  pub indexed-step : (undefinedSize word || undefinedOption word) ≡ false → wordAccess word ≡ familyAccess (familyIn RegisterLine word)
+      → Steps w m RegisterLine word (indexed word (armOf w m))
+  unfolding indexed indexIn sizedIn indexedMode shiftOf
+  indexed-step u e =
+      let p = neither (undefinedSize word) (undefinedOption word) u in
+      let k = known-sizes word (p .0) in
+      all-sizes w m r RegisterLine word indexing false false _ _ (index-form (p .1)) refl size opc size-lt opc-lt (k .0) (k .1)
+      (e ∙ ap (λ (k : ℕ). sizedAccess (sizedIn word) (field 4 0 word) false (indexingBy k)) (size-back (p .0)))
+
+  -- ---- the program counter and an offset
+
+  abbrev offset19 : ℕ
+  offset19 = SignExtend 21 64 (Concat (field 23 5 word) 2 0b00)
+
+  literal-sum : (offset : ℕ) → sumOf (literalMode offset) (operandsOf (literalMode offset) m) ≡ Add (m .pc) offset
+  unfolding literalMode sumOf shiftedOf indexOf
+  literal-sum offset = rw (add-is, List·getD-eq-default (m .values) 0 {n = 32} (omega (arith, r .real .registers))) (omega arith)
+
+  literal-form : (offset : ℕ) → Form w m LiteralLine word (literalMode offset) false false (Add (m .pc) offset) (Add (m .pc) offset)
+  unfolding literalMode misaligned
+  literal-form offset =
+      record {
+        mark = rw (List·getD-eq-default (m .taints .registers) false {n = 32} (omega (arith, r .real .marks)));
+        first = literal-sum offset;
+        sum = literal-sum offset;
+        written = refl;
+        back = refl;
+        apart = λ h. absurd (never h);
+        block = λ k p q. refl;
+      }
+
+  literal-load : (k extent width : ℕ) (g : ℕ → ℕ) → ((v : ℕ) → v < 256 ^ k → extendedOf k extent v ≡ g v) → 0 < k → k ≤ 16
+      → wordAccess word ≡ literalMoves k extent (literalIn word)
+      → let address = Add (m .pc) offset19 in
+      Steps w m LiteralLine word (loads address k (setX (field 4 0 word) width (g (Mem address k (armOf w m))) (armOf w m)))
+  unfolding literalMoves literalTransfer literalIn
+  literal-load k extent width g x p q e =
+      one-load w m r LiteralLine word (literalMode offset19) false false _ _ (literal-form offset19) refl k extent width g p q x
+      (e ∙ ap (λ (o : ℕ). Moves (literalTransfer k extent (field 4 0 word)) (literalMode o)) (sym (imm19-is (field 23 5 word) (part-lt 5 19 word))))
+
+  -- the page, by opc
+  abbrev literalPage : ℕ → Operation
+  literalPage opc =
+      let s = armOf w m in
+      let t = field 4 0 word in
+      let size : ℕ = pick (eqb opc 0b01) 8 4 in
+      let address = Add (m .pc) offset19 in
+      case (pick (eqb opc 0b11) PREFETCH LOAD)
+      hint
+      (loads address size (pick (eqb opc 0b10) (setX t 64 (SignExtend (size * 8) 64 (Mem address size s)) s) (setX t (size * 8) (Mem address size s) s)))
+      hint
+
+  pub literal-step : wordAccess word ≡ familyAccess (familyIn LiteralLine word) → Steps w m LiteralLine word (literal word (armOf w m))
+  unfolding literal literalAt literalMoves
+  literal-step e =
+      four (λ opc. wordAccess word ≡ literalAccess (literalAt opc) (literalIn word) → Steps w m LiteralLine word (literalPage opc))
+      (λ e. literal-load 4 4 32 (λ v. v) (λ v h. extended-none 4 v) (omega arith) (omega arith) e)
+      (λ e. literal-load 8 8 64 (λ v. v) (λ v h. extended-none 8 v) (omega arith) (omega arith) e)
+      (λ e. literal-load 4 8 64 (SignExtend 32 64) (λ v. extended-is 3 8 v (omega arith)) (omega arith) (omega arith) e)
+      (λ e. rw e)
+      (field 31 30 word) size-lt e

@@ -1,0 +1,10 @@
+pub mod Bits
+pub mod Places
+pub mod Marks
+pub mod Steps
+pub mod Singles
+pub mod Families
+pub mod Pairs
+pub mod Arm
+pub mod Reals
+pub mod Examples

@@ -1,0 +1,127 @@
+-- The machine's rule of taints is 01's rule of marks, for one register and for two. Assumes nothing.
+use Prim.Native.Nat.{ℕ, zero, suc, _+_, _-_, _*_, _/_, _≤_}
+use mathlib.Core.Path.{_≡_, refl, ap, _∙_}
+use mathlib.Core.Bool.{Bool, true, false, not, _||_}
+use mathlib.Core.List.{List}
+use native.Mathlib.Omega.{arith}
+use lib.Dec.{eqb, eqb·suc-zero}
+use lib.ListN.{length, getD, set, replicate, length-set, List·getD-eq-default}
+use lib.Seq.{sets, set-out}
+use Rattle.bits.specs.Choice.{pick}
+use Rattle.bits.specs.Fields.{field}
+use Rattle.bits.specs.Bytes.{spanOf}
+use Rattle.registers.specs.File.{zeroSlot}
+use Rattle.memory.specs.Taints.{tainted, anyTainted, taintByte}
+use Rattle.access.specs.declared.transfer.Transfer.{Transfer}
+use Rattle.machine.specs.Rule.{Taints, moveRule}
+use Rattle.arm.specs.Marks.{mark, setMark, anyMarked, setMarks, marksOf}
+
+-- ---- registers: a slot of 32 is none
+
+module _ (u : List Bool) (len : length u ≡ 32) where
+  set-mark : (n : ℕ) (b : Bool) → set u (zeroSlot n) b ≡ setMark n b u
+  set-mark n b = go (eqb n 31)
+    where
+      go : (t : Bool) → set u (pick t 32 n) b ≡ pick t u (set u n b)
+      go true = set-out u 32 b (omega arith)
+      go false = refl
+
+  pub mark-is : (n : ℕ) → getD u (zeroSlot n) false ≡ mark n u
+  mark-is n = go (eqb n 31)
+    where
+      go : (t : Bool) → getD u (pick t 32 n) false ≡ pick t false (getD u n false)
+      go true = List·getD-eq-default u false (omega arith)
+      go false = refl
+
+  base-mark : (wback : Bool) (n : ℕ) → set u (pick wback n 32) false ≡ pick wback (set u n false) u
+  base-mark true n = refl
+  base-mark false n = set-out u 32 false (omega arith)
+
+-- ---- bytes
+
+one-byte : (x : ℕ) (b : Bool) → pick (tainted x) true b ≡ (not (eqb x 0) || b)
+one-byte zero b = refl
+one-byte (suc x) b = rw (eqb·suc-zero x)
+
+next : {origin a : ℕ} → origin ≤ a → suc (a - origin) ≡ a + 1 - origin
+next h = omega arith
+
+any-is : (origin address n : ℕ) (k : List ℕ) → origin ≤ address → anyTainted (spanOf k (address - origin) n) ≡ anyMarked origin address n k
+unfolding anyTainted spanOf anyMarked
+any-is origin address zero k h = refl
+any-is origin address (suc n) k h = one-byte (getD k (address - origin) 0) _ ∙ rw (next h, any-is origin (address + 1) n k (omega arith))
+
+byte-is : (b : Bool) → taintByte b ≡ pick b 1 0
+byte-is true = refl
+byte-is false = refl
+
+set-marks : (origin address n : ℕ) (b : Bool) (k : List ℕ) → origin ≤ address
+    → sets k (address - origin) (replicate n (taintByte b)) ≡ setMarks origin address n b k
+unfolding setMarks
+set-marks origin address zero b k h = refl
+set-marks origin address (suc n) b k h =
+    ap (λ (i : ℕ). sets (set k (address - origin) (taintByte b)) i (replicate n (taintByte b))) (next h)
+    ∙ set-marks origin (address + 1) n b (set k (address - origin) (taintByte b)) (omega arith)
+    ∙ ap (λ (x : ℕ). setMarks origin (address + 1) n b (set k (address - origin) x)) (byte-is b)
+
+-- ---- the rule
+
+abbrev taints : List Bool → List ℕ → Taints
+taints r b = record { registers = r; bytes = b }
+
+same : {a b : List Bool} {c d : List ℕ} → a ≡ b → c ≡ d → taints a c ≡ taints b d
+same e f = rw (e, f)
+
+module _ (wback : Bool) (origin word address : ℕ) (p : Taints) (len : length (p .registers) ≡ 32) (h : origin ≤ address) where
+  abbrev t : ℕ
+  t = field 4 0 word
+
+  abbrev t2 : ℕ
+  t2 = field 14 10 word
+
+  abbrev based : List Bool
+  based = pick wback (set (p .registers) (field 9 5 word) false) (p .registers)
+
+  based-is : set (p .registers) (pick wback (field 9 5 word) 32) false ≡ based
+  based-is = base-mark (p .registers) len wback (field 9 5 word)
+
+  based-length : length based ≡ 32
+  based-length = rw (← based-is) (simp length-set len)
+
+  -- the bytes of one register
+  stored : (n k a : ℕ) (bytes : List ℕ) → origin ≤ a
+      → sets bytes (a - origin) (replicate k (taintByte (getD (p .registers) (zeroSlot n) false))) ≡ setMarks origin a k (mark n (p .registers)) bytes
+  stored n k a bytes l = rw (mark-is (p .registers) len n) (set-marks origin a k (mark n (p .registers)) bytes l)
+
+  abbrev single : Bool → Bool → ℕ → ℕ → Transfer
+  single store ordered k extent = record { store = store; ordered = ordered; bytes = k; more = 0; extent = extent; target = zeroSlot t; second = 32 }
+
+  abbrev double : Bool → ℕ → ℕ → Transfer
+  double store k extent = record { store = store; ordered = false; bytes = k; more = k; extent = extent; target = zeroSlot t; second = zeroSlot t2 }
+
+  pub one-marks : (store ordered : Bool) (k extent written : ℕ) → written ≡ pick wback (field 9 5 word) 32
+      → moveRule (single store ordered k extent) written (address - origin) p ≡ marksOf false wback store origin word address k p
+  unfolding moveRule marksOf
+  one-marks true ordered k extent written e = rw e (same based-is (stored t k address (p .bytes) h))
+  one-marks false ordered k extent written e =
+      let x : Bool = anyTainted (spanOf (p .bytes) (address - origin) k) in
+      let l : length (set based (zeroSlot t) x) ≤ 32 = simp length-set (omega (arith, based-length)) in
+      rw (e, based-is, set-out (set based (zeroSlot t) x) 32 _ l)
+      (same (ap (set based (zeroSlot t)) (any-is origin address k (p .bytes) h) ∙ set-mark based based-length t _) refl)
+
+  pub two-marks : (store : Bool) (k extent written : ℕ) → written ≡ pick wback (field 9 5 word) 32
+      → moveRule (double store k extent) written (address - origin) p ≡ marksOf true wback store origin word address (2 * k) p
+  unfolding moveRule marksOf
+  two-marks true k extent written e =
+      let half : 2 * k / 2 ≡ k = omega arith in
+      let far : address - origin + k ≡ address + k - origin = omega arith in
+      rw (e, half, far, stored t k address (p .bytes) h) (same based-is (stored t2 k (address + k) _ (omega arith)))
+  two-marks false k extent written e =
+      let half : 2 * k / 2 ≡ k = omega arith in
+      let far : address - origin + k ≡ address + k - origin = omega arith in
+      let x : Bool = anyMarked origin address k (p .bytes) in
+      let y : Bool = anyMarked origin (address + k) k (p .bytes) in
+      let one : set based (zeroSlot t) x ≡ setMark t x based = set-mark based based-length t x in
+      let l : length (setMark t x based) ≡ 32 = rw (← one) (simp length-set based-length) in
+      rw (e, half, based-is, far, any-is origin address k (p .bytes) h, any-is origin (address + k) k (p .bytes) (omega arith))
+      (same (ap (λ (v : List Bool). set v (zeroSlot t2) y) one ∙ set-mark (setMark t x based) l t2 y) refl)

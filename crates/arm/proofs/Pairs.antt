@@ -1,0 +1,315 @@
+-- The page of pairs: what a load and a store of two registers leave, once over the width (`two-loads`, `two-stores`), then
+-- each opc and L (`all`), and each mode (`modes`). Assumes nothing.
+use Prim.Native.Nat.{ℕ, zero, suc, _+_, _-_, _*_, _/_, _%_, _^_, _≤_, _<_}
+use mathlib.Core.Path.{_≡_, refl, sym, ap, _∙_}
+use mathlib.Core.Bool.{Bool, true, false, not, _&&_, _||_}
+use mathlib.Core.List.{List}
+use native.Mathlib.Omega.{arith}
+use lib.Dec.{eqb}
+use lib.ListN.{length, getD, set, length-set}
+use lib.Seq.{sets, set-out, set-comm}
+use borrow.Author.Tests.{eqb-true, eqb-false, eq-eqb}
+use Rattle.bits.specs.Choice.{pick}
+use Rattle.bits.specs.Fields.{part, field}
+use Rattle.bits.specs.Bytes.{bytesOf, joined, spanOf}
+use Rattle.bits.specs.Signed.{signedOf, twosComplement}
+use Rattle.bits.proofs.Choices.{neither}
+use Rattle.bits.proofs.Parts.{part-lt}
+use Rattle.registers.specs.File.{zeroSlot}
+use Rattle.memory.specs.Extension.{extendedOf}
+use Rattle.instruction.specs.declared.line.Line.the-variants.{PairLine}
+use Rattle.instruction.specs.Operations.{pairAt, modeAt, pairBytes}
+use Rattle.instruction.specs.Undefined.{undefinedPair}
+use Rattle.instruction.specs.Unpredictable.{baseIs, pairBaseIs, unpredictablePair}
+use Rattle.instruction.specs.Instructions.{pairOpIn, pairIn, familyIn}
+use Rattle.access.specs.declared.transfer.Transfer.{Transfer}
+use Rattle.access.specs.declared.addressing.Addressing.{Addressing}
+use Rattle.access.specs.declared.Access.{Access}
+use Rattle.access.specs.declared.Access.the-variants.{Moves}
+use Rattle.access.specs.Transfers.{pairTransfer}
+use Rattle.access.specs.Addressings.{based, pairedMode}
+use Rattle.access.specs.Accesses.{pairAccess, familyAccess}
+use Rattle.plan.specs.declared.window.Window.{Window}
+use Rattle.plan.specs.Admission.{misaligned}
+use Rattle.machine.specs.Rule.{wordAccess}
+use Rattle.machine.specs.Machine.{Machine}
+use Rattle.arm.specs.Pseudocode.{Arm, LOAD, STORE, SignExtend, LSL, Add, X, setX, base, Mem, setMem, withRegisters, Operation, hint, loads, stores, case}
+use Rattle.arm.specs.Pair.{paired, pair}
+use Rattle.arm.specs.Choices.{armOf}
+use Rattle.arm.proofs.Bits.{add-small, offset-is, extended-is}
+use Rattle.arm.proofs.Places.{x-is, set-x, set-base, mem-is, withMemory, set-mem, low-bytes, joined-lt}
+use Rattle.arm.proofs.Marks.{two-marks}
+use Rattle.arm.proofs.Steps.{Ready, Inside, Steps, loads-step, stores-step}
+use Rattle.arm.proofs.Singles.{four, back, back-registers, back-memory, Form, extended-none}
+use Rattle.arm.proofs.Families.{never, apart, based-form}
+
+-- ---- two registers and two places
+
+-- the address of the second register's bytes is not wrapped
+second-is : {w : Window} (address k : ℕ) → 0 < k → Inside w address (2 * k) → Add address k ≡ address + k
+second-is address k p h = add-small address k (omega (arith, h .upto))
+
+module _ (s : Arm) (len : length (s .registers) ≡ 32) where
+  -- the registers with two of them written
+  abbrev written : ℕ → ℕ → ℕ → ℕ → List ℕ
+  written t t2 x y = set (set (s .registers) (zeroSlot t) x) (zeroSlot t2) y
+
+  two-registers : (wback : Bool) (n t t2 next width x y : ℕ) → (wback ≡ true → ¬ (n ≡ zeroSlot t)) → (wback ≡ true → ¬ (n ≡ zeroSlot t2))
+      → set (set (set (s .registers) (pick wback n 32) next) (zeroSlot t) x) (zeroSlot t2) y ≡ back wback n next (setX t2 width y (setX t width x s)) .registers
+  two-registers wback n t t2 next width x y h k =
+      let l : length (set (s .registers) (zeroSlot t) x) ≡ 32 = simp length-set len in
+      let o : length (written t t2 x y) ≡ 32 = simp length-set len in
+      rw (set-x s len t width x, set-x (withRegisters (set (s .registers) (zeroSlot t) x) s) l t2 width y) (go wback h k o)
+    where
+      go : (wback : Bool) → (wback ≡ true → ¬ (n ≡ zeroSlot t)) → (wback ≡ true → ¬ (n ≡ zeroSlot t2)) → length (written t t2 x y) ≡ 32
+          → set (set (set (s .registers) (pick wback n 32) next) (zeroSlot t) x) (zeroSlot t2) y ≡ back wback n next (withRegisters (written t t2 x y) s) .registers
+      go true h k o =
+          rw (set-base (withRegisters (written t t2 x y) s) o n next, set-comm (s .registers) n (zeroSlot t) next x (h refl))
+          (set-comm (set (s .registers) (zeroSlot t) x) n (zeroSlot t2) next y (k refl))
+      go false h k o = rw (set-out (s .registers) 32 next (omega (arith, len)))
+
+  -- the bytes of a register, and memory with those of two
+  abbrev bytes : ℕ → ℕ → List ℕ
+  bytes k t = bytesOf k (getD (s .registers) (zeroSlot t) 0)
+
+  abbrev filled : ℕ → ℕ → ℕ → ℕ → List ℕ
+  filled k t t2 at = sets (sets (s .memory) at (bytes k t)) (at + k) (bytes k t2)
+
+  two-places : (k t t2 address : ℕ) → 0 < k → s .origin ≤ address → address + 2 * k ≤ 2 ^ 64
+      → setMem (Add address k) k (X t2 (8 * k) s) (setMem address k (X t (8 * k) s) s) ≡ withMemory (filled k t t2 (address - s .origin)) s
+  two-places k t t2 address p h u =
+      let a : Add address k ≡ address + k = add-small address k (omega arith) in
+      let e : address + k - s .origin ≡ address - s .origin + k = omega arith in
+      let b : List ℕ = sets (s .memory) (address - s .origin) (bytesOf k (X t (8 * k) s)) in
+      let one = set-mem s k address (X t (8 * k) s) h (omega arith) in
+      let two = set-mem (withMemory b s) k (address + k) (X t2 (8 * k) s) (omega arith) (omega arith) in
+      rw (a, one, two, e, x-is s len t (8 * k) (omega arith), x-is s len t2 (8 * k) (omega arith), low-bytes k (getD (s .registers) (zeroSlot t) 0), low-bytes k (getD (s .registers) (zeroSlot t2) 0))
+
+abbrev transfer : Bool → ℕ → ℕ → ℕ → ℕ → Transfer
+transfer store bytes extent t t2 =
+    record { store = store; ordered = false; bytes = bytes; more = bytes; extent = extent; target = zeroSlot t; second = zeroSlot t2 }
+
+module _ (w : Window) (m : Machine) (r : Ready w m) (word : ℕ) (a : Addressing) (wback : Bool) (address next : ℕ)
+    (f : Form w m PairLine word a false wback address next) (other : wback ≡ true → ¬ (field 9 5 word ≡ zeroSlot (field 14 10 word))) where
+  abbrev s : Arm
+  s = armOf w m
+
+  abbrev n : ℕ
+  n = field 9 5 word
+
+  abbrev t : ℕ
+  t = field 4 0 word
+
+  abbrev t2 : ℕ
+  t2 = field 14 10 word
+
+  abbrev loaded : ℕ → ℕ → (ℕ → ℕ) → Arm
+  loaded k width g = back wback n next (setX t2 width (g (Mem (Add address k) k s)) (setX t width (g (Mem address k s)) s))
+
+  abbrev stored : ℕ → Arm
+  stored k = back wback n next (setMem (Add address k) k (X t2 (8 * k) s) (setMem address k (X t (8 * k) s) s))
+
+  two-loads : (k extent width : ℕ) (g : ℕ → ℕ) → 0 < k → k ≤ 8 → ((v : ℕ) → v < 256 ^ k → extendedOf k extent v ≡ g v)
+      → wordAccess word ≡ Moves (transfer false k extent t t2) a → Steps w m PairLine word (loads address (2 * k) (loaded k width g))
+  unfolding setX
+  two-loads k extent width g p q ext e =
+      loads-step w m (r .top) PairLine word (transfer false k extent t t2) a address (2 * k) (loaded k width g)
+      (record {
+        access = e;
+        total = omega arith;
+        mark = f .mark;
+        first = f .first;
+        block = f .block (2 * k) (omega arith) (omega arith);
+        registers =
+            λ h.
+            let at = address - w .origin in
+            let from = h .from in
+            let upto = h .upto in
+            let i : address + k - w .origin ≡ at + k = omega arith in
+            let one : Mem address k s ≡ joined (spanOf (m .memory) at k) = mem-is s k address from (omega arith) in
+            let two : Mem (Add address k) k s ≡ joined (spanOf (m .memory) (at + k) k) =
+            ap (λ (x : ℕ). Mem x k s) (second-is address k p h) ∙ rw i at (mem-is s k (address + k) (omega arith) (omega arith)) in
+            let x = ext _ (joined-lt (m .memory) (r .real .bytes) k at) ∙ ap g (sym one) in
+            let y = ext _ (joined-lt (m .memory) (r .real .bytes) k (at + k)) ∙ ap g (sym two) in
+            rw (f .sum, f .written, x, y)
+            (two-registers s (r .real .registers) wback n t t2 next width (g (Mem address k s)) (g (Mem (Add address k) k s)) (f .apart) other);
+        marks = λ h. rw (f .back) (two-marks wback (w .origin) word address (m .taints) (r .real .marks) (h .from) false k extent (a .written) (f .written));
+        memory = λ h. sym (back-memory wback n next (setX t2 width (g (Mem (Add address k) k s)) (setX t width (g (Mem address k s)) s)));
+      })
+      refl
+
+  two-stores : (k extent : ℕ) → 0 < k → k ≤ 8 → wordAccess word ≡ Moves (transfer true k extent t t2) a → Steps w m PairLine word (stores address (2 * k) (stored k))
+  two-stores k extent p q e =
+      let len = r .real .registers in
+      let after : Arm = withMemory (filled s len k t t2 (address - w .origin)) s in
+      let places : Inside w address (2 * k) → setMem (Add address k) k (X t2 (8 * k) s) (setMem address k (X t (8 * k) s) s) ≡ after =
+      λ h. two-places s len k t t2 address p (h .from) (h .upto) in
+      stores-step w m (r .top) PairLine word (transfer true k extent t t2) a address (2 * k) (stored k)
+      (record {
+        access = e;
+        total = omega arith;
+        mark = f .mark;
+        first = f .first;
+        block = f .block (2 * k) (omega arith) (omega arith);
+        registers = λ h. rw (f .sum, f .written, places h) (sym (back-registers after len wback n next));
+        marks = λ h. rw (f .back) (two-marks wback (w .origin) word address (m .taints) (r .real .marks) (h .from) true k extent (a .written) (f .written));
+        memory = λ h. sym (back-memory wback n next _ ∙ ap (λ (x : Arm). x .memory) (places h));
+      })
+      refl
+
+-- ---- all opcs, L and modes
+
+module _ (w : Window) (m : Machine) (word : ℕ) (wback postindex : Bool) where
+  -- the page, by opc and L
+  abbrev page : ℕ → ℕ → Operation
+  page opc L =
+      let s = armOf w m in
+      let t2 = field 14 10 word in
+      let n = field 9 5 word in
+      let t = field 4 0 word in
+      let scale = 2 + field 1 1 opc in
+      let datasize = 8 * 2 ^ scale in
+      let offset = LSL (SignExtend 7 64 (field 21 15 word)) scale in
+      let dbytes = datasize / 8 in
+      let address = pick postindex (base n s) (Add (base n s) offset) in
+      let next = Add (base n s) offset in
+      let second = Add address dbytes in
+      case (pick (eqb L 1) LOAD STORE)
+      (stores address (2 * dbytes) (back wback n next (setMem second dbytes (X t2 datasize s) (setMem address dbytes (X t datasize s) s))))
+      (loads address (2 * dbytes)
+      (back wback n next
+      (pick (not (eqb (field 0 0 opc) 0))
+      (setX t2 64 (SignExtend datasize 64 (Mem second dbytes s)) (setX t 64 (SignExtend datasize 64 (Mem address dbytes s)) s))
+      (setX t2 datasize (Mem second dbytes s) (setX t datasize (Mem address dbytes s) s)))))
+      hint
+
+  abbrev accessBy : ℕ → ℕ → ℕ → Access
+  accessBy opc L offset =
+      let n = field 9 5 word in
+      Moves (pairTransfer (pairAt (opc * 2 + L)) (field 4 0 word) (field 14 10 word)) (based n offset postindex (pick wback n 32))
+
+  abbrev Paged : ℕ → ℕ → Type 0
+  Paged opc L =
+      wordAccess word ≡ accessBy opc L (twosComplement (signedOf 64 (pairBytes (pairAt (opc * 2 + L))) (field 21 15 word)))
+      → Steps w m PairLine word (page opc L)
+
+module _ (w : Window) (m : Machine) (r : Ready w m) (word : ℕ) where
+  -- imm7 by its scale
+  abbrev scaled : ℕ → ℕ
+  scaled scale = LSL (SignExtend 7 64 (field 21 15 word)) scale
+
+  scaled-is : (scale : ℕ) → scale < 4 → twosComplement (signedOf 64 (2 ^ scale) (field 21 15 word)) ≡ scaled scale
+  scaled-is scale h = sym (offset-is 6 scale (field 21 15 word) (omega arith) (part-lt 15 7 word))
+
+  module _ (wback postindex : Bool) (writing : eqb (field 23 23 word) 1 ≡ wback)
+      (one : wback ≡ true → ¬ (field 9 5 word ≡ zeroSlot (field 4 0 word))) (other : wback ≡ true → ¬ (field 9 5 word ≡ zeroSlot (field 14 10 word))) where
+    form : (offset : ℕ)
+        → let n = field 9 5 word in
+        let next = Add (base n (armOf w m)) offset in
+        Form w m PairLine word (based n offset postindex (pick wback n 32)) false wback (pick postindex (base n (armOf w m)) next) next
+    unfolding misaligned
+    form offset = based-form w m r PairLine word offset postindex wback false writing refl one (λ k x p q. refl)
+
+    store-words : Paged w m word wback postindex 0 0
+    unfolding pairAt pairTransfer part
+    store-words e =
+        two-stores w m r word _ wback _ _ (form (scaled 2)) other 4 4 (omega arith) (omega arith)
+        (e ∙ ap (accessBy w m word wback postindex 0 0) (scaled-is 2 (omega arith)))
+
+    load-words : Paged w m word wback postindex 0 1
+    unfolding pairAt pairTransfer part
+    load-words e =
+        two-loads w m r word _ wback _ _ (form (scaled 2)) other 4 4 32 (λ v. v) (omega arith) (omega arith) (λ v h. extended-none 4 v)
+        (e ∙ ap (accessBy w m word wback postindex 0 1) (scaled-is 2 (omega arith)))
+
+    load-signed : Paged w m word wback postindex 1 1
+    unfolding pairAt pairTransfer part
+    load-signed e =
+        two-loads w m r word _ wback _ _ (form (scaled 2)) other 4 8 64 (SignExtend 32 64) (omega arith) (omega arith) (λ v. extended-is 3 8 v (omega arith))
+        (e ∙ ap (accessBy w m word wback postindex 1 1) (scaled-is 2 (omega arith)))
+
+    store-doubles : Paged w m word wback postindex 2 0
+    unfolding pairAt pairTransfer part
+    store-doubles e =
+        two-stores w m r word _ wback _ _ (form (scaled 3)) other 8 8 (omega arith) (omega arith)
+        (e ∙ ap (accessBy w m word wback postindex 2 0) (scaled-is 3 (omega arith)))
+
+    load-doubles : Paged w m word wback postindex 2 1
+    unfolding pairAt pairTransfer part
+    load-doubles e =
+        two-loads w m r word _ wback _ _ (form (scaled 3)) other 8 8 64 (λ v. v) (omega arith) (omega arith) (λ v h. extended-none 8 v)
+        (e ∙ ap (accessBy w m word wback postindex 2 1) (scaled-is 3 (omega arith)))
+
+    -- a fact of each number of one bit
+    two : (P : ℕ → Type 0) → P 0 → P 1 → (k : ℕ) → k < 2 → P k
+    two P a b zero h = a
+    two P a b (suc zero) h = b
+    two P a b (suc (suc k)) h = absurd (omega arith)
+
+    all : (opc L : ℕ) → opc < 4 → L < 2 → ¬ (opc ≡ 0b11) → (opc ≡ 0b01 → L ≡ 1) → Paged w m word wback postindex opc L
+    all opc L h k =
+        four (λ opc. ¬ (opc ≡ 0b11) → (opc ≡ 0b01 → L ≡ 1) → Paged w m word wback postindex opc L)
+        (λ p q. two (Paged w m word wback postindex 0) store-words load-words L k)
+        (λ p q. rw (q refl) load-signed)
+        (λ p q. two (Paged w m word wback postindex 2) store-doubles load-doubles L k)
+        (λ p q. absurd (p refl))
+        opc h
+
+  -- ---- what the tests of a word say
+
+  known-pair : undefinedPair word ≡ false → ¬ (field 31 30 word ≡ 0b11) × (field 31 30 word ≡ 0b01 → field 22 22 word ≡ 1)
+  unfolding undefinedPair
+  known-pair h =
+      let p = neither (eqb (field 31 30 word) 0b11) _ h in (
+        eqb-false (field 31 30 word) 0b11 (p .0),
+        λ e. loading (eqb (field 22 22 word) 1) (not (eqb (field 24 23 word) 0b00)) refl (rw (eq-eqb (field 31 30 word) 0b01 e) at (p .1)),
+      )
+    where
+      loading : (a b : Bool) → eqb (field 22 22 word) 1 ≡ a → (true && not (a && b)) ≡ false → field 22 22 word ≡ 1
+      loading true b e h = eqb-true (field 22 22 word) 1 e
+      loading false b e h = absurd (never (sym h))
+
+  bases-apart : unpredictablePair word ≡ false → eqb (field 23 23 word) 1 ≡ true
+      → ¬ (field 9 5 word ≡ zeroSlot (field 4 0 word)) × ¬ (field 9 5 word ≡ zeroSlot (field 14 10 word))
+  unfolding unpredictablePair pairBaseIs baseIs
+  bases-apart h b =
+      let p = neither (pairBaseIs word) _ h in
+      let q : (baseIs (field 4 0 word) word || baseIs (field 14 10 word) word) ≡ false = rw b at (p .0) in
+      let z = neither (baseIs (field 4 0 word) word) (baseIs (field 14 10 word) word) q in
+      (apart (field 9 5 word) (field 4 0 word) (part-lt 5 5 word) (z .0), apart (field 9 5 word) (field 14 10 word) (part-lt 5 5 word) (z .1))
+
+  -- bit 23 is the low bit of the mode
+  low-mode : (mode : ℕ) → field 24 23 word ≡ mode → field 23 23 word ≡ mode % 2
+  unfolding part
+  low-mode mode e = omega arith
+
+  -- ---- by mode
+
+  module _ (u : undefinedPair word ≡ false) (v : unpredictablePair word ≡ false) where
+    by : (wback postindex : Bool) → eqb (field 23 23 word) 1 ≡ wback → Paged w m word wback postindex (field 31 30 word) (field 22 22 word)
+    by wback postindex h =
+        let k = known-pair u in
+        all wback postindex h (λ e. bases-apart v (h ∙ e) .0) (λ e. bases-apart v (h ∙ e) .1) (field 31 30 word) (field 22 22 word) (part-lt 30 2 word) (part-lt 22 1 word) (k .0) (k .1)
+
+    abbrev pageIn : ℕ → Operation
+    pageIn mode =
+        let s = armOf w m in
+        pick (eqb mode 0b01) (paired true true word s) (pick (eqb mode 0b11) (paired true false word s) (paired false false word s))
+
+    abbrev accessIn : ℕ → Access
+    accessIn mode =
+        let op = pairOpIn word in
+        Moves (pairTransfer op (field 4 0 word) (field 14 10 word)) (pairedMode (modeAt mode) (field 9 5 word) (twosComplement (signedOf 64 (pairBytes op) (field 21 15 word))))
+
+    modes : (mode : ℕ) → mode < 4 → field 24 23 word ≡ mode → wordAccess word ≡ accessIn mode → Steps w m PairLine word (pageIn mode)
+    unfolding paired pairOpIn modeAt
+    modes =
+        four (λ mode. field 24 23 word ≡ mode → wordAccess word ≡ accessIn mode → Steps w m PairLine word (pageIn mode))
+        (λ f e. by false false (rw (low-mode 0 f)) e)
+        (λ f e. by true true (rw (low-mode 1 f)) e)
+        (λ f e. by false false (rw (low-mode 2 f)) e)
+        (λ f e. by true false (rw (low-mode 3 f)) e)
+
+    pub pair-step : wordAccess word ≡ familyAccess (familyIn PairLine word) → Steps w m PairLine word (pair word (armOf w m))
+    unfolding pair pairAccess pairIn
+    pair-step e = modes (field 24 23 word) (part-lt 23 2 word) refl e

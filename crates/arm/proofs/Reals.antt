@@ -1,0 +1,121 @@
+-- A step leaves a machine that there is (`Real`), where it starts from one; and there is one. Assumes nothing.
+use Prim.Native.Nat.{ℕ, zero, suc, _+_, _-_, _%_, _/_, _^_, _≤_, _<_}
+use mathlib.Core.Path.{_≡_, refl}
+use mathlib.Core.Bool.{Bool, false}
+use mathlib.Core.List.{List, [], _∷_}
+use native.Mathlib.Omega.{arith}
+use lib.Dec.{ltb, eqb}
+use lib.ListN.{length, getD, set, replicate, length-set}
+use lib.Seq.{sets}
+use Rattle.bits.specs.Bytes.{bytesOf, joined, spanOf}
+use Rattle.bits.proofs.Choices.{pick-by}
+use Rattle.memory.specs.Extension.{largest, extendedOf}
+use Rattle.memory.proofs.Spans.{room-64}
+use Rattle.instruction.specs.declared.answer.Answer.{Answer}
+use Rattle.instruction.specs.Answers.{answerNumber}
+use Rattle.instruction.specs.Decoding.{decodeOf, classOf}
+use Rattle.access.specs.declared.transfer.Transfer.{Transfer}
+use Rattle.access.specs.declared.Access.{Access}
+use Rattle.access.specs.declared.Access.the-variants.{Nothing, Moves}
+use Rattle.access.proofs.Bounds.{Bounded, Within, bounded}
+use Rattle.plan.specs.declared.window.Window.{Window}
+use Rattle.plan.specs.declared.Plan.{Plan}
+use Rattle.plan.specs.Address.{sumOf, addressOf}
+use Rattle.plan.specs.Admission.{admitOf}
+use Rattle.plan.specs.Plans.{planOf}
+use Rattle.machine.specs.Rule.{moveRule, wordAccess}
+use Rattle.machine.specs.Machine.{Machine, operandsOf, effectOf}
+use Rattle.machine.specs.Step.{Step, stopped, moved, performOf, accessStep, wordStep, bad, stepOf, performed}
+use Rattle.machine.proofs.Extensions.{room}
+use Rattle.arm.specs.Real.{Real}
+use Rattle.arm.proofs.Places.{joined-lt}
+
+-- ---- lists of numbers below one
+
+abbrev Below : ℕ → List ℕ → Type 0
+Below top xs = (n : ℕ) → getD xs n 0 < top
+
+set-below : {top : ℕ} (xs : List ℕ) (i v : ℕ) → v < top → Below top xs → Below top (set xs i v)
+set-below [] i v h b n = b n
+set-below (x ∷ xs) zero v h b zero = h
+set-below (x ∷ xs) zero v h b (suc n) = b (suc n)
+set-below (x ∷ xs) (suc i) v h b zero = b zero
+set-below (x ∷ xs) (suc i) v h b (suc n) = set-below xs i v h (λ k. b (suc k)) n
+
+bytes-below : (k v at : ℕ) (xs : List ℕ) → Below 256 xs → Below 256 (sets xs at (bytesOf k v))
+unfolding bytesOf
+bytes-below zero v at xs b = b
+bytes-below (suc k) v at xs b = bytes-below k (v / 256) (suc at) (set xs at (v % 256)) (set-below xs at (v % 256) (omega arith) b)
+
+extended-below : (k extent v : ℕ) → k ≤ extent → extent ≤ 8 → v < 256 ^ k → extendedOf k extent v < 2 ^ 64
+unfolding extendedOf
+extended-below k extent v h l b =
+    pick-by (λ (x : ℕ). x < 2 ^ 64) (ltb (largest k / 2) v) (λ e. room k extent v b h l .fits) (λ e. room-64 k (omega arith) b)
+
+-- ---- a step
+
+module _ (m : Machine) (r : Real m) where
+  loaded-below : (k extent at : ℕ) → k ≤ extent → extent ≤ 8 → extendedOf k extent (joined (spanOf (m .memory) at k)) < 2 ^ 64
+  loaded-below k extent at h l = extended-below k extent _ h l (joined-lt (m .memory) (r .bytes) k at)
+
+  real-effect : (t : Transfer) → Bounded t → (written at next : ℕ) → next < 2 ^ 64 → Real (effectOf t written at next m)
+  unfolding effectOf moveRule
+  real-effect t b written at next h =
+      let v : List ℕ = set (m .values) written next in
+      let base = set-below (m .values) written next h (r .values) in
+      let x : ℕ = extendedOf (t .bytes) (t .extent) (joined (spanOf (m .memory) at (t .bytes))) in
+      let one = loaded-below (t .bytes) (t .extent) at (b .wide) (b .extent) in
+      let two = loaded-below (t .more) (t .extent) (at + t .bytes) (b .wider) (b .extent) in
+      let bytes = bytes-below (t .bytes) (getD (m .values) (t .target) 0) at (m .memory) (r .bytes) in
+      record {
+        registers = pick-by (λ (l : List ℕ). length l ≡ 32) (t .store) (λ e. simp length-set (r .registers)) (λ e. simp length-set (r .registers));
+        marks = pick-by (λ (l : List Bool). length l ≡ 32) (t .store) (λ e. simp length-set (r .marks)) (λ e. simp length-set (r .marks));
+        values =
+            pick-by (Below (2 ^ 64)) (t .store) (λ e. base) (λ e. set-below (set v (t .target) x) (t .second) _ two (set-below v (t .target) x one base));
+        bytes = pick-by (Below 256) (t .store) (λ e. bytes-below (t .more) _ (at + t .bytes) _ bytes) (λ e. r .bytes);
+      }
+
+  abbrev pub RealStep : Step Machine → Type 0
+  RealStep (stopped answer address) = Unit {0}
+  RealStep (moved n code address) = Real n
+
+  real-access : (origin : ℕ) (admit : Transfer → ℕ → Answer) (x : Access) → Within x → RealStep (accessStep origin admit x m)
+  unfolding planOf sumOf
+  real-access origin admit Nothing b = record { registers = r .registers; marks = r .marks; values = r .values; bytes = r .bytes }
+  real-access origin admit (Moves t a) b =
+      let o = operandsOf a m in
+      let effect = real-effect t b (a .written) (addressOf a o - origin) (sumOf a o) (omega arith) in
+      pick-by (λ (p : Plan). RealStep (performOf origin t a m p)) (o .tainted) (λ e. tt)
+      (λ e. pick-by (λ (p : Plan). RealStep (performOf origin t a m p)) (eqb (answerNumber (admit t (addressOf a o))) 0) (λ f. effect) (λ f. tt))
+
+  pub real-moved : (w : Window) (word : ℕ) → RealStep (stepOf w word m)
+  unfolding stepOf wordStep
+  real-moved w word =
+      let access = real-access (w .origin) (admitOf w (length (m .memory))) (wordAccess word) (bounded (decodeOf word .instruction)) in
+      pick-by RealStep (bad w m) (λ e. tt) (λ e. pick-by RealStep (eqb (answerNumber (classOf word)) 0) (λ f. access) (λ f. tt))
+
+  performed-real : (s : Step Machine) → RealStep s → Real (performed m s .machine)
+  performed-real (stopped answer address) h = r
+  performed-real (moved n code address) h = h
+
+pub step-real : (w : Window) (word : ℕ) (m : Machine) → Real m → Real (performed m (stepOf w word m) .machine)
+step-real w word m r = performed-real m r (stepOf w word m) (real-moved m r w word)
+
+-- ---- a machine that there is: nothing but zeros
+
+zeros-below : (top k n : ℕ) → 0 < top → getD (replicate k 0) n 0 < top
+zeros-below top zero n h = h
+zeros-below top (suc k) zero h = h
+zeros-below top (suc k) (suc n) h = zeros-below top k n h
+
+abbrev pub cleared : ℕ → Machine
+cleared len = record { values = replicate 32 0; pc = 0; memory = replicate len 0; taints = record { registers = replicate 32 false; bytes = replicate len 0 } }
+
+pub cleared-real : (len : ℕ) → Real (cleared len)
+cleared-real len =
+    record {
+      registers = refl;
+      marks = refl;
+      values = λ n. zeros-below (2 ^ 64) 32 n (omega arith);
+      bytes = λ n. zeros-below 256 len n (omega arith);
+    }

@@ -1,0 +1,235 @@
+-- The pages of one register: what a load and a store leave, once over the width (`one-load`, `one-store`), and then every
+-- size and opc, where both decodes compute (`all-sizes`). Assumes nothing.
+use Prim.Native.Nat.{ℕ, zero, suc, _+_, _-_, _*_, _/_, _^_, _≤_, _<_}
+use mathlib.Core.Path.{_≡_, refl, sym, ap, _∙_}
+use mathlib.Core.Bool.{Bool, true, false}
+use mathlib.Core.List.{List}
+use native.Mathlib.Nat.{sub-self, add-zero}
+use native.Mathlib.Omega.{arith}
+use lib.Dec.{ltb, eqb}
+use lib.ListN.{length, getD, set, length-set}
+use lib.Seq.{sets, set-out, set-comm}
+use Rattle.bits.specs.Choice.{pick}
+use Rattle.bits.specs.Fields.{part, field}
+use Rattle.bits.specs.Bytes.{bytesOf, joined, spanOf}
+use Rattle.registers.specs.File.{zeroSlot}
+use Rattle.memory.specs.Extension.{largest, extendedOf}
+use Rattle.instruction.specs.declared.line.Line.{Line}
+use Rattle.instruction.specs.Operations.{sizedAt}
+use Rattle.access.specs.declared.transfer.Transfer.{Transfer}
+use Rattle.access.specs.declared.addressing.Addressing.{Addressing}
+use Rattle.access.specs.declared.Access.the-variants.{Moves}
+use Rattle.access.specs.Transfers.{extentOf, sizedTransfer}
+use Rattle.access.specs.Accesses.{isPrefetch, sizedAccess}
+use Rattle.plan.specs.declared.window.Window.{Window}
+use Rattle.plan.specs.Address.{sumOf, addressOf}
+use Rattle.plan.specs.Admission.{misaligned}
+use Rattle.machine.specs.Rule.{wordAccess}
+use Rattle.machine.specs.Machine.{Machine, operandsOf}
+use Rattle.arm.specs.Pseudocode.{Arm, MemOp, LOAD, STORE, PREFETCH, Extend, X, setX, setSP, setBase, Mem, setMem, withRegisters, Operation, hint, loads, stores, case}
+use Rattle.arm.specs.Pages.{pageOf}
+use Rattle.arm.specs.Choices.{marked, crosses, armOf}
+use Rattle.arm.proofs.Bits.{zero-extend, extended-is}
+use Rattle.arm.proofs.Places.{x-is, set-x, set-base, mem-is, withMemory, set-mem, low-bytes, joined-lt}
+use Rattle.arm.proofs.Marks.{one-marks}
+use Rattle.arm.proofs.Steps.{Ready, Steps, loads-step, stores-step}
+
+-- a fact of each number of two bits
+pub four : (P : ℕ → Type 0) → P 0 → P 1 → P 2 → P 3 → (k : ℕ) → k < 4 → P k
+four P a b c d zero h = a
+four P a b c d (suc zero) h = b
+four P a b c d (suc (suc zero)) h = c
+four P a b c d (suc (suc (suc zero))) h = d
+four P a b c d (suc (suc (suc (suc k)))) h = absurd (omega arith)
+
+-- ---- writeback
+
+abbrev pub back : Bool → ℕ → ℕ → Arm → Arm
+back wback n next after = pick wback (setBase n next after) after
+
+pub back-registers : (s : Arm) → length (s .registers) ≡ 32 → (wback : Bool) (n next : ℕ) → back wback n next s .registers ≡ set (s .registers) (pick wback n 32) next
+back-registers s len true n next = rw (set-base s len n next)
+back-registers s len false n next = sym (set-out (s .registers) 32 next (omega arith))
+
+pub back-memory : (wback : Bool) (n next : ℕ) (s : Arm) → back wback n next s .memory ≡ s .memory
+unfolding setBase setX
+back-memory false n next s = refl
+back-memory true n next s = go (eqb n 31)
+  where
+    go : (t : Bool) → pick t (setSP next s) (setX n 64 next s) .memory ≡ s .memory
+    go true = refl
+    go false = refl
+
+-- ---- registers and memory after an access
+
+module _ (s : Arm) (len : length (s .registers) ≡ 32) where
+  load-registers : (wback : Bool) (n t next width loaded : ℕ) → (wback ≡ true → ¬ (n ≡ zeroSlot t))
+      → set (set (s .registers) (pick wback n 32) next) (zeroSlot t) loaded ≡ back wback n next (setX t width loaded s) .registers
+  load-registers true n t next width loaded h =
+      let r : List ℕ = set (s .registers) (zeroSlot t) loaded in
+      let l : length r ≡ 32 = simp length-set len in
+      rw (set-x s len t width loaded, set-base (withRegisters r s) l n next) (set-comm (s .registers) n (zeroSlot t) next loaded (h refl))
+  load-registers false n t next width loaded h = rw (set-x s len t width loaded, set-out (s .registers) 32 next (omega arith))
+
+  -- with the machine's own numbers, and its second register, which is none
+  load-all : (wback : Bool) (n t next width : ℕ) {written sum loaded extended : ℕ} (more : ℕ) → written ≡ pick wback n 32 → sum ≡ next → extended ≡ loaded
+      → (wback ≡ true → ¬ (n ≡ zeroSlot t))
+      → set (set (set (s .registers) written sum) (zeroSlot t) extended) 32 more ≡ back wback n next (setX t width loaded s) .registers
+  load-all wback n t next width {written} {sum} {loaded} {extended} more p q e h =
+      let all : List ℕ = set (set (s .registers) written sum) (zeroSlot t) extended in
+      let l : length all ≡ 32 = simp length-set len in
+      let o : length all ≤ 32 = omega arith in
+      set-out all 32 more o ∙ rw (p, q, e) (load-registers wback n t next width loaded h)
+
+  module _ (k address : ℕ) (h : s .origin ≤ address) (u : address + k ≤ 2 ^ 64) where
+    store-memory : (t : ℕ) → 0 < k → sets (s .memory) (address - s .origin) (bytesOf k (getD (s .registers) (zeroSlot t) 0)) ≡ setMem address k (X t (8 * k) s) s .memory
+    store-memory t p = rw (set-mem s k address (X t (8 * k) s) h u, x-is s len t (8 * k) (omega arith), low-bytes k)
+
+    store-registers : (wback : Bool) (n next v : ℕ) {written sum : ℕ} → written ≡ pick wback n 32 → sum ≡ next
+        → set (s .registers) written sum ≡ back wback n next (setMem address k v s) .registers
+    store-registers wback n next v p q =
+        let b : List ℕ = sets (s .memory) (address - s .origin) (bytesOf k v) in
+        rw (p, q, set-mem s k address v h u) (sym (back-registers (withMemory b s) len wback n next))
+
+-- what needs no extension
+pub extended-none : (k v : ℕ) → extendedOf k k v ≡ v
+unfolding extendedOf
+extended-none k v = rw (sub-self (largest k), add-zero v) (go (ltb (largest k / 2) v))
+  where
+    go : (t : Bool) → pick t v v ≡ v
+    go true = refl
+    go false = refl
+
+zeros : (k width v : ℕ) → v < 256 ^ k → extendedOf k k v ≡ Extend false (8 * k) width v
+zeros k width v h = rw (zero-extend (8 * k) width v) (extended-none k v)
+
+-- ---- one access
+
+-- what the addressing of an access and a page agree on, with the address and the number to write back
+pub record Form (w : Window) (m : Machine) (l : Line) (word : ℕ) (a : Addressing) (ordered wback : Bool) (address next : ℕ) : Type 0 where
+  pub mark : operandsOf a m .tainted ≡ marked (pageOf l word) word m
+  pub first : addressOf a (operandsOf a m) ≡ address
+  pub sum : sumOf a (operandsOf a m) ≡ next
+  pub written : a .written ≡ pick wback (field 9 5 word) 32
+  pub back : pageOf l word .wback ≡ wback
+  pub apart : wback ≡ true → ¬ (field 9 5 word ≡ zeroSlot (field 4 0 word))
+  pub block : (k : ℕ) → 0 < k → k ≤ 16 → misaligned ordered k address ≡ crosses (pageOf l word) address k
+
+abbrev transfer : Bool → Bool → ℕ → ℕ → ℕ → Transfer
+transfer store ordered bytes extent t =
+    record { store = store; ordered = ordered; bytes = bytes; more = 0; extent = extent; target = zeroSlot t; second = 32 }
+
+module _ (w : Window) (m : Machine) (r : Ready w m) (l : Line) (word : ℕ) (a : Addressing) (ordered wback : Bool) (address next : ℕ)
+    (f : Form w m l word a ordered wback address next) (single : pageOf l word .paired ≡ false) where
+  abbrev s : Arm
+  s = armOf w m
+
+  abbrev n : ℕ
+  n = field 9 5 word
+
+  abbrev t : ℕ
+  t = field 4 0 word
+
+  abbrev loaded : ℕ → ℕ → (ℕ → ℕ) → Arm
+  loaded k width g = back wback n next (setX t width (g (Mem address k s)) s)
+
+  abbrev stored : ℕ → Arm
+  stored k = back wback n next (setMem address k (X t (8 * k) s) s)
+
+  pub one-load : (k extent width : ℕ) (g : ℕ → ℕ) → 0 < k → k ≤ 16 → ((v : ℕ) → v < 256 ^ k → extendedOf k extent v ≡ g v)
+      → wordAccess word ≡ Moves (transfer false ordered k extent t) a → Steps w m l word (loads address k (loaded k width g))
+  unfolding setX
+  one-load k extent width g p q ext e =
+      loads-step w m (r .top) l word (transfer false ordered k extent t) a address k (loaded k width g)
+      (record {
+        access = e;
+        total = add-zero k;
+        mark = f .mark;
+        first = f .first;
+        block = f .block k p q;
+        registers =
+            λ h.
+            let at = address - w .origin in
+            let v : ℕ = joined (spanOf (m .memory) at k) in
+            let x : extendedOf k extent v ≡ g (Mem address k s) =
+            ext v (joined-lt (m .memory) (r .real .bytes) k at) ∙ ap g (sym (mem-is s k address (h .from) (h .upto))) in
+            load-all s (r .real .registers) wback n t next width _ (f .written) (f .sum) x (f .apart);
+        marks =
+            λ h.
+            rw (single, f .back) (one-marks wback (w .origin) word address (m .taints) (r .real .marks) (h .from) false ordered k extent (a .written) (f .written));
+        memory = λ h. sym (back-memory wback n next (setX t width (g (Mem address k s)) s));
+      })
+      refl
+
+  pub one-store : (k extent : ℕ) → 0 < k → k ≤ 16 → wordAccess word ≡ Moves (transfer true ordered k extent t) a → Steps w m l word (stores address k (stored k))
+  unfolding bytesOf
+  one-store k extent p q e =
+      stores-step w m (r .top) l word (transfer true ordered k extent t) a address k (stored k)
+      (record {
+        access = e;
+        total = add-zero k;
+        mark = f .mark;
+        first = f .first;
+        block = f .block k p q;
+        registers = λ h. store-registers s (r .real .registers) k address (h .from) (h .upto) wback n next _ (f .written) (f .sum);
+        marks =
+            λ h.
+            rw (single, f .back) (one-marks wback (w .origin) word address (m .taints) (r .real .marks) (h .from) true ordered k extent (a .written) (f .written));
+        memory = λ h. store-memory s (r .real .registers) k address (h .from) (h .upto) t p ∙ sym (back-memory wback n next _);
+      })
+      refl
+
+  -- ---- all sizes and opcs
+
+  -- the page, by size and opc
+  abbrev page : ℕ → ℕ → Operation
+  page size opc =
+      let signed = eqb (field 1 1 opc) 1 in
+      let memop : MemOp = pick signed (pick (eqb size 0b11) PREFETCH LOAD) (pick (eqb (field 0 0 opc) 1) LOAD STORE) in
+      let regsize : ℕ = pick signed (pick (eqb (field 0 0 opc) 1) 32 64) (pick (eqb size 0b11) 64 32) in
+      let datasize = 8 * 2 ^ size in
+      case memop
+      (stores address (datasize / 8) (back wback n next (setMem address (datasize / 8) (X t datasize s) s)))
+      (loads address (datasize / 8) (back wback n next (setX t regsize (Extend signed datasize regsize (Mem address (datasize / 8) s)) s)))
+      hint
+
+  abbrev Paged : ℕ → ℕ → Type 0
+  Paged size opc =
+      ¬ (size * 4 + opc ≡ 0b10_11) → ¬ (size * 4 + opc ≡ 0b11_11)
+      → wordAccess word ≡ sizedAccess (sizedAt (size * 4 + opc)) t ordered a → Steps w m l word (page size opc)
+
+  pub all-sizes : (size opc : ℕ) → size < 4 → opc < 4 → Paged size opc
+  unfolding sizedAccess sizedTransfer extentOf sizedAt isPrefetch part
+  all-sizes size opc h k = four (λ s. Paged s opc) (bytes opc k) (halves opc k) (words opc k) (doubles opc k) size h
+    where
+      bytes : (opc : ℕ) → opc < 4 → Paged 0 opc
+      bytes =
+          four (Paged 0)
+          (λ p q e. one-store 1 1 (omega arith) (omega arith) e)
+          (λ p q e. one-load 1 1 32 (Extend false 8 32) (omega arith) (omega arith) (zeros 1 32) e)
+          (λ p q e. one-load 1 8 64 (Extend true 8 64) (omega arith) (omega arith) (λ v. extended-is 0 8 v (omega arith)) e)
+          (λ p q e. one-load 1 4 32 (Extend true 8 32) (omega arith) (omega arith) (λ v. extended-is 0 4 v (omega arith)) e)
+
+      halves : (opc : ℕ) → opc < 4 → Paged 1 opc
+      halves =
+          four (Paged 1)
+          (λ p q e. one-store 2 2 (omega arith) (omega arith) e)
+          (λ p q e. one-load 2 2 32 (Extend false 16 32) (omega arith) (omega arith) (zeros 2 32) e)
+          (λ p q e. one-load 2 8 64 (Extend true 16 64) (omega arith) (omega arith) (λ v. extended-is 1 8 v (omega arith)) e)
+          (λ p q e. one-load 2 4 32 (Extend true 16 32) (omega arith) (omega arith) (λ v. extended-is 1 4 v (omega arith)) e)
+
+      words : (opc : ℕ) → opc < 4 → Paged 2 opc
+      words =
+          four (Paged 2)
+          (λ p q e. one-store 4 4 (omega arith) (omega arith) e)
+          (λ p q e. one-load 4 4 32 (Extend false 32 32) (omega arith) (omega arith) (zeros 4 32) e)
+          (λ p q e. one-load 4 8 64 (Extend true 32 64) (omega arith) (omega arith) (λ v. extended-is 3 8 v (omega arith)) e)
+          (λ p q e. absurd (p refl))
+
+      doubles : (opc : ℕ) → opc < 4 → Paged 3 opc
+      doubles =
+          four (Paged 3)
+          (λ p q e. one-store 8 8 (omega arith) (omega arith) e)
+          (λ p q e. one-load 8 8 64 (Extend false 64 64) (omega arith) (omega arith) (zeros 8 64) e)
+          (λ p q e. rw e)
+          (λ p q e. absurd (q refl))

@@ -1,0 +1,176 @@
+-- The step of one access is that of a page, from a record of what the two agree on (`Agreed`): the tests by cases, then the
+-- effect. `loads-step` and `stores-step` are what the families use. Assumes nothing.
+use Prim.Native.Nat.{ℕ, _+_, _-_, _/_, _%_, _^_, _≤_, _<_}
+use mathlib.Core.Path.{_≡_, refl, ap, _∙_}
+use mathlib.Core.Bool.{Bool, true, false, _&&_, not}
+use native.Mathlib.Omega.{arith}
+use lib.Dec.{ltb, leb, eqb}
+use lib.ListN.{length}
+use borrow.Author.Tests.{ltb-true, ltb-false, lt-ltb, le-ltb, leb-true, leb-false, eqb-true, eqb-false, not-false}
+use Rattle.bits.specs.Choice.{pick}
+use Rattle.bits.proofs.Choices.{both}
+use Rattle.instruction.specs.declared.answer.Answer.the-variants.{Done, TaintedAddress, Misaligned, OutOfWindow, ReadOnly}
+use Rattle.instruction.specs.declared.line.Line.{Line}
+use Rattle.access.specs.declared.transfer.Transfer.{Transfer}
+use Rattle.access.specs.declared.addressing.Addressing.{Addressing}
+use Rattle.access.specs.declared.Access.the-variants.{Moves}
+use Rattle.plan.specs.declared.window.Window.{Window}
+use Rattle.plan.specs.declared.Plan.the-variants.{Refuse}
+use Rattle.plan.specs.Address.{sumOf, addressOf}
+use Rattle.plan.specs.Admission.{totalOf, misaligned, outside, guarded, admitOf}
+use Rattle.plan.specs.Plans.{admitted, planOf}
+use Rattle.plan.proofs.Tests.{same-test}
+use Rattle.machine.specs.Rule.{moveRule, wordAccess}
+use Rattle.machine.specs.Machine.{Machine, operandsOf, basedValues, loadedValues, storedBytes, effectOf, codeOf}
+use Rattle.machine.specs.Step.{Step, stopped, moved, performOf, accessStep}
+use Rattle.arm.specs.Pseudocode.{Arm, Operation, loads, stores}
+use Rattle.arm.specs.Marks.{marksOf}
+use Rattle.arm.specs.Pages.{pageOf}
+use Rattle.arm.specs.Choices.{marked, crosses, outOf, shut, leaves, chosen}
+use Rattle.arm.specs.Real.{Real}
+
+-- a machine that there is, in a window that answer 1 passes
+pub record Ready (w : Window) (m : Machine) : Type 0 where
+  pub real : Real m
+  pub top : w .origin + length (m .memory) ≤ 2 ^ 64
+
+-- an access in a window, none of whose addresses wraps
+pub record Inside (w : Window) (address size : ℕ) : Type 0 where
+  pub from : w .origin ≤ address
+  pub upto : address + size ≤ 2 ^ 64
+
+-- ---- the tests
+
+not-le : (a b : ℕ) → ltb a b ≡ not (leb b a)
+not-le a b = go (leb b a) refl
+  where
+    go : (t : Bool) → leb b a ≡ t → ltb a b ≡ not t
+    go true e = le-ltb a b (leb-true b a e)
+    go false e = lt-ltb a b (leb-false b a e)
+
+out-is : (w : Window) (m : Machine) (address size : ℕ) → outside size address (w .origin) (length (m .memory)) ≡ outOf w m address size
+unfolding outside
+out-is w m address size =
+    rw (not-le address (w .origin), not-le (w .origin + length (m .memory)) (address + size))
+    (go (leb (w .origin) address) (leb (address + size) (w .origin + length (m .memory))))
+  where
+    go : (p q : Bool) → pick (not p) true (not q) ≡ not (p && q)
+    go true q = refl
+    go false q = refl
+
+inside : (w : Window) (m : Machine) (address size : ℕ) → w .origin + length (m .memory) ≤ 2 ^ 64 → outOf w m address size ≡ false → Inside w address size
+inside w m address size top o =
+    let p = both (leb (w .origin) address) (leb (address + size) (w .origin + length (m .memory))) (not-false _ o) in
+    record {
+      from = leb-true (w .origin) address (p .0);
+      upto = omega (arith, leb-true (address + size) (w .origin + length (m .memory)) (p .1));
+    }
+
+guard-is : (w : Window) (store : Bool) (address : ℕ) → w .origin ≤ address → guarded store address w ≡ shut w store address
+unfolding guarded
+guard-is w false address h = refl
+guard-is w true address h = same-test address (w .origin + w .readonly) (address - w .origin) (w .readonly) (λ k. omega arith) (λ k. omega arith)
+
+pub same-block : (a n : ℕ) → 0 < n → n ≤ 16 → ltb 16 (a % 16 + n) ≡ not (eqb (a / 16) ((a + n - 1) / 16))
+same-block a n h k = go (ltb 16 (a % 16 + n)) refl (eqb (a / 16) ((a + n - 1) / 16)) refl
+  where
+    go : (t : Bool) → ltb 16 (a % 16 + n) ≡ t → (b : Bool) → eqb (a / 16) ((a + n - 1) / 16) ≡ b → t ≡ not b
+    go true e true f = absurd (omega (arith, ltb-true 16 (a % 16 + n) e, eqb-true (a / 16) ((a + n - 1) / 16) f))
+    go true e false f = refl
+    go false e true f = refl
+    go false e false f = absurd (eqb-false (a / 16) ((a + n - 1) / 16) f (omega (arith, ltb-false 16 (a % 16 + n) e)))
+
+-- ---- the plan
+
+module _ (origin : ℕ) (t : Transfer) (a : Addressing) (m n : Machine) (x s : ℕ) where
+  planned : (tainted across out guard test : Bool) → (out ≡ false → guard ≡ test) → (out ≡ false → effectOf t (a .written) (x - origin) s m ≡ n)
+      → let answer = pick across Misaligned (pick out OutOfWindow (pick guard ReadOnly Done)) in
+      performOf origin t a m (pick tainted (Refuse TaintedAddress 0) (admitted answer x s))
+      ≡ pick tainted (stopped TaintedAddress 0)
+      (pick across (stopped Misaligned x)
+      (pick out (stopped OutOfWindow x)
+      (pick test (stopped ReadOnly x)
+      (moved n (codeOf t) x))))
+  planned true across out guard test g f = refl
+  planned false true out guard test g f = refl
+  planned false false true guard test g f = refl
+  planned false false false true test g f = rw (← g refl)
+  planned false false false false test g f = rw (← g refl, f refl)
+
+same-plan : (F : Bool → Bool → Bool → ℕ → Step Machine) {p p′ q q′ r r′ : Bool} {x x′ : ℕ} → p ≡ p′ → q ≡ q′ → r ≡ r′ → x ≡ x′
+    → F p q r x ≡ F p′ q′ r′ x′
+same-plan F e f g h = rw (e, f, g, h)
+
+-- the step of a word is that of its page
+abbrev pub Steps : Window → Machine → Line → ℕ → Operation → Type 0
+Steps w m l word o = accessStep (w .origin) (admitOf w (length (m .memory))) (wordAccess word) m ≡ chosen w word m (pageOf l word) o
+
+-- what an access and a page agree on
+pub record Agreed (w : Window) (m : Machine) (l : Line) (word : ℕ) (t : Transfer) (a : Addressing) (address size : ℕ) (after : Arm) : Type 0 where
+  pub access : wordAccess word ≡ Moves t a
+  pub total : totalOf t ≡ size
+  pub mark : operandsOf a m .tainted ≡ marked (pageOf l word) word m
+  pub first : addressOf a (operandsOf a m) ≡ address
+  pub block : misaligned (t .ordered) size address ≡ crosses (pageOf l word) address size
+  pub registers : Inside w address size
+      → let based = basedValues (a .written) (sumOf a (operandsOf a m)) (m .values) in
+      pick (t .store) based (loadedValues t (address - w .origin) based (m .memory)) ≡ after .registers
+  pub marks : Inside w address size
+      → moveRule t (a .written) (address - w .origin) (m .taints)
+      ≡ marksOf (pageOf l word .paired) (pageOf l word .wback) (t .store) (w .origin) word address size (m .taints)
+  pub memory : Inside w address size → pick (t .store) (storedBytes t (address - w .origin) (m .values) (m .memory)) (m .memory) ≡ after .memory
+
+module _ (w : Window) (m : Machine) (top : w .origin + length (m .memory) ≤ 2 ^ 64) (l : Line) (word : ℕ) (t : Transfer) (a : Addressing)
+    (address size : ℕ) (after : Arm) (g : Agreed w m l word t a address size after) where
+  abbrev o : Bool
+  o = outOf w m address size
+
+  abbrev left : Machine
+  left = leaves w word m (pageOf l word) (t .store) address size after
+
+  effect : o ≡ false → effectOf t (a .written) (address - w .origin) (sumOf a (operandsOf a m)) m ≡ left
+  unfolding effectOf
+  effect e =
+      let h = inside w m address size top e in
+      rw (g .registers h, g .memory h, g .marks h)
+
+  guard : o ≡ false → guarded (t .store) address w ≡ shut w (t .store) address
+  guard e = guard-is w (t .store) address (inside w m address size top e .from)
+
+  -- the tests of the plan, each at the page's address and bytes
+  across : misaligned (t .ordered) (totalOf t) (addressOf a (operandsOf a m)) ≡ crosses (pageOf l word) address size
+  across =
+      ap (λ (x : ℕ). misaligned (t .ordered) (totalOf t) x) (g .first)
+      ∙ ap (λ (k : ℕ). misaligned (t .ordered) k address) (g .total)
+      ∙ g .block
+
+  out : outside (totalOf t) (addressOf a (operandsOf a m)) (w .origin) (length (m .memory)) ≡ o
+  out =
+      ap (λ (x : ℕ). outside (totalOf t) x (w .origin) (length (m .memory))) (g .first)
+      ∙ ap (λ (k : ℕ). outside k address (w .origin) (length (m .memory))) (g .total)
+      ∙ out-is w m address size
+
+  step : accessStep (w .origin) (admitOf w (length (m .memory))) (wordAccess word) m
+      ≡ pick (marked (pageOf l word) word m) (stopped TaintedAddress 0)
+      (pick (crosses (pageOf l word) address size) (stopped Misaligned address)
+      (pick o (stopped OutOfWindow address)
+      (pick (shut w (t .store) address) (stopped ReadOnly address)
+      (moved left (codeOf t) address))))
+  unfolding planOf admitOf
+  step =
+      let next = sumOf a (operandsOf a m) in
+      ap (λ x. accessStep (w .origin) (admitOf w (length (m .memory))) x m) (g .access)
+      ∙ same-plan
+      (λ tainted across out x.
+      performOf (w .origin) t a m
+      (pick tainted (Refuse TaintedAddress 0)
+      (admitted (pick across Misaligned (pick out OutOfWindow (pick (guarded (t .store) x w) ReadOnly Done))) x next)))
+      (g .mark) across out (g .first)
+      ∙ planned (w .origin) t a m left address next (marked (pageOf l word) word m) (crosses (pageOf l word) address size) o
+      (guarded (t .store) address w) (shut w (t .store) address) guard effect
+
+  pub loads-step : t .store ≡ false → Steps w m l word (loads address size after)
+  loads-step e = rw (g .total, e) at step
+
+  pub stores-step : t .store ≡ true → Steps w m l word (stores address size after)
+  stores-step e = rw (g .total, e) at step

@@ -1,0 +1,82 @@
+-- A step by Arm's pages, with what 01 decides where Arm leaves a choice: "Answer numbers", 1 to 8 in their order and in
+-- 01's words. Where Arm says undefined or unpredictable, 01's tables of words (instruction/specs) decide before the page.
+use Prim.Native.Nat.{ℕ, _+_, _-_, _/_, _%_, _^_}
+use mathlib.Core.Bool.{Bool, false, _&&_, _||_, not}
+use lib.Dec.{eqb, ltb, leb}
+use lib.ListN.{length, getD}
+use Rattle.bits.specs.Choice.{pick}
+use Rattle.bits.specs.Fields.{field}
+use Rattle.instruction.specs.declared.answer.Answer.the-variants.{BadWindow, NotInSet, Undefined, Unpredictable, TaintedAddress, Misaligned, OutOfWindow, ReadOnly}
+use Rattle.instruction.specs.Table.{lineOf, inSet}
+use Rattle.instruction.specs.Undefined.{undefined}
+use Rattle.instruction.specs.Unpredictable.{unpredictable}
+use Rattle.plan.specs.declared.window.Window.{Window}
+use Rattle.machine.specs.Machine.{Machine}
+use Rattle.machine.specs.Step.{Step, stopped, moved}
+use Rattle.arm.specs.Pseudocode.{Arm, Operation, hint, access}
+use Rattle.arm.specs.Pages.{Page, pageOf}
+use Rattle.arm.specs.Marks.{mark, marksOf}
+
+-- 1: origin + len above 2^64, r above len, mark length not len, or PC not a multiple of 4
+unfoldable pub badStart : Window → Machine → Bool
+badStart w m =
+    ltb (2 ^ 64) (w .origin + length (m .memory))
+    || ltb (length (m .memory)) (w .readonly)
+    || not (eqb (length (m .taints .bytes)) (length (m .memory)))
+    || not (eqb (m .pc % 4) 0)
+
+-- 5: base or index register marked (not for prefetch or literal)
+abbrev pub marked : Page → ℕ → Machine → Bool
+marked page word m =
+    (page .based && getD (m .taints .registers) (field 9 5 word) false)
+    || (page .indexed && mark (field 20 16 word) (m .taints .registers))
+
+-- 6: ordered access not wholly inside one 16-byte aligned block: its first and its last byte are in two
+abbrev pub crosses : Page → ℕ → ℕ → Bool
+crosses page address size = page .ordered && not (eqb (address / 16) ((address + size - 1) / 16))
+
+-- 7: access, as whole numbers, not inside origin to origin + len
+abbrev pub outOf : Window → Machine → ℕ → ℕ → Bool
+outOf w m address size = not (leb (w .origin) address && leb (address + size) (w .origin + length (m .memory)))
+
+-- 8: store touching the first r bytes: its first byte is one of them
+abbrev pub shut : Window → Bool → ℕ → Bool
+shut w store address = store && ltb (address - w .origin) (w .readonly)
+
+-- "A successful step sets PC to PC + 4 modulo 2^64"
+abbrev pub after : ℕ → ℕ
+after pc = (pc + 4) % 2 ^ 64
+
+-- what a page leaves, with the marks of 01's rule
+abbrev pub leaves : Window → ℕ → Machine → Page → Bool → ℕ → ℕ → Arm → Machine
+leaves w word m page store address size s =
+    record {
+      values = s .registers;
+      pc = after (m .pc);
+      memory = s .memory;
+      taints = marksOf (page .paired) (page .wback) store (w .origin) word address size (m .taints);
+    }
+
+-- a prefetch changes nothing but PC, with code and address 0. An access has 5 to 8 before it; its code is the bytes touched,
+-- plus 64 for a store
+abbrev pub chosen : Window → ℕ → Machine → Page → Operation → Step Machine
+chosen w word m page hint = moved (record { values = m .values; pc = after (m .pc); memory = m .memory; taints = m .taints }) 0 0
+chosen w word m page (access store address size s) =
+    pick (marked page word m) (stopped TaintedAddress 0)
+    (pick (crosses page address size) (stopped Misaligned address)
+    (pick (outOf w m address size) (stopped OutOfWindow address)
+    (pick (shut w store address) (stopped ReadOnly address)
+    (moved (leaves w word m page store address size s) (size + pick store 64 0) address))))
+
+abbrev pub armOf : Window → Machine → Arm
+armOf w m = record { registers = m .values; pc = m .pc; origin = w .origin; memory = m .memory }
+
+-- 1 to 4, then the page of the word's line
+unfoldable pub armStep : Window → ℕ → Machine → Step Machine
+armStep w word m =
+    let page = pageOf (lineOf word) word in
+    pick (badStart w m) (stopped BadWindow 0)
+    (pick (not (inSet word)) (stopped NotInSet 0)
+    (pick (undefined word) (stopped Undefined 0)
+    (pick (unpredictable word) (stopped Unpredictable 0)
+    (chosen w word m page (page .operation word (armOf w m))))))

@@ -1,0 +1,11 @@
+pub mod Pseudocode
+pub mod Unscaled
+pub mod Ordered
+pub mod Immediate
+pub mod Indexed
+pub mod Literal
+pub mod Pair
+pub mod Marks
+pub mod Pages
+pub mod Choices
+pub mod Real

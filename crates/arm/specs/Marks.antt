@@ -1,0 +1,40 @@
+-- 01's rule of marks, "Memory, marks and the trace", for the registers that a word names and the bytes that its page touches.
+use Prim.Native.Nat.{ℕ, zero, suc, _+_, _-_, _/_}
+use mathlib.Core.Bool.{Bool, false, not, _||_}
+use mathlib.Core.List.{List}
+use lib.Dec.{eqb}
+use lib.ListN.{getD, set}
+use Rattle.bits.specs.Choice.{pick}
+use Rattle.bits.specs.Fields.{field}
+use Rattle.machine.specs.Rule.{Taints}
+
+-- the mark of Rt, Rt2 or Rm: 31 is the zero register, which has none
+abbrev pub mark : ℕ → List Bool → Bool
+mark n u = pick (eqb n 31) false (getD u n false)
+
+abbrev pub setMark : ℕ → Bool → List Bool → List Bool
+setMark n b u = pick (eqb n 31) u (set u n b)
+
+-- whether one of n bytes is marked, and n bytes marked or not
+unfoldable pub anyMarked : ℕ → ℕ → ℕ → List ℕ → Bool
+anyMarked origin address zero k = false
+anyMarked origin address (suc n) k = not (eqb (getD k (address - origin) 0) 0) || anyMarked origin (address + 1) n k
+
+unfoldable pub setMarks : ℕ → ℕ → ℕ → Bool → List ℕ → List ℕ
+setMarks origin address zero b k = k
+setMarks origin address (suc n) b k = setMarks origin (address + 1) n b (set k (address - origin) (pick b 1 0))
+
+-- writeback leaves the base unmarked; a load marks each register exactly if one of its own bytes was; a store marks each
+-- byte exactly if its register was. A pair has half the bytes for each register, Rt first
+unfoldable pub marksOf : Bool → Bool → Bool → ℕ → ℕ → ℕ → ℕ → Taints → Taints
+marksOf paired wback store origin word address size p =
+    let t = field 4 0 word in
+    let t2 = field 14 10 word in
+    let each = pick paired (size / 2) size in
+    let u = pick wback (set (p .registers) (field 9 5 word) false) (p .registers) in
+    let loaded = setMark t (anyMarked origin address each (p .bytes)) u in
+    let stored = setMarks origin address each (mark t (p .registers)) (p .bytes) in
+    record {
+      registers = pick store u (pick paired (setMark t2 (anyMarked origin (address + each) each (p .bytes)) loaded) loaded);
+      bytes = pick store (pick paired (setMarks origin (address + each) each (mark t2 (p .registers)) stored) stored) (p .bytes);
+    }

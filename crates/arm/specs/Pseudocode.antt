@@ -1,0 +1,114 @@
+-- The notions that Arm's pages share, written from their meaning (DDI 0602, "Shared Pseudocode"). The names with capitals
+-- are Arm's. Bits of a given width are a number, whose width is said where it matters; bits hi to lo of x are `field hi lo x`.
+use Prim.Native.Nat.{ℕ, zero, suc, _+_, _-_, _*_, _/_, _^_}
+use mathlib.Core.Bool.{Bool, true, false}
+use mathlib.Core.List.{List}
+use lib.Dec.{eqb, ltb}
+use lib.ListN.{getD, set}
+use Rattle.bits.specs.Choice.{pick}
+use Rattle.bits.specs.Fields.{field}
+
+-- ---- bits
+
+-- n copies of one bit
+abbrev pub Replicate : ℕ → ℕ → ℕ
+Replicate bit zero = 0
+Replicate bit (suc n) = bit + Replicate bit n * 2
+
+-- x above the n bits of y
+abbrev pub Concat : ℕ → ℕ → ℕ → ℕ
+Concat x n y = x * 2 ^ n + y
+
+-- x, of `from` bits, with `to` bits: above it stand copies of its top bit, or zeros
+unfoldable pub SignExtend : ℕ → ℕ → ℕ → ℕ
+SignExtend from to x = Concat (Replicate (field (from - 1) (from - 1) x) (to - from)) from x
+
+unfoldable pub ZeroExtend : ℕ → ℕ → ℕ → ℕ
+ZeroExtend from to x = Concat (Replicate 0 (to - from)) from x
+
+abbrev pub Extend : Bool → ℕ → ℕ → ℕ → ℕ
+Extend signed from to x = pick signed (SignExtend from to x) (ZeroExtend from to x)
+
+-- 64 bits shifted left, and the sum of 64 bits
+unfoldable pub LSL : ℕ → ℕ → ℕ
+LSL x n = field 63 0 (x * 2 ^ n)
+
+unfoldable pub Add : ℕ → ℕ → ℕ
+Add x y = field 63 0 (x + y)
+
+-- ---- registers and memory
+
+-- what the pages read and write: X0 to X30 and then SP; the program counter; and bytes, the first at address `origin`
+pub record Arm : Type 0 where
+  pub registers : List ℕ
+  pub pc : ℕ
+  pub origin : ℕ
+  pub memory : List ℕ
+
+abbrev pub withRegisters : List ℕ → Arm → Arm
+withRegisters r s = record { registers = r; pc = s .pc; origin = s .origin; memory = s .memory }
+
+-- the low bits of X0 to X30, and zeros for 31
+unfoldable pub X : ℕ → ℕ → Arm → ℕ
+X n width s = pick (eqb n 31) 0 (field (width - 1) 0 (getD (s .registers) n 0))
+
+-- writing fewer than 64 bits clears those above; what is written to 31 is dropped
+unfoldable pub setX : ℕ → ℕ → ℕ → Arm → Arm
+setX n width v s = withRegisters (pick (eqb n 31) (s .registers) (set (s .registers) n (ZeroExtend width 64 v))) s
+
+abbrev pub SP : Arm → ℕ
+SP s = getD (s .registers) 31 0
+
+abbrev pub setSP : ℕ → Arm → Arm
+setSP v s = withRegisters (set (s .registers) 31 v) s
+
+-- register n as a base, where 31 is SP. Its alignment is not tested: 01 takes the system's switch for that as off
+unfoldable pub base : ℕ → Arm → ℕ
+base n s = pick (eqb n 31) (SP s) (X n 64 s)
+
+unfoldable pub setBase : ℕ → ℕ → Arm → Arm
+setBase n v s = pick (eqb n 31) (setSP v s) (setX n 64 v s)
+
+-- the bytes from an address on, the lowest at the lowest address
+unfoldable pub Mem : ℕ → ℕ → Arm → ℕ
+Mem address zero s = 0
+Mem address (suc n) s = Concat (Mem (Add address 1) n s) 8 (getD (s .memory) (address - s .origin) 0)
+
+abbrev pub setByte : ℕ → ℕ → Arm → Arm
+setByte address b s = record { registers = s .registers; pc = s .pc; origin = s .origin; memory = set (s .memory) (address - s .origin) b }
+
+unfoldable pub setMem : ℕ → ℕ → ℕ → Arm → Arm
+setMem address zero v s = s
+setMem address (suc n) v s = setMem (Add address 1) n (v / 2 ^ 8) (setByte address (field 7 0 v) s)
+
+-- an index: the low bits of Xm, of which `option` gives the number and the sign, above `shift` zeros. They are never more
+-- than have room
+unfoldable pub ExtendReg : ℕ → ℕ → ℕ → Arm → ℕ
+ExtendReg m option shift s =
+    let length = 8 * 2 ^ field 1 0 option in
+    let len = pick (ltb (64 - shift) length) (64 - shift) length in
+    Extend (eqb (field 2 2 option) 1) (len + shift) 64 (Concat (field (len - 1) 0 (X m 64 s)) shift 0)
+
+-- ---- what a page does
+
+pub data MemOp : Type 0 where
+  LOAD : MemOp
+  STORE : MemOp
+  PREFETCH : MemOp
+
+-- a hint, which changes nothing; or one access, a store or not, by the address of its first byte, its bytes, and the state
+-- that it leaves
+pub data Operation : Type 0 where
+  hint : Operation
+  access : Bool → ℕ → ℕ → Arm → Operation
+
+abbrev pub stores : ℕ → ℕ → Arm → Operation
+stores address size s = access true address size s
+
+abbrev pub loads : ℕ → ℕ → Arm → Operation
+loads address size s = access false address size s
+
+abbrev pub case : MemOp → Operation → Operation → Operation → Operation
+case STORE store load prefetch = store
+case LOAD store load prefetch = load
+case PREFETCH store load prefetch = prefetch
