@@ -7,4 +7,5 @@ pub mod Families
 pub mod Pairs
 pub mod Arm
 pub mod Reals
+pub mod Runs
 pub mod Examples
