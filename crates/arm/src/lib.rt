@@ -1,1 +1,64 @@
-// Arm's pages as definitions, and the theorems that every step and every run does what they say: in specs/ and proofs/. There is no code.
+// Arm's pages as definitions, and the theorems that every step and every run does what they say: in specs/ and proofs/.
+// The code adds nothing to the machine's: its contracts say the theorems of whatever code can be handed.
+use execution::Ran;
+use machine::State;
+use machine::Stepped;
+use machine::Window;
+ghost use mathlib.Core.Path.{_≡_};
+ghost use Prim.Native.Nat.{ℕ, _<_, _^_};
+ghost use lib.ListN.{getD};
+ghost use Rattle.machine.specs.Machine.{machineOf};
+ghost use Rattle.machine.specs.Step.{outcome, performed};
+ghost use Rattle.execution.specs.Walk.{runOf};
+ghost use Rattle.execution.specs.Run.{result};
+ghost use Rattle.arm.specs.Real.{Real};
+ghost use Rattle.arm.specs.Choices.{badStart, armStep};
+
+// The machine's step, with a contract in Arm's terms.
+pub fn step(word: u32, state: State, window: Window, memory: &mut [u8], taint: &mut [u8]) -> Stepped
+    ensures { λ r. ⌜ outcome r (now (memory .exit)) (now (taint .exit)) ≡ performed (machineOf state (now (memory .entry)) (now (taint .entry))) (armStep window word (machineOf state (now (memory .entry)) (now (taint .entry)))) ⌝ }
+{
+    real(state, memory, taint);
+    machine::step(word, state, window, memory, taint)
+}
+
+// The run, with a contract in Arm's terms.
+pub fn run(
+    words: &[u32],
+    state: State,
+    window: Window,
+    memory: &mut [u8],
+    taint: &mut [u8],
+    trace: &mut [u64],
+) -> Ran
+    ensures { λ r. ⌜ result r (now (memory .exit)) (now (taint .exit)) (now (trace .exit)) ≡ runOf (badStart window) (armStep window) (now (words .entry)) (machineOf state (now (memory .entry)) (now (taint .entry))) (now (trace .entry)) ⌝ }
+{
+    real(state, memory, taint);
+    execution::run(words, state, window, memory, taint, trace)
+}
+
+// The theorems are of machines that are `Real`. This says that whatever a step or a run can be handed is one: its types
+// hold no other.
+pub fn real(state: State, memory: &[u8], taint: &[u8])
+    ensures { λ r. ⌜ Real (machineOf state (now (memory .entry)) (now (taint .entry))) ⌝ }
+{
+    let file = state.registers;
+    let value = file.value;
+    values(&value);
+    bytes(memory);
+}
+
+fn values(v: &[u64])
+    ensures { λ r. ⌜ ((n : ℕ) → getD (now (v .entry)) n 0 < 2 ^ 64) ⌝ }
+{
+    nothing();
+}
+
+fn bytes(b: &[u8])
+    ensures { λ r. ⌜ ((n : ℕ) → getD (now (b .entry)) n 0 < 256) ⌝ }
+{
+    nothing();
+}
+
+// What is known of a slice's elements is known where a function is called.
+fn nothing() {}
