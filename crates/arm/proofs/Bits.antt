@@ -198,7 +198,7 @@ module _ (m : ℕ) (s : Arm) (shift : ℕ) (h : shift < 4) where
   uxtw =
       let u : ℕ = X m 64 s % 2 ^ 32 in
       let fits : u * 2 ^ shift % 2 ^ 64 ≡ u * 2 ^ shift = shl-exact 32 shift 64 (mod-lt (X m 64 s) (pow-pos 32)) (omega arith) in
-      rw (word-room, same-shift, zero-extend (32 + shift) 64, low-bits 32 (X m 64 s) (omega arith), add-zero) (sym fits)
+      rw (word-room, same-shift, zero-extend, low-bits 32 (X m 64 s) (omega arith), add-zero) (sym fits)
 
   sxtw : Agree 0b110
   unfolding ExtendReg shiftedOf indexOf part
@@ -220,7 +220,7 @@ module _ (m : ℕ) (s : Arm) (shift : ℕ) (h : shift < 4) where
 
   uxtx : Agree 0b011
   unfolding ExtendReg shiftedOf indexOf part
-  uxtx = rw (double-room, filled, same-shift, zero-extend 64 64, low-bits (64 - shift) (X m 64 s) (omega arith), add-zero) (low-scaled shift (X m 64 s) (omega arith))
+  uxtx = rw (double-room, filled, same-shift, zero-extend, low-bits (64 - shift) (X m 64 s) (omega arith), add-zero) (low-scaled shift (X m 64 s) (omega arith))
 
   sxtx : Agree 0b111
   unfolding ExtendReg shiftedOf indexOf part

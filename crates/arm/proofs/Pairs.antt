@@ -291,25 +291,20 @@ module _ (w : Window) (m : Machine) (r : Ready w m) (word : ℕ) where
         let k = known-pair u in
         all wback postindex h (λ e. bases-apart v (h ∙ e) .0) (λ e. bases-apart v (h ∙ e) .1) (field 31 30 word) (field 22 22 word) (part-lt 30 2 word) (part-lt 22 1 word) (k .0) (k .1)
 
-    abbrev pageIn : ℕ → Operation
-    pageIn mode =
-        let s = armOf w m in
-        pick (eqb mode 0b01) (paired true true word s) (pick (eqb mode 0b11) (paired true false word s) (paired false false word s))
-
     abbrev accessIn : ℕ → Access
     accessIn mode =
         let op = pairOpIn word in
         Moves (pairTransfer op (field 4 0 word) (field 14 10 word)) (pairedMode (modeAt mode) (field 9 5 word) (twosComplement (signedOf 64 (pairBytes op) (field 21 15 word))))
 
-    modes : (mode : ℕ) → mode < 4 → field 24 23 word ≡ mode → wordAccess word ≡ accessIn mode → Steps w m PairLine word (pageIn mode)
-    unfolding paired pairOpIn modeAt
+    modes : (mode : ℕ) → mode < 4 → field 24 23 word ≡ mode → wordAccess word ≡ accessIn mode → Steps w m PairLine word (pair word (armOf w m))
+    unfolding pair paired pairOpIn modeAt
     modes =
-        four (λ mode. field 24 23 word ≡ mode → wordAccess word ≡ accessIn mode → Steps w m PairLine word (pageIn mode))
-        (λ f e. by false false (rw (low-mode 0 f)) e)
-        (λ f e. by true true (rw (low-mode 1 f)) e)
-        (λ f e. by false false (rw (low-mode 2 f)) e)
-        (λ f e. by true false (rw (low-mode 3 f)) e)
+        four (λ mode. field 24 23 word ≡ mode → wordAccess word ≡ accessIn mode → Steps w m PairLine word (pair word (armOf w m)))
+        (λ f e. rw f (by false false (rw (low-mode 0 f)) e))
+        (λ f e. rw f (by true true (rw (low-mode 1 f)) e))
+        (λ f e. rw f (by false false (rw (low-mode 2 f)) e))
+        (λ f e. rw f (by true false (rw (low-mode 3 f)) e))
 
     pub pair-step : wordAccess word ≡ familyAccess (familyIn PairLine word) → Steps w m PairLine word (pair word (armOf w m))
-    unfolding pair pairAccess pairIn
+    unfolding pairAccess pairIn
     pair-step e = modes (field 24 23 word) (part-lt 23 2 word) refl e
