@@ -32,6 +32,9 @@ use Rattle.execution.specs.Run.{machineRun}
 use Rattle.execution.proofs.Walks.{run-keeps, run-ends, run-bad, run-short}
 use Rattle.execution.proofs.Refusals.{begun-late, early-unchanged}
 use Rattle.execution.proofs.Secrecy.{step-same, demand-3 as demand-3-of-runs, taints-of-run}
+use Rattle.arm.proofs.Arm.{step-as-arm}
+use Rattle.arm.proofs.Runs.{run-as-arm}
+use Rattle.arm.proofs.Reals.{step-real, cleared, cleared-real}
 use Rattle.encoder.proofs.RoundTrip.{encode-exact}
 use Rattle.text.specs.Writing.{Outcome, wordText, copied, writeOf}
 use Rattle.text.proofs.Examples.{starred-examples}
@@ -172,6 +175,10 @@ pub demand-2 : Demand2
 demand-2 =
     let (line-of, words-records, records-lines, words-lines) = triangle in
     record {
+      step-as-arm = step-as-arm;
+      run-as-arm = run-as-arm;
+      step-real = step-real;
+      some-real = (cleared 0, cleared-real 0);
       never-overlap = never-overlap;
       one-sort = exactly-one;
       line-of-record = line-of;

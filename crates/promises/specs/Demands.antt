@@ -29,10 +29,12 @@ use Rattle.machine.specs.Machine.{Machine, operandsOf}
 use Rattle.machine.specs.Step.{Outcome, bad, stepOf, performed}
 use Rattle.machine.specs.Tests.{tests, lowest}
 use Rattle.secrecy.specs.Alike.{Shows}
-use Rattle.execution.specs.Walk.{notBegun, afterSteps}
+use Rattle.execution.specs.Walk.{notBegun, runOf, afterSteps}
 use Rattle.execution.specs.Ends.{Kept, Ends, lastOf, Early}
 use Rattle.execution.specs.Run.{machineRun}
 use Rattle.execution.specs.Secrecy.{Same, ShowsRun}
+use Rattle.arm.specs.Choices.{badStart, armStep}
+use Rattle.arm.specs.Real.{Real}
 use Rattle.encoder.specs.Exact.{Exact}
 use Rattle.text.specs.Texts.{textOf}
 use Rattle.text.specs.Writing.{wordText, writeOf}
@@ -101,8 +103,13 @@ pub record Demand1 : Type 0 where
   pub refused-run : (w : Window) (words : List ℕ) (m : Machine) (trace : List ℕ) → Kept (stepOf w) words m trace (machineRun w words m trace)
 
 pub record Demand2 : Type 0 where
-  -- "Each step does what Arm's published A64 definition says": the definitions of accesses, plans and steps are that;
-  -- `step` and `run` return and leave what they say
+  -- "Each step does what Arm's published A64 definition says, with the choices that 01 makes where Arm leaves one": answer,
+  -- code, address, registers, memory, program counter and marks. It is said of the machines that there are, whose
+  -- registers have 64 bits and whose bytes have 8; code holds no others, and a step leaves one
+  pub step-as-arm : (w : Window) (word : ℕ) (m : Machine) → Real m → stepOf w word m ≡ armStep w word m
+  pub run-as-arm : (w : Window) (words : List ℕ) (m : Machine) (trace : List ℕ) → Real m → machineRun w words m trace ≡ runOf (badStart w) (armStep w) words m trace
+  pub step-real : (w : Window) (word : ℕ) (m : Machine) → Real m → Real (stepped w word m .machine)
+  pub some-real : (m : Machine) × Real m
   -- "Every allocated word of the set has one record and one line of text": a word matches at most one line of 01's
   -- table, and is exactly one of not of the set, undefined, and allocated
   pub never-overlap : (word : ℕ) (a b : Line) → isLine a ≡ true → isLine b ≡ true → matches word a ≡ true → matches word b ≡ true → a ≡ b
