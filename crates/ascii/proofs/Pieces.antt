@@ -10,7 +10,7 @@ use borrow.Author.Tests.{leb-true, leb-false}
 use lib.Dec.{leb}
 use lib.ListN.{length, take, getD, set, length-append}
 use lib.Seq.{sets, length-sets, set-out, take-suc}
-use Rattle.ascii.specs.Puts.{Puts}
+use Rattle.ascii.specs.route.Puts.{Puts}
 
 -- what is put behind a piece is put with it
 pub sets-append : (xs p q : List ℕ) (at : ℕ) → sets (sets xs at p) (at + length p) q ≡ sets xs at (p ++ q)

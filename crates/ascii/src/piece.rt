@@ -3,7 +3,7 @@
 ghost use mathlib.Core.List.{[], _∷_};
 ghost use Rattle.bits.specs.Bytes.{bytesOf};
 ghost use Rattle.ascii.specs.Ascii.{dec};
-ghost use Rattle.ascii.specs.Puts.{Puts};
+ghost use Rattle.ascii.specs.route.Puts.{Puts};
 
 pub fn put_byte(line: &mut [u8], at: usize, byte: u8) -> usize
     ensures { λ r. ⌜ Puts (now (line .entry)) at (byte ∷ []) (now (line .exit)) r ⌝ }

@@ -12,7 +12,7 @@ use lib.ListN.{length, drop, getD, drop-of-length-le}
 use lib.Seq.{drop-cons}
 use Rattle.io.specs.Digits.{Fewest}
 use Rattle.bits.specs.Choice.{pick}
-use Rattle.ascii.specs.Puts.{Puts}
+use Rattle.ascii.specs.route.Puts.{Puts}
 use Rattle.ascii.proofs.Pieces.{same, fits}
 use Rattle.assemble.specs.Lines.{newlines}
 

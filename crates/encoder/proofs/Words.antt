@@ -20,7 +20,7 @@ use Rattle.instruction.specs.declared.operation.SizedOp.{SizedOp}
 use Rattle.instruction.specs.Undefined.{allocated}
 use Rattle.instruction.specs.Encoding.{fixed, wordWith, withBits, sizedFields, indexFields, indexWord, wordOf, encodedAs, encodeOf}
 use Rattle.instruction.proofs.Codes.{sized}
-use Rattle.encoder.specs.Sized.{sizedWord}
+use Rattle.encoder.specs.route.Sized.{sizedWord}
 
 -- ---- with an offset's bits or without
 

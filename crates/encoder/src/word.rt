@@ -16,7 +16,7 @@ ghost use mathlib.Core.Path.{_≡_};
 ghost use Prim.Native.Nat.{_<_, _≤_};
 ghost use Rattle.instruction.specs.Operations.{literalOpc, pairOpc, pairLoad, modeCode};
 ghost use Rattle.instruction.specs.Encoding.{fixed, wordWith, literalFields, literalWord, pairFields, pairWord, signedWord, indexWord, unsignedWord, wordOf};
-ghost use Rattle.encoder.specs.Sized.{sizedWord};
+ghost use Rattle.encoder.specs.route.Sized.{sizedWord};
 
 pub fn word_of(family: Family) -> Field
     ensures { λ r. ⌜ r ≡ wordOf family ⌝ }

@@ -14,7 +14,8 @@ use Rattle.machine.specs.Rule.{Taints, wordRule}
 use Rattle.machine.specs.Machine.{Machine}
 use Rattle.machine.specs.Step.{Step, stopped, moved, bad, stepOf}
 use Rattle.machine.proofs.Taints.{taintsIn, taints-by-rule}
-use Rattle.secrecy.specs.Alike.{Alike, Shows}
+use Rattle.secrecy.specs.Agree.{Shows}
+use Rattle.secrecy.specs.route.Alike.{Alike}
 use Rattle.secrecy.proofs.Steps.{untainted-parts, step-alike}
 use Rattle.execution.specs.Walk.{Result, afterSteps}
 use Rattle.execution.specs.Run.{machineRun}

@@ -16,7 +16,7 @@ use Rattle.instruction.specs.Answers.{answerNumber}
 use Rattle.machine.specs.Step.{Step, stopped, moved, Outcome, performed}
 use Rattle.machine.proofs.Answers.{Refuses}
 use Rattle.machine.proofs.Taints.{Follows}
-use Rattle.secrecy.specs.Alike.{Shows}
+use Rattle.secrecy.specs.Agree.{Shows}
 use Rattle.execution.specs.Walk.{Walked, halted, ahead, goOn, walkOf, Result, glue, notBegun, runOf, afterSteps}
 use Rattle.execution.specs.Ends.{alone, Kept, Tried, Ends, lastOf}
 use Rattle.execution.specs.Secrecy.{ShowsRun}

@@ -4,7 +4,7 @@ use mathlib.Core.Path.{_≡_}
 use mathlib.Core.Bool.{false}
 use lib.ListN.{length, getD, take}
 use Rattle.machine.specs.Machine.{Machine}
-use Rattle.secrecy.specs.Alike.{Agree}
+use Rattle.secrecy.specs.Agree.{Agree}
 use Rattle.execution.specs.Walk.{Result}
 
 -- two machines with the same PC and taints, that agree on each register that is not tainted and on each byte whose

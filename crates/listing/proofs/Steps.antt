@@ -21,11 +21,12 @@ use Rattle.instruction.specs.Instructions.{instructionOf}
 use Rattle.instruction.specs.Decoding.{decodeOf, classOf, empty}
 use Rattle.text.specs.Texts.{textOf}
 use Rattle.ascii.specs.Ascii.{asc}
-use Rattle.ascii.specs.Puts.{Puts}
+use Rattle.ascii.specs.route.Puts.{Puts}
 use Rattle.text.specs.Writing.{Outcome, wordText, copied}
 use Rattle.text.proofs.Lengths.{word-text-short}
 use Rattle.ascii.proofs.Pieces.{after, nothing}
-use Rattle.listing.specs.Listing.{hex4, hex8, contentText, answerText, lineText, shortText, wordOf, listingOf, wordAt, listOf}
+use Rattle.listing.specs.Listing.{hex4, hex8, contentText, answerText, lineText, shortText, wordOf, listingOf, listOf}
+use Rattle.listing.specs.route.Words.{wordAt}
 
 -- ---- the next word
 

@@ -1,7 +1,7 @@
 -- The listing of a run of bytes: 01, "Lines of text". Fields are parted by tabs, byte 9, and lines end in a newline, byte 10.
 use Prim.Native.Nat.{ℕ, _+_, _*_, _/_, _%_}
 use mathlib.Core.List.{List, [], _∷_, _++_}
-use lib.Dec.{ltb, eqb}
+use lib.Dec.{eqb}
 use lib.ListN
 use Rattle.bits.specs.Choice.{pick}
 use Rattle.instruction.specs.Answers.{answerNumber}
@@ -54,9 +54,3 @@ outcome r output = record { answer = r .answer; length = r .length; buffer = out
 -- the listing at the start of an output, or answer 10 where the output is shorter
 unfoldable pub listOf : List ℕ → List ℕ → Outcome
 listOf bytes output = copied (listingOf bytes) output
-
--- the word at an index; 0 where the bytes end before it does
-unfoldable pub wordAt : List ℕ → ℕ → ℕ
-wordAt bytes at =
-    pick (ltb (ListN.length bytes) (at + 4)) 0
-    (wordOf (ListN.getD bytes at 0) (ListN.getD bytes (at + 1) 0) (ListN.getD bytes (at + 2) 0) (ListN.getD bytes (at + 3) 0))

@@ -6,8 +6,9 @@ ghost use mathlib.Core.Path.{_≡_};
 ghost use Prim.Native.Nat.{_<_};
 ghost use lib.Dec.{leb};
 ghost use lib.ListN.{length};
-ghost use Rattle.ascii.specs.Puts.{Puts};
-ghost use Rattle.listing.specs.Listing.{listingOf, wordAt, outcome, listOf};
+ghost use Rattle.ascii.specs.route.Puts.{Puts};
+ghost use Rattle.listing.specs.Listing.{listingOf, outcome, listOf};
+ghost use Rattle.listing.specs.route.Words.{wordAt};
 
 // What listing returns. The length is 0 where it is refused.
 pub struct Listed {

@@ -1,3 +1,3 @@
 pub mod Mnemonics
 pub mod Operands
-pub mod Named
+pub mod route

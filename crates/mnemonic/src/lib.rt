@@ -6,7 +6,7 @@ use instruction::SizedOp;
 ghost use mathlib.Core.Path.{_≡_};
 ghost use Rattle.mnemonic.specs.Mnemonics.{plainName, unscaledName, orderedName, sizedName, literalName, noAllocateName, allocateName, pairName};
 ghost use Rattle.mnemonic.specs.Operands.{sizedOperand, literalOperand, pairOperand};
-ghost use Rattle.mnemonic.specs.Named.{known, told};
+ghost use Rattle.mnemonic.specs.route.Named.{known, told};
 
 // The letters are packed into a number, the first lowest. The shape has their number in its low byte, and the letter
 // of the operand above it. So both come from one table, and no branch depends on the operation.

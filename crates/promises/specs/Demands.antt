@@ -28,7 +28,7 @@ use Rattle.machine.specs.Rule.{wordAccess, wordRule}
 use Rattle.machine.specs.Machine.{Machine, operandsOf}
 use Rattle.machine.specs.Step.{Outcome, bad, stepOf, performed}
 use Rattle.machine.specs.Tests.{tests, lowest}
-use Rattle.secrecy.specs.Alike.{Shows}
+use Rattle.secrecy.specs.Agree.{Shows}
 use Rattle.execution.specs.Walk.{notBegun, runOf, afterSteps}
 use Rattle.execution.specs.Ends.{Kept, Ends, lastOf, Early}
 use Rattle.execution.specs.Run.{machineRun}

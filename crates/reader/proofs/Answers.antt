@@ -10,8 +10,8 @@ use Rattle.instruction.specs.Encoding.{encodeOf}
 use Rattle.instruction.specs.declared.answer.Encoded.{Encoded}
 use Rattle.text.specs.Writing.{wordText}
 use Rattle.reader.specs.Types.{Done, NoSuchText, Scan, Instruction}
-use Rattle.reader.specs.Scan.{stepOf, scanStart}
-use Rattle.reader.specs.Build.{buildOf}
+use Rattle.reader.specs.route.Scan.{stepOf, scanStart}
+use Rattle.reader.specs.route.Build.{buildOf}
 use Rattle.reader.specs.Reading.{LineOf, ReadOf}
 use Rattle.reader.proofs.RoundTrip.{line-encodes}
 

@@ -4,9 +4,9 @@ use mathlib.Core.Path.{_≡_, sym, ap, _∙_}
 use lib.IntN.{ℤ}
 use borrow.Author.Tests.{ne-eqb}
 use Rattle.reader.specs.Types.{Scan, Name, Tail, SizedOp, LiteralOp, PairOp, PairMode, Family, Literal, Pair, LiteralOperands, PairOperands}
-use Rattle.reader.specs.Names.{nameFor}
-use Rattle.reader.specs.Tails.{tailAt, offsetAt, optionAt, scaledAt}
-use Rattle.reader.specs.Build.{keyIn, numIn, registerOf, literalFor, literalFrom, offsetFrom, indexFrom, pairFrom, modeFor, bracketedFor, plainFor, familyFor, buildOf}
+use Rattle.reader.specs.route.Names.{nameFor}
+use Rattle.reader.specs.route.Tails.{tailAt, offsetAt, optionAt, scaledAt}
+use Rattle.reader.specs.route.Build.{keyIn, numIn, registerOf, literalFor, literalFrom, offsetFrom, indexFrom, pairFrom, modeFor, bracketedFor, plainFor, familyFor, buildOf}
 
 -- an arm of a match
 pub by-case : {A B : Type 0} (f : A → B) {a b : A} {r : B} → a ≡ b → r ≡ f b → r ≡ f a

@@ -8,8 +8,8 @@ use Rattle.mnemonic.specs.Mnemonics.{allocateName}
 use Rattle.mnemonic.specs.Operands.{pairOperand}
 use Rattle.text.specs.Texts.{operandText, baseText, frontText, offsetTail, preTail, postTail, indexTail, literalText, pairText, sizedText, familyText}
 use Rattle.reader.specs.Types.{Scan, Tail, SizedOp, Prefetch, LiteralOp, PairOp, LoadSignedWords, PairMode, NoAllocate, Post, Offset, Pre, Family, Empty, Literal, Pair, Ordered, Unscaled, PostIndex, PreIndex, Register, Unsigned, LiteralOperands, PairOperands, OffsetOperands, IndexOperands}
-use Rattle.reader.specs.Scan.{stepOf, scanStart}
-use Rattle.reader.specs.Build.{modeFor, pairFrom, buildOf}
+use Rattle.reader.specs.route.Scan.{stepOf, scanStart}
+use Rattle.reader.specs.route.Build.{modeFor, pairFrom, buildOf}
 use Rattle.reader.proofs.Named.{plain-named, unscaled-named, ordered-named, pair-named, noallocate-named, literal-named, plainOp, literal-for}
 use Rattle.reader.proofs.Tails.{Words, here, OffsetEnd, offset-end, pre-end, post-end, index-end}
 use Rattle.reader.proofs.Fronts.{single, double, single-goes, double-goes, literal-goes, made, built-named, built-plain, offset-from, pair-from, index-from, literal-built}

@@ -9,10 +9,10 @@ use Rattle.ascii.specs.Ascii.{asc, signedDec}
 use Rattle.text.specs.Texts.{operandText, baseText, frontText}
 use Rattle.mnemonic.specs.Operands.{Operand}
 use Rattle.reader.specs.Types.{Scan, Name, PlainName, Tail, SizedOp, PairMode, Family, Literal, Instruction}
-use Rattle.reader.specs.Scan.{packed, plainOf, stepOf, scanStart}
-use Rattle.reader.specs.Names.{nameFor}
-use Rattle.reader.specs.Tails.{tailAt, offsetAt}
-use Rattle.reader.specs.Build.{keyIn, literalFor, literalFrom, offsetFrom, indexFrom, pairFrom, bracketedFor, plainFor, familyFor, buildOf}
+use Rattle.reader.specs.route.Scan.{packed, plainOf, stepOf, scanStart}
+use Rattle.reader.specs.route.Names.{nameFor}
+use Rattle.reader.specs.route.Tails.{tailAt, offsetAt}
+use Rattle.reader.specs.route.Build.{keyIn, literalFor, literalFrom, offsetFrom, indexFrom, pairFrom, bracketedFor, plainFor, familyFor, buildOf}
 use Rattle.reader.proofs.Scans.{Scans, then, piece, word, operandKey, baseKey, signKey, operand-scan, base-scan, signed-scan}
 use Rattle.reader.proofs.Named.{Named, named}
 use Rattle.reader.proofs.Tails.{Words, here, Kept, OffsetEnd, IndexEnd, plus-back, minus-back}

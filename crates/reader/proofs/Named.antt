@@ -8,9 +8,9 @@ use Rattle.mnemonic.specs.Mnemonics.{plainName, unscaledName, orderedName, lite
 use Rattle.mnemonic.specs.Operands.{sizedOperand, literalOperand, pairOperand}
 use Rattle.mnemonic.specs.Operands.{Operand, Narrow, Wide, Hint}
 use Rattle.reader.specs.Types.{Scan, Name, PlainName, UnscaledName, OrderedName, PairName, NoAllocateName, SizedOp, StoreByte, LoadByte, LoadSignedByte64, LoadSignedByte32, StoreHalf, LoadHalf, LoadSignedHalf64, LoadSignedHalf32, StoreWord, LoadWord, LoadSignedWord64, StoreDouble, LoadDouble, Prefetch, LiteralOp, LiteralWord, LiteralDouble, LiteralSignedWord, LiteralPrefetch, PairOp, StoreWords, LoadWords, LoadSignedWords, StoreDoubles, LoadDoubles}
-use Rattle.reader.specs.Scan.{packed, plainOf, stepOf, scanStart}
-use Rattle.reader.specs.Names.{narrowName, wideName, hintName, nameFor}
-use Rattle.reader.specs.Build.{keyIn, numIn, literalFor}
+use Rattle.reader.specs.route.Scan.{packed, plainOf, stepOf, scanStart}
+use Rattle.reader.specs.route.Names.{narrowName, wideName, hintName, nameFor}
+use Rattle.reader.specs.route.Build.{keyIn, numIn, literalFor}
 use Rattle.reader.proofs.Scans.{by-test, Scans, piece, operandKey}
 
 -- ---- the first operand picks the table

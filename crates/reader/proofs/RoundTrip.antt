@@ -18,8 +18,8 @@ use Rattle.encoder.proofs.RoundTrip.{encode-decoded, encode-exact, not-encoded}
 use Rattle.text.specs.Texts.{textOf}
 use Rattle.text.specs.Writing.{wordText}
 use Rattle.reader.specs.Types.{Done, NoSuchText, Reading}
-use Rattle.reader.specs.Scan.{stepOf, scanStart}
-use Rattle.reader.specs.Build.{buildOf}
+use Rattle.reader.specs.route.Scan.{stepOf, scanStart}
+use Rattle.reader.specs.route.Build.{buildOf}
 use Rattle.reader.specs.Reading.{LineOf, ReadOf}
 use Rattle.reader.proofs.Families.{family-comes}
 use Rattle.reader.proofs.Ranges.{in-range}

@@ -16,7 +16,7 @@ use Rattle.text.specs.Texts.{registerText, baseText, operandText}
 use Rattle.mnemonic.specs.Operands.{Operand, Narrow, Wide, Hint}
 use Rattle.ascii.proofs.Decimals.{dec-one, dec-more}
 use Rattle.reader.specs.Types.{Scan}
-use Rattle.reader.specs.Scan.{packed, keyed, digited, plainOf, stepOf}
+use Rattle.reader.specs.route.Scan.{packed, keyed, digited, plainOf, stepOf}
 
 -- by the cases of a test, and of two comparisons
 pub by-test : {P : Type 0} (b : Bool) → (b ≡ true → P) → (b ≡ false → P) → P

@@ -13,9 +13,9 @@ use Rattle.text.specs.Texts.{registerText, offsetTail, preTail, postTail, exten
 use Rattle.instruction.specs.Operations.{sizeOf}
 use Rattle.instruction.proofs.Codes.{sized}
 use Rattle.reader.specs.Types.{Scan, Tail, AtOffset, Before, After, Indexed, SizedOp, IndexOperands}
-use Rattle.reader.specs.Scan.{packed, key, plainOf, stepOf}
-use Rattle.reader.specs.Tails.{tailAt, plusOf, minusOf, offsetAt, optionAt, scaledAt}
-use Rattle.reader.specs.Build.{keyIn, numIn}
+use Rattle.reader.specs.route.Scan.{packed, key, plainOf, stepOf}
+use Rattle.reader.specs.route.Tails.{tailAt, plusOf, minusOf, offsetAt, optionAt, scaledAt}
+use Rattle.reader.specs.route.Build.{keyIn, numIn}
 use Rattle.reader.proofs.Scans.{by-test, by-same, Scans, then, piece, word, registerKey, signKey, register-scan, signed-scan, amount-scan}
 
 -- ---- scans behind the base

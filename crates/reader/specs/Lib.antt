@@ -1,7 +1,4 @@
 pub mod Types
-pub mod Scan
-pub mod Names
-pub mod Tails
-pub mod Build
 pub mod Reading
 pub mod Triangle
+pub mod route

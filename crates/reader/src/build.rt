@@ -17,7 +17,7 @@ use instruction::PairMode;
 use instruction::PairOperands;
 use instruction::SizedOp;
 ghost use mathlib.Core.Path.{_≡_};
-ghost use Rattle.reader.specs.Build.{registerOf, literalFor, literalFrom, offsetFrom, indexFrom, pairFrom, modeFor, bracketedFor, plainFor, familyFor, buildOf};
+ghost use Rattle.reader.specs.route.Build.{registerOf, literalFor, literalFrom, offsetFrom, indexFrom, pairFrom, modeFor, bracketedFor, plainFor, familyFor, buildOf};
 
 fn register(number: u64) -> u32
     ensures { λ r. ⌜ r ≡ registerOf number ⌝ }

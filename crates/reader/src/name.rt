@@ -3,7 +3,7 @@
 use instruction::PairOp;
 use instruction::SizedOp;
 ghost use mathlib.Core.Path.{_≡_};
-ghost use Rattle.reader.specs.Names.{narrowName, wideName, hintName, nameFor};
+ghost use Rattle.reader.specs.route.Names.{narrowName, wideName, hintName, nameFor};
 
 // A plain name is a literal's, or of one of the four families that the rest of the line tells apart.
 pub enum Name {

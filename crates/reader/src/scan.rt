@@ -3,7 +3,7 @@
 // by writing the line of what was read.
 ghost use mathlib.Core.Path.{_≡_};
 ghost use mathlib.Core.List.{foldl};
-ghost use Rattle.reader.specs.Scan.{keyed, digited, movedTo, plainOf, stepOf, scanStart};
+ghost use Rattle.reader.specs.route.Scan.{keyed, digited, movedTo, plainOf, stepOf, scanStart};
 
 // Word 0 is the mnemonic, 1 the first operand, 2 the second register or a literal's offset, 4 the base, 5 the
 // offset or the index, 6 how the index is extended, 7 by how much it is shifted.

@@ -1,6 +1,6 @@
 // What stands behind the base: an offset in one of three modes, or an index.
 ghost use mathlib.Core.Path.{_≡_};
-ghost use Rattle.reader.specs.Tails.{tailAt, plusOf, minusOf, offsetAt, optionAt, scaledAt};
+ghost use Rattle.reader.specs.route.Tails.{tailAt, plusOf, minusOf, offsetAt, optionAt, scaledAt};
 
 // An offset that is only added, or added before or after the access to the base itself.
 pub enum Tail {

@@ -10,7 +10,7 @@ use lib.Seq.{sets, getD-set-same, getD-set-other}
 use Rattle.bits.specs.Choice.{pick}
 use Rattle.bits.specs.Bytes.{bytesOf, spanOf}
 use Rattle.memory.specs.Taints.{tainted, taintByte, anyTainted}
-use Rattle.secrecy.specs.Alike.{Agree}
+use Rattle.secrecy.specs.Agree.{Agree}
 
 -- one element set in each: they need only agree there where they must afterwards
 module _ {P Q : ℕ → Type 0} (xs ys : List ℕ) (i a b : ℕ) (h : Agree P xs ys) (old : (j : ℕ) → ¬ (j ≡ i) → Q j → P j) (new : i < length xs → Q i → a ≡ b) where

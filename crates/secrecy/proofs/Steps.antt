@@ -29,7 +29,8 @@ use Rattle.plan.proofs.Tests.{plan-tainted, touch-admitted, same-lengths}
 use Rattle.machine.specs.Rule.{moveRule, wordAccess}
 use Rattle.machine.specs.Machine.{Machine, operandsOf, effectOf}
 use Rattle.machine.specs.Step.{stopped, performOf, accessStep, wordStep, bad, stepOf}
-use Rattle.secrecy.specs.Alike.{Alike, Shows}
+use Rattle.secrecy.specs.Agree.{Shows}
+use Rattle.secrecy.specs.route.Alike.{Alike}
 use Rattle.secrecy.proofs.Agreement.{agree-sets, Seen, span-taints, store-alike, span-alike, set-alike}
 
 -- what is untainted together is untainted by itself

@@ -13,13 +13,13 @@ use Rattle.bits.specs.Bytes.{bytesOf}
 use Rattle.ascii.specs.Ascii.{asc, dec, signedDec}
 use Rattle.mnemonic.specs.declared.Mnemonic.{Mnemonic}
 use Rattle.mnemonic.specs.Operands.{Operand, Narrow, Wide, Hint, letterOf}
-use Rattle.mnemonic.specs.Named.{Known, known, told}
+use Rattle.mnemonic.specs.route.Named.{Known, known, told}
 use Rattle.text.specs.declared.piece.Piece.{Piece}
 use Rattle.text.specs.declared.store.Pieces.{Pieces}
 use Rattle.text.specs.Texts.{operandText, offsetTail, extendName, extendText, amountText, frontText}
-use Rattle.text.specs.Pieces.{textIn, Fit, Leads, Shows}
+use Rattle.text.specs.route.Pieces.{textIn, Fit, Leads, Shows}
 use Rattle.text.proofs.Packing.{size, comma, shows}
-use Rattle.text.specs.Lines.{Made, letterText, frontIn, extendPart, amountPart}
+use Rattle.text.specs.route.Lines.{Made, letterText, frontIn, extendPart, amountPart}
 
 pub nothing-shown : Shows [] (record { bytes = 0; length = 0 })
 unfolding textIn bytesOf

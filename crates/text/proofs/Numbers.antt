@@ -15,7 +15,7 @@ use Rattle.bits.proofs.Bytes.{bytes-drop}
 use Rattle.ascii.specs.Ascii.{dec}
 use Rattle.ascii.proofs.Decimals.{dec-one, dec-two, dec-more}
 use Rattle.text.specs.declared.piece.Piece.{Piece}
-use Rattle.text.specs.Pieces.{textIn, Spells, padded, reachesOf, countTo}
+use Rattle.text.specs.route.Pieces.{textIn, Spells, padded, reachesOf, countTo}
 use Rattle.text.proofs.Packing.{long}
 
 -- ---- digits

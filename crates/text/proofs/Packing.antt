@@ -12,7 +12,7 @@ use Rattle.bits.specs.Bytes.{bytesOf}
 use Rattle.bits.proofs.Bytes.{length-bytes, bytes-cons}
 use Rattle.ascii.specs.Ascii.{asc}
 use Rattle.text.specs.declared.piece.Piece.{Piece}
-use Rattle.text.specs.Pieces.{textIn, Low, Spells, Leads, Shows}
+use Rattle.text.specs.route.Pieces.{textIn, Low, Spells, Leads, Shows}
 
 -- a piece is as long as its text
 pub size : (p : Piece) → length (textIn p) ≡ p .length

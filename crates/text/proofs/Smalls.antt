@@ -21,7 +21,7 @@ use Rattle.instruction.specs.Undefined.{allocated}
 use Rattle.instruction.specs.Instructions.{sizedIn, literalIn, pairOpIn, pairIn, signedIn, indexIn, unsignedIn, familyIn, instructionOf}
 use Rattle.instruction.specs.Decoding.{decodeOf, empty}
 use Rattle.instruction.proofs.Codes.{sized, paired}
-use Rattle.text.specs.Lines.{SmallOffset, Small}
+use Rattle.text.specs.route.Lines.{SmallOffset, Small}
 
 abs-minus : (n : ℕ) → natAbs (negℤ (pos n)) ≡ n
 abs-minus zero = refl

@@ -8,12 +8,12 @@ use lib.ListN.{length, drop, getD, set, replicate, length-append, length-replica
 use lib.Seq.{sets, set-set, set-comm, set-getD, getD-set-other}
 use Rattle.bits.specs.Bytes.{bytesOf, spanOf}
 use Rattle.bits.proofs.Bytes.{bytes-more, bytes-none}
-use Rattle.ascii.specs.Puts.{Puts}
+use Rattle.ascii.specs.route.Puts.{Puts}
 use Rattle.ascii.proofs.Pieces.{sets-append}
 use Rattle.text.specs.declared.piece.Piece.{Piece}
 use Rattle.text.specs.declared.store.Pieces.{Pieces}
-use Rattle.text.specs.Pieces.{textIn, Fit, Spills}
-use Rattle.text.specs.Lines.{whole, totalOf}
+use Rattle.text.specs.route.Pieces.{textIn, Fit, Spills}
+use Rattle.text.specs.route.Lines.{whole, totalOf}
 use Rattle.text.proofs.Packing.{size}
 
 -- ---- a number of fewer bytes

@@ -18,7 +18,7 @@ use Rattle.instruction.specs.Answers.{answerNumber}
 use Rattle.instruction.specs.Unpredictable.{unpredictable}
 use Rattle.instruction.specs.Decoding.{decodeOf, classOf, empty}
 use Rattle.text.specs.Texts.{familyText, textOf}
-use Rattle.ascii.specs.Puts.{Puts}
+use Rattle.ascii.specs.route.Puts.{Puts}
 use Rattle.text.specs.Writing.{wordText, Outcome, copied, writeOf, isDone}
 use Rattle.ascii.proofs.Pieces.{fits}
 

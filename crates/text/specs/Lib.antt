@@ -1,5 +1,4 @@
 pub mod Texts
 pub mod Writing
-pub mod Pieces
-pub mod Lines
 pub mod Examples
+pub mod route

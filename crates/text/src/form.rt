@@ -13,10 +13,10 @@ ghost use lib.Dec.{eqb};
 ghost use lib.IntN.{natAbs};
 ghost use Rattle.bits.specs.Choice.{pick};
 ghost use Rattle.ascii.specs.Ascii.{asc, signedDec};
-ghost use Rattle.mnemonic.specs.Named.{known};
+ghost use Rattle.mnemonic.specs.route.Named.{known};
 ghost use Rattle.text.specs.Texts.{baseText, offsetTail, preTail, postTail};
-ghost use Rattle.text.specs.Pieces.{textIn, Fit, Shows};
-ghost use Rattle.text.specs.Lines.{Made, letterText, frontIn};
+ghost use Rattle.text.specs.route.Pieces.{textIn, Fit, Shows};
+ghost use Rattle.text.specs.route.Lines.{Made, letterText, frontIn};
 
 // A line by its mnemonic and first operand, and the further pieces.
 pub fn line_of(

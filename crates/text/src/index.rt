@@ -10,10 +10,10 @@ ghost use mathlib.Core.Bool.{true};
 ghost use mathlib.Core.List.{_++_};
 ghost use Prim.Native.Nat.{_+_, _%_, _<_};
 ghost use Rattle.ascii.specs.Ascii.{asc};
-ghost use Rattle.mnemonic.specs.Named.{known};
+ghost use Rattle.mnemonic.specs.route.Named.{known};
 ghost use Rattle.text.specs.Texts.{registerText, baseText, extendText};
-ghost use Rattle.text.specs.Pieces.{Shows};
-ghost use Rattle.text.specs.Lines.{Made, frontIn, extendPart, amountPart};
+ghost use Rattle.text.specs.route.Pieces.{Shows};
+ghost use Rattle.text.specs.route.Lines.{Made, frontIn, extendPart, amountPart};
 
 pub fn indexed(m: Mnemonic, o: IndexOperands, size: u32) -> Pieces
     requires { ⌜ (known m .fits ≡ true) × (o .target < 32) × (o .base < 32) × (o .index < 32) × (size < 4) ⌝ }

@@ -12,10 +12,10 @@ use instruction::Family;
 use store::Pieces;
 ghost use mathlib.Core.Path.{_≡_};
 ghost use Rattle.instruction.specs.Decoding.{classOf, decodeOf};
-ghost use Rattle.ascii.specs.Puts.{Puts};
+ghost use Rattle.ascii.specs.route.Puts.{Puts};
 ghost use Rattle.text.specs.Texts.{textOf, familyText};
 ghost use Rattle.text.specs.Writing.{isDone, outcome, copied, writeOf};
-ghost use Rattle.text.specs.Lines.{Small, Sound, whole};
+ghost use Rattle.text.specs.route.Lines.{Small, Sound, whole};
 
 // What writing a text returns. The length is 0 where it is refused.
 pub struct Written {

@@ -22,10 +22,10 @@ ghost use Prim.Native.Nat.{_<_};
 ghost use lib.IntN.{natAbs};
 ghost use Rattle.ascii.specs.Ascii.{asc};
 ghost use Rattle.mnemonic.specs.Mnemonics.{plainName, sizedName};
-ghost use Rattle.mnemonic.specs.Named.{known};
+ghost use Rattle.mnemonic.specs.route.Named.{known};
 ghost use Rattle.text.specs.Texts.{baseText, offsetTail, preTail, postTail, pairTail, indexTail, literalText, pairText, sizedText, familyText};
-ghost use Rattle.text.specs.Pieces.{textIn, Fit};
-ghost use Rattle.text.specs.Lines.{Made, frontIn, SmallOffset, Small};
+ghost use Rattle.text.specs.route.Pieces.{textIn, Fit};
+ghost use Rattle.text.specs.route.Lines.{Made, frontIn, SmallOffset, Small};
 
 pub fn pieces_of(family: Family) -> Pieces
     requires { ⌜ Small family ⌝ }

@@ -6,7 +6,7 @@ ghost use mathlib.Core.Path.{_≡_};
 ghost use Prim.Native.Nat.{_+_, _%_, _<_, _≤_};
 ghost use lib.IntN.{natAbs};
 ghost use Rattle.ascii.specs.Ascii.{dec, signedDec};
-ghost use Rattle.text.specs.Pieces.{Spells, Shows, padded, countTo, reachesOf};
+ghost use Rattle.text.specs.route.Pieces.{Spells, Shows, padded, countTo, reachesOf};
 
 pub fn signed(n: i64) -> Piece
     requires { ⌜ natAbs n < 10000000 ⌝ }

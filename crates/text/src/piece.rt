@@ -2,7 +2,7 @@
 ghost use mathlib.Core.List.{[], _∷_};
 ghost use Prim.Native.Nat.{_+_, _<_, _≤_};
 ghost use Rattle.ascii.specs.Ascii.{dec};
-ghost use Rattle.text.specs.Pieces.{Low, Leads};
+ghost use Rattle.text.specs.route.Pieces.{Low, Leads};
 
 // Up to eight bytes, the first lowest, with zeros above them.
 pub struct Piece {

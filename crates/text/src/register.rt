@@ -5,8 +5,8 @@ ghost use mathlib.Core.List.{_++_};
 ghost use Prim.Native.Nat.{_+_, _<_, _≤_};
 ghost use Rattle.ascii.specs.Ascii.{asc};
 ghost use Rattle.text.specs.Texts.{registerText, baseText};
-ghost use Rattle.text.specs.Pieces.{Low, Leads, Spells};
-ghost use Rattle.text.specs.Lines.{letterText};
+ghost use Rattle.text.specs.route.Pieces.{Low, Leads, Spells};
+ghost use Rattle.text.specs.route.Lines.{letterText};
 
 // The letter is w or x. Register 31 is the zero register.
 pub fn register(letter: u8, n: u32, rest: Piece) -> Piece

@@ -6,9 +6,9 @@ ghost use Prim.Native.Nat.{_+_, _^_, _<_, _≤_};
 ghost use lib.ListN.{length};
 ghost use lib.Seq.{sets};
 ghost use Rattle.bits.specs.Bytes.{bytesOf, spanOf};
-ghost use Rattle.ascii.specs.Puts.{Puts};
-ghost use Rattle.text.specs.Pieces.{textIn, Fit, Spills};
-ghost use Rattle.text.specs.Lines.{Sound, whole, totalOf};
+ghost use Rattle.ascii.specs.route.Puts.{Puts};
+ghost use Rattle.text.specs.route.Pieces.{textIn, Fit, Spills};
+ghost use Rattle.text.specs.route.Lines.{Sound, whole, totalOf};
 
 // A line of text in six pieces, of which some may be empty.
 pub struct Pieces {

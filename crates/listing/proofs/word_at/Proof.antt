@@ -3,7 +3,8 @@ use Prim.Native.Nat.{_+_}
 use native.Mathlib.Omega.{arith}
 use lib.ListN.{length}
 use borrow.Author.Tests.{lt-ltb, le-ltb}
-use Rattle.listing.specs.Listing.{wordAt, wordOf}
+use Rattle.listing.specs.Listing.{wordOf}
+use Rattle.listing.specs.route.Words.{wordAt}
 use borrow.Author.Needs.{needs}
 use Rattle.listing.proofs.word_at.Statement.{statement}
 use Rattle.listing.proofs.word_at.Tie as tie

@@ -4,7 +4,7 @@ use native.Mathlib.Omega.{arith}
 use borrow.Author.Needs.{needs}
 use lib.ListN.{length, take}
 use lib.Seq.{take-all}
-use Rattle.ascii.specs.Puts.{Puts}
+use Rattle.ascii.specs.route.Puts.{Puts}
 use Rattle.ascii.proofs.Pieces.{nothing, one-more, same}
 use Rattle.ascii.proofs.piece.put_text.Statement.{statement}
 use Rattle.ascii.proofs.piece.put_text.Tie as tie

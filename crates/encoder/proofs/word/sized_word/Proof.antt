@@ -3,7 +3,7 @@ use native.Mathlib.Omega.{arith}
 use mathlib.Core.Path.{ap}
 use borrow.Author.Tests.{lt-ltb, le-ltb}
 use Rattle.bits.specs.declared.Field.{Field}
-use Rattle.encoder.specs.Sized.{sizedWord}
+use Rattle.encoder.specs.route.Sized.{sizedWord}
 use borrow.Author.Needs.{needs}
 use Rattle.encoder.proofs.word.sized_word.Statement.{statement}
 use Rattle.encoder.proofs.word.sized_word.Tie as tie

@@ -1,7 +1,7 @@
 -- `reader::build::bracketed_for` meets its contract. Assumes nothing.
 use mathlib.Core.Path.{ap}
 use Rattle.reader.specs.Types.{Family}
-use Rattle.reader.specs.Build.{bracketedFor}
+use Rattle.reader.specs.route.Build.{bracketedFor}
 use Rattle.reader.proofs.Built.{by-case}
 use borrow.Author.Needs.{needs}
 use Rattle.reader.proofs.build.bracketed_for.Statement.{statement}

@@ -1,7 +1,7 @@
 -- `reader::build::family_for` meets its contract. Assumes nothing.
 use mathlib.Core.Path.{ap}
 use Rattle.reader.specs.Types.{Family}
-use Rattle.reader.specs.Build.{familyFor}
+use Rattle.reader.specs.route.Build.{familyFor}
 use Rattle.reader.proofs.Built.{by-case, pair-family}
 use borrow.Author.Needs.{needs}
 use Rattle.reader.proofs.build.family_for.Statement.{statement}

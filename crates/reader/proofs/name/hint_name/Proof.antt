@@ -1,6 +1,6 @@
 -- `reader::name::hint_name` meets its contract: each arm is an entry of the table. Assumes nothing.
 use Rattle.bits.proofs.Choices.{absent, entry}
-use Rattle.reader.specs.Names.{hintName, hintTable}
+use Rattle.reader.specs.route.Names.{hintName, hintTable}
 use Rattle.reader.proofs.name.hint_name.Statement.{statement}
 use Rattle.reader.proofs.name.hint_name.Tie as tie
 

@@ -1,7 +1,7 @@
 -- `reader::name::name_for` meets its contract: each arm is an entry of the table. Assumes nothing.
 use mathlib.Core.Path.{_∙_}
 use Rattle.bits.proofs.Choices.{absent, entry}
-use Rattle.reader.specs.Names.{targetTable, nameFor}
+use Rattle.reader.specs.route.Names.{targetTable, nameFor}
 use borrow.Author.Needs.{needs}
 use Rattle.reader.proofs.name.name_for.Statement.{statement}
 use Rattle.reader.proofs.name.name_for.Tie as tie

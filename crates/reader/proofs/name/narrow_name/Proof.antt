@@ -1,6 +1,6 @@
 -- `reader::name::narrow_name` meets its contract: each arm is an entry of the table. Assumes nothing.
 use Rattle.bits.proofs.Choices.{absent, entry}
-use Rattle.reader.specs.Names.{narrowName, narrowTable}
+use Rattle.reader.specs.route.Names.{narrowName, narrowTable}
 use Rattle.reader.proofs.name.narrow_name.Statement.{statement}
 use Rattle.reader.proofs.name.narrow_name.Tie as tie
 

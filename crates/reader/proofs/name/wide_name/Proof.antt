@@ -1,6 +1,6 @@
 -- `reader::name::wide_name` meets its contract: each arm is an entry of the table. Assumes nothing.
 use Rattle.bits.proofs.Choices.{absent, entry}
-use Rattle.reader.specs.Names.{wideName, wideTable}
+use Rattle.reader.specs.route.Names.{wideName, wideTable}
 use Rattle.reader.proofs.name.wide_name.Statement.{statement}
 use Rattle.reader.proofs.name.wide_name.Tie as tie
 

@@ -1,6 +1,6 @@
 -- `reader::scan::plain` meets its contract. Assumes nothing.
 use borrow.Author.Tests.{lt-ltb, le-ltb}
-use Rattle.reader.specs.Scan.{plainOf}
+use Rattle.reader.specs.route.Scan.{plainOf}
 use borrow.Author.Needs.{needs}
 use Rattle.reader.proofs.scan.plain.Statement.{statement}
 use Rattle.reader.proofs.scan.plain.Tie as tie

@@ -7,7 +7,7 @@ use native.Mathlib.Omega.{arith}
 use lib.ListN.{length, drop, getD, drop-of-length-le}
 use lib.Seq.{drop-cons}
 use Rattle.reader.specs.Types.{Scan}
-use Rattle.reader.specs.Scan.{stepOf, scanStart}
+use Rattle.reader.specs.route.Scan.{stepOf, scanStart}
 use borrow.Author.Needs.{needs}
 use Rattle.reader.proofs.scan.scan_text.Statement.{statement}
 use Rattle.reader.proofs.scan.scan_text.Tie as tie

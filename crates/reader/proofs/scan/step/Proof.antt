@@ -2,7 +2,7 @@
 use mathlib.Core.Path.{ap, _∙_}
 use Rattle.bits.proofs.Choices.{absent, entry}
 use Rattle.reader.specs.Types.{Scan}
-use Rattle.reader.specs.Scan.{keyed, stepTable, stepOf}
+use Rattle.reader.specs.route.Scan.{keyed, stepTable, stepOf}
 use borrow.Author.Needs.{needs}
 use Rattle.reader.proofs.scan.step.Statement.{statement}
 use Rattle.reader.proofs.scan.step.Tie as tie

@@ -2,7 +2,7 @@
 use Prim.Native.Nat.{_%_}
 use native.Mathlib.Omega.{arith}
 use Rattle.decoder.proofs.Products.{negated, negated-fits}
-use Rattle.reader.specs.Tails.{minusOf}
+use Rattle.reader.specs.route.Tails.{minusOf}
 use borrow.Author.Needs.{needs}
 use Rattle.reader.proofs.tail.minus.Statement.{statement}
 use Rattle.reader.proofs.tail.minus.Tie as tie

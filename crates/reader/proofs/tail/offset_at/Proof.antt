@@ -2,7 +2,7 @@
 use mathlib.Core.Path.{_∙_}
 use mir.Facts.{toZ-ofZ}
 use Rattle.bits.proofs.Choices.{absent, entry}
-use Rattle.reader.specs.Tails.{offsetTable, offsetAt}
+use Rattle.reader.specs.route.Tails.{offsetTable, offsetAt}
 use borrow.Author.Needs.{needs, sfits-of}
 use Rattle.reader.proofs.tail.offset_at.Statement.{statement}
 use Rattle.reader.proofs.tail.offset_at.Tie as tie

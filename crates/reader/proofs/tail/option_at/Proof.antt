@@ -1,6 +1,6 @@
 -- `reader::tail::option_at` meets its contract: each arm is an entry of the table. Assumes nothing.
 use Rattle.bits.proofs.Choices.{absent, entry}
-use Rattle.reader.specs.Tails.{optionAt, optionTable}
+use Rattle.reader.specs.route.Tails.{optionAt, optionTable}
 use Rattle.reader.proofs.tail.option_at.Statement.{statement}
 use Rattle.reader.proofs.tail.option_at.Tie as tie
 

@@ -2,7 +2,7 @@
 use native.Mathlib.Omega.{arith}
 use mir.Syntax.{w64}
 use mir.Facts.{toZ-pos}
-use Rattle.reader.specs.Tails.{plusOf}
+use Rattle.reader.specs.route.Tails.{plusOf}
 use borrow.Author.Needs.{needs}
 use Rattle.reader.proofs.tail.plus.Statement.{statement}
 use Rattle.reader.proofs.tail.plus.Tie as tie

@@ -1,6 +1,6 @@
 -- `reader::tail::scaled_at` meets its contract: each arm is an entry of the table. Assumes nothing.
 use Rattle.bits.proofs.Choices.{absent, entry}
-use Rattle.reader.specs.Tails.{scaledAt, scaledTable}
+use Rattle.reader.specs.route.Tails.{scaledAt, scaledTable}
 use Rattle.reader.proofs.tail.scaled_at.Statement.{statement}
 use Rattle.reader.proofs.tail.scaled_at.Tie as tie
 

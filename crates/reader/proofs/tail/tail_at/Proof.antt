@@ -1,6 +1,6 @@
 -- `reader::tail::tail_at` meets its contract: each arm is an entry of the table. Assumes nothing.
 use Rattle.bits.proofs.Choices.{absent, entry}
-use Rattle.reader.specs.Tails.{tailAt, tailTable}
+use Rattle.reader.specs.route.Tails.{tailAt, tailTable}
 use Rattle.reader.proofs.tail.tail_at.Statement.{statement}
 use Rattle.reader.proofs.tail.tail_at.Tie as tie
 

@@ -1,8 +1,8 @@
 -- `text::form::plain` meets its contract. Assumes nothing.
 use mir.Facts.{toZ-ofZ}
 use mathlib.Core.List.{_++_}
-use Rattle.text.specs.Pieces.{textIn}
-use Rattle.text.specs.Lines.{frontIn}
+use Rattle.text.specs.route.Pieces.{textIn}
+use Rattle.text.specs.route.Lines.{frontIn}
 use Rattle.text.proofs.Forms.{bracket-shown, ended, offset-parts}
 use borrow.Author.Needs.{needs}
 use Rattle.text.proofs.form.plain.Statement.{statement}

@@ -2,8 +2,8 @@
 use mir.Facts.{toZ-ofZ}
 use mathlib.Core.List.{_++_, append-nil}
 use Rattle.text.specs.Texts.{postTail}
-use Rattle.text.specs.Pieces.{textIn}
-use Rattle.text.specs.Lines.{frontIn}
+use Rattle.text.specs.route.Pieces.{textIn}
+use Rattle.text.specs.route.Lines.{frontIn}
 use Rattle.text.proofs.Forms.{post-sign-shown, ended}
 use borrow.Author.Needs.{needs}
 use Rattle.text.proofs.form.post.Statement.{statement}

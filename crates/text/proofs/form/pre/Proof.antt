@@ -3,8 +3,8 @@ use mir.Facts.{toZ-ofZ}
 use mathlib.Core.Path.{refl}
 use mathlib.Core.List.{_++_}
 use Rattle.text.specs.Texts.{preTail}
-use Rattle.text.specs.Pieces.{textIn}
-use Rattle.text.specs.Lines.{frontIn}
+use Rattle.text.specs.route.Pieces.{textIn}
+use Rattle.text.specs.route.Lines.{frontIn}
 use Rattle.text.proofs.Forms.{sign-shown, close-shown, ended}
 use borrow.Author.Needs.{needs}
 use Rattle.text.proofs.form.pre.Statement.{statement}

@@ -1,6 +1,6 @@
 -- `text::index::amount` meets its contract. Assumes nothing.
 use borrow.Author.Tests.{ne-eqb}
-use Rattle.text.specs.Lines.{amountPart}
+use Rattle.text.specs.route.Lines.{amountPart}
 use Rattle.text.specs.Texts.{amountText}
 use Rattle.text.proofs.Forms.{amount-shown, bracket-shown}
 use borrow.Author.Needs.{needs}

@@ -1,7 +1,7 @@
 -- `text::index::indexed` meets its contract. Assumes nothing.
 use native.Mathlib.Omega.{arith}
 use Rattle.text.specs.Texts.{extendText}
-use Rattle.text.specs.Lines.{frontIn}
+use Rattle.text.specs.route.Lines.{frontIn}
 use Rattle.text.proofs.Forms.{comma-shown, indexed-by, index-parts, shown-length, fit-of}
 use borrow.Author.Needs.{needs}
 use Rattle.text.proofs.index.indexed.Statement.{statement}

@@ -1,6 +1,6 @@
 -- `text::index::shift` meets its contract. Assumes nothing.
 use borrow.Author.Tests.{ne-eqb}
-use Rattle.text.specs.Lines.{extendPart}
+use Rattle.text.specs.route.Lines.{extendPart}
 use Rattle.text.proofs.Forms.{lsl-shown}
 use borrow.Author.Needs.{needs}
 use Rattle.text.proofs.index.shift.Statement.{statement}

@@ -1,6 +1,6 @@
 -- `text::line::pieces_of` meets its contract. Assumes nothing.
 use mathlib.Core.Path.{subst}
-use Rattle.text.specs.Lines.{Small}
+use Rattle.text.specs.route.Lines.{Small}
 use borrow.Author.Needs.{needs}
 use Rattle.text.proofs.line.pieces_of.Statement.{statement}
 use Rattle.text.proofs.line.pieces_of.Tie as tie

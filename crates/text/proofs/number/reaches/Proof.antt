@@ -1,7 +1,7 @@
 -- `text::number::reaches` meets its contract. Assumes nothing.
 use native.Mathlib.Omega.{arith}
 use borrow.Author.Tests.{lt-ltb, le-ltb}
-use Rattle.text.specs.Pieces.{reachesOf}
+use Rattle.text.specs.route.Pieces.{reachesOf}
 use Rattle.text.proofs.number.reaches.Statement.{statement}
 use Rattle.text.proofs.number.reaches.Tie as tie
 

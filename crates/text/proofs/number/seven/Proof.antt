@@ -3,7 +3,7 @@ use mathlib.Core.Path.{refl}
 use native.Mathlib.Omega.{arith}
 use lib.Dec.{lit<}
 use Rattle.bits.specs.Bytes.{bytesOf}
-use Rattle.text.specs.Pieces.{textIn}
+use Rattle.text.specs.route.Pieces.{textIn}
 use Rattle.text.proofs.Packing.{on, spelled, spells-as}
 use Rattle.text.proofs.Numbers.{seven-are}
 use borrow.Author.Needs.{needs}

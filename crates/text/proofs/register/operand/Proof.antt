@@ -1,7 +1,7 @@
 -- `text::register::operand` meets its contract. Assumes nothing.
 use native.Mathlib.Omega.{arith}
 use borrow.Author.Tests.{ne-eqb}
-use Rattle.text.specs.Lines.{letterText}
+use Rattle.text.specs.route.Lines.{letterText}
 use Rattle.text.proofs.Packing.{on, spelled, comma}
 use borrow.Author.Needs.{needs}
 use Rattle.text.proofs.register.operand.Statement.{statement}

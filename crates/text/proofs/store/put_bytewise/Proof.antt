@@ -1,6 +1,6 @@
 -- `text::store::put_bytewise` meets its contract. Assumes nothing.
 use Rattle.ascii.proofs.Pieces.{after}
-use Rattle.text.specs.Pieces.{textIn}
+use Rattle.text.specs.route.Pieces.{textIn}
 use borrow.Author.Needs.{needs}
 use Rattle.text.proofs.store.put_bytewise.Statement.{statement}
 use Rattle.text.proofs.store.put_bytewise.Tie as tie

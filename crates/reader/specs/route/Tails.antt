@@ -3,7 +3,7 @@ use Prim.Native.Nat.{ℕ, _%_}
 use mathlib.Core.List.{List, [], _∷_}
 use lib.IntN.{ℤ, pos, negℤ}
 use Rattle.bits.specs.Choice.{lookup}
-use Rattle.reader.specs.Scan.{key}
+use Rattle.reader.specs.route.Scan.{key}
 use Rattle.reader.specs.Types.{Tail, AtOffset, Before, After, Indexed}
 
 abbrev pub tailTable : List (ℕ × Tail)

@@ -11,9 +11,9 @@ use Rattle.instruction.specs.declared.family.OffsetOperands.{OffsetOperands}
 use Rattle.instruction.specs.declared.family.Family.{Family}
 use Rattle.instruction.specs.declared.family.Family.the-variants.{Empty, Literal, Pair, Ordered, Unscaled, PostIndex, PreIndex, Register, Unsigned}
 use Rattle.mnemonic.specs.declared.Mnemonic.{Mnemonic}
-use Rattle.mnemonic.specs.Named.{known}
+use Rattle.mnemonic.specs.route.Named.{known}
 use Rattle.text.specs.declared.store.Pieces.{Pieces}
-use Rattle.text.specs.Pieces.{textIn, Fit}
+use Rattle.text.specs.route.Pieces.{textIn, Fit}
 
 pub record Sound (p : Pieces) : Type 0 where
   pub name : Fit (p .name)

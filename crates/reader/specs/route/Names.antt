@@ -2,7 +2,7 @@
 use Prim.Native.Nat.{ℕ}
 use mathlib.Core.List.{List, [], _∷_}
 use Rattle.bits.specs.Choice.{lookup}
-use Rattle.reader.specs.Scan.{key}
+use Rattle.reader.specs.route.Scan.{key}
 use Rattle.reader.specs.Types.{Name, NoName, PlainName, UnscaledName, OrderedName, PairName, NoAllocateName, StoreByte, LoadByte, LoadSignedByte64, LoadSignedByte32, StoreHalf, LoadHalf, LoadSignedHalf64, LoadSignedHalf32, StoreWord, LoadWord, LoadSignedWord64, StoreDouble, LoadDouble, Prefetch, StoreWords, LoadWords, LoadSignedWords, StoreDoubles, LoadDoubles}
 
 -- registers of 32 bits

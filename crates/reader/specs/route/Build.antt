@@ -3,8 +3,8 @@ use Prim.Native.Nat.{ℕ, _%_}
 use lib.Dec.{eqb}
 use lib.ListN.{getD}
 use Rattle.bits.specs.Choice.{pick}
-use Rattle.reader.specs.Names.{nameFor}
-use Rattle.reader.specs.Tails.{tailAt, offsetAt, optionAt, scaledAt}
+use Rattle.reader.specs.route.Names.{nameFor}
+use Rattle.reader.specs.route.Tails.{tailAt, offsetAt, optionAt, scaledAt}
 use Rattle.reader.specs.Types.{Scan, Name, NoName, PlainName, UnscaledName, OrderedName, PairName, NoAllocateName, Tail, AtOffset, Before, After, Indexed, SizedOp, StoreByte, LoadByte, LoadSignedByte64, LoadSignedByte32, StoreHalf, LoadHalf, LoadSignedHalf64, LoadSignedHalf32, StoreWord, LoadWord, LoadSignedWord64, StoreDouble, LoadDouble, Prefetch, LiteralOp, LiteralWord, LiteralDouble, LiteralSignedWord, LiteralPrefetch, PairMode, NoAllocate, Post, Offset, Pre, Family, Empty, Literal, Pair, Ordered, Unscaled, PostIndex, PreIndex, Register, Unsigned, Instruction, LiteralOperands, PairOperands, OffsetOperands, IndexOperands}
 
 -- the key and the number of a word

@@ -1,0 +1,4 @@
+pub mod Scan
+pub mod Names
+pub mod Tails
+pub mod Build
