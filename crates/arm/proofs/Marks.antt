@@ -1,6 +1,6 @@
 -- The machine's rule of taints is 01's rule of marks, for one register and for two. Assumes nothing.
 use Prim.Native.Nat.{ℕ, zero, suc, _+_, _-_, _*_, _/_, _≤_}
-use mathlib.Core.Path.{_≡_, refl, ap, _∙_}
+use mathlib.Core.Path.{_≡_, refl, sym, ap, _∙_}
 use mathlib.Core.Bool.{Bool, true, false, not, _||_}
 use mathlib.Core.List.{List}
 use native.Mathlib.Omega.{arith}
@@ -15,6 +15,7 @@ use Rattle.memory.specs.Taints.{tainted, anyTainted, taintByte}
 use Rattle.access.specs.declared.transfer.Transfer.{Transfer}
 use Rattle.machine.specs.Rule.{Taints, moveRule}
 use Rattle.arm.specs.Marks.{mark, setMark, anyMarked, setMarks, marksOf}
+use Rattle.arm.proofs.Places.{next}
 
 -- ---- registers: a slot of 32 is none
 
@@ -43,13 +44,10 @@ one-byte : (x : ℕ) (b : Bool) → pick (tainted x) true b ≡ (not (eqb x 0) |
 one-byte zero b = refl
 one-byte (suc x) b = rw (eqb·suc-zero x)
 
-next : {origin a : ℕ} → origin ≤ a → suc (a - origin) ≡ a + 1 - origin
-next h = omega arith
-
 any-is : (origin address n : ℕ) (k : List ℕ) → origin ≤ address → anyTainted (spanOf k (address - origin) n) ≡ anyMarked origin address n k
 unfolding anyTainted spanOf anyMarked
 any-is origin address zero k h = refl
-any-is origin address (suc n) k h = one-byte (getD k (address - origin) 0) _ ∙ rw (next h, any-is origin (address + 1) n k (omega arith))
+any-is origin address (suc n) k h = one-byte (getD k (address - origin) 0) _ ∙ rw (← next h, any-is origin (address + 1) n k (omega arith))
 
 byte-is : (b : Bool) → taintByte b ≡ pick b 1 0
 byte-is true = refl
@@ -60,11 +58,20 @@ set-marks : (origin address n : ℕ) (b : Bool) (k : List ℕ) → origin ≤ ad
 unfolding setMarks
 set-marks origin address zero b k h = refl
 set-marks origin address (suc n) b k h =
-    ap (λ (i : ℕ). sets (set k (address - origin) (taintByte b)) i (replicate n (taintByte b))) (next h)
+    ap (λ (i : ℕ). sets (set k (address - origin) (taintByte b)) i (replicate n (taintByte b))) (sym (next h))
     ∙ set-marks origin (address + 1) n b (set k (address - origin) (taintByte b)) (omega arith)
     ∙ ap (λ (x : ℕ). setMarks origin (address + 1) n b (set k (address - origin) x)) (byte-is b)
 
 -- ---- the rule
+
+-- the transfers of one register and of two
+abbrev pub single : Bool → Bool → ℕ → ℕ → ℕ → Transfer
+single store ordered k extent t =
+    record { store = store; ordered = ordered; bytes = k; more = 0; extent = extent; target = zeroSlot t; second = 32 }
+
+abbrev pub double : Bool → ℕ → ℕ → ℕ → ℕ → Transfer
+double store k extent t t2 =
+    record { store = store; ordered = false; bytes = k; more = k; extent = extent; target = zeroSlot t; second = zeroSlot t2 }
 
 abbrev taints : List Bool → List ℕ → Taints
 taints r b = record { registers = r; bytes = b }
@@ -93,14 +100,8 @@ module _ (wback : Bool) (origin word address : ℕ) (p : Taints) (len : length (
       → sets bytes (a - origin) (replicate k (taintByte (getD (p .registers) (zeroSlot n) false))) ≡ setMarks origin a k (mark n (p .registers)) bytes
   stored n k a bytes l = rw (mark-is (p .registers) len n) (set-marks origin a k (mark n (p .registers)) bytes l)
 
-  abbrev single : Bool → Bool → ℕ → ℕ → Transfer
-  single store ordered k extent = record { store = store; ordered = ordered; bytes = k; more = 0; extent = extent; target = zeroSlot t; second = 32 }
-
-  abbrev double : Bool → ℕ → ℕ → Transfer
-  double store k extent = record { store = store; ordered = false; bytes = k; more = k; extent = extent; target = zeroSlot t; second = zeroSlot t2 }
-
   pub one-marks : (store ordered : Bool) (k extent written : ℕ) → written ≡ pick wback (field 9 5 word) 32
-      → moveRule (single store ordered k extent) written (address - origin) p ≡ marksOf false wback store origin word address k p
+      → moveRule (single store ordered k extent t) written (address - origin) p ≡ marksOf false wback store origin word address k p
   unfolding moveRule marksOf
   one-marks true ordered k extent written e = rw e (same based-is (stored t k address (p .bytes) h))
   one-marks false ordered k extent written e =
@@ -110,7 +111,7 @@ module _ (wback : Bool) (origin word address : ℕ) (p : Taints) (len : length (
       (same (ap (set based (zeroSlot t)) (any-is origin address k (p .bytes) h) ∙ set-mark based based-length t _) refl)
 
   pub two-marks : (store : Bool) (k extent written : ℕ) → written ≡ pick wback (field 9 5 word) 32
-      → moveRule (double store k extent) written (address - origin) p ≡ marksOf true wback store origin word address (2 * k) p
+      → moveRule (double store k extent t t2) written (address - origin) p ≡ marksOf true wback store origin word address (2 * k) p
   unfolding moveRule marksOf
   two-marks true k extent written e =
       let half : 2 * k / 2 ≡ k = omega arith in

@@ -22,7 +22,6 @@ use Rattle.instruction.specs.Operations.{pairAt, modeAt, pairBytes}
 use Rattle.instruction.specs.Undefined.{undefinedPair}
 use Rattle.instruction.specs.Unpredictable.{baseIs, pairBaseIs, unpredictablePair}
 use Rattle.instruction.specs.Instructions.{pairOpIn, pairIn, familyIn}
-use Rattle.access.specs.declared.transfer.Transfer.{Transfer}
 use Rattle.access.specs.declared.addressing.Addressing.{Addressing}
 use Rattle.access.specs.declared.Access.{Access}
 use Rattle.access.specs.declared.Access.the-variants.{Moves}
@@ -38,7 +37,7 @@ use Rattle.arm.specs.Pair.{paired, pair}
 use Rattle.arm.specs.Choices.{armOf}
 use Rattle.arm.proofs.Bits.{add-small, offset-is, extended-is}
 use Rattle.arm.proofs.Places.{x-is, set-x, set-base, mem-is, withMemory, set-mem, low-bytes, joined-lt}
-use Rattle.arm.proofs.Marks.{two-marks}
+use Rattle.arm.proofs.Marks.{double, two-marks}
 use Rattle.arm.proofs.Steps.{Ready, Inside, Steps, loads-step, stores-step}
 use Rattle.arm.proofs.Singles.{four, back, back-registers, back-memory, Form, extended-none}
 use Rattle.arm.proofs.Families.{never, apart, based-form}
@@ -85,10 +84,6 @@ module _ (s : Arm) (len : length (s .registers) ≡ 32) where
       let two = set-mem (withMemory b s) k (address + k) (X t2 (8 * k) s) (omega arith) (omega arith) in
       rw (a, one, two, e, x-is s len t (8 * k) (omega arith), x-is s len t2 (8 * k) (omega arith), low-bytes k (getD (s .registers) (zeroSlot t) 0), low-bytes k (getD (s .registers) (zeroSlot t2) 0))
 
-abbrev transfer : Bool → ℕ → ℕ → ℕ → ℕ → Transfer
-transfer store bytes extent t t2 =
-    record { store = store; ordered = false; bytes = bytes; more = bytes; extent = extent; target = zeroSlot t; second = zeroSlot t2 }
-
 module _ (w : Window) (m : Machine) (r : Ready w m) (word : ℕ) (a : Addressing) (wback : Bool) (address next : ℕ)
     (f : Form w m PairLine word a false wback address next) (other : wback ≡ true → ¬ (field 9 5 word ≡ zeroSlot (field 14 10 word))) where
   abbrev s : Arm
@@ -110,10 +105,10 @@ module _ (w : Window) (m : Machine) (r : Ready w m) (word : ℕ) (a : Addressing
   stored k = back wback n next (setMem (Add address k) k (X t2 (8 * k) s) (setMem address k (X t (8 * k) s) s))
 
   two-loads : (k extent width : ℕ) (g : ℕ → ℕ) → 0 < k → k ≤ 8 → ((v : ℕ) → v < 256 ^ k → extendedOf k extent v ≡ g v)
-      → wordAccess word ≡ Moves (transfer false k extent t t2) a → Steps w m PairLine word (loads address (2 * k) (loaded k width g))
+      → wordAccess word ≡ Moves (double false k extent t t2) a → Steps w m PairLine word (loads address (2 * k) (loaded k width g))
   unfolding setX
   two-loads k extent width g p q ext e =
-      loads-step w m (r .top) PairLine word (transfer false k extent t t2) a address (2 * k) (loaded k width g)
+      loads-step w m (r .top) PairLine word (double false k extent t t2) a address (2 * k) (loaded k width g)
       (record {
         access = e;
         total = omega arith;
@@ -138,13 +133,13 @@ module _ (w : Window) (m : Machine) (r : Ready w m) (word : ℕ) (a : Addressing
       })
       refl
 
-  two-stores : (k extent : ℕ) → 0 < k → k ≤ 8 → wordAccess word ≡ Moves (transfer true k extent t t2) a → Steps w m PairLine word (stores address (2 * k) (stored k))
+  two-stores : (k extent : ℕ) → 0 < k → k ≤ 8 → wordAccess word ≡ Moves (double true k extent t t2) a → Steps w m PairLine word (stores address (2 * k) (stored k))
   two-stores k extent p q e =
       let len = r .real .registers in
       let after : Arm = withMemory (filled s len k t t2 (address - w .origin)) s in
       let places : Inside w address (2 * k) → setMem (Add address k) k (X t2 (8 * k) s) (setMem address k (X t (8 * k) s) s) ≡ after =
       λ h. two-places s len k t t2 address p (h .from) (h .upto) in
-      stores-step w m (r .top) PairLine word (transfer true k extent t t2) a address (2 * k) (stored k)
+      stores-step w m (r .top) PairLine word (double true k extent t t2) a address (2 * k) (stored k)
       (record {
         access = e;
         total = omega arith;

@@ -58,7 +58,7 @@ module _ (s : Arm) (l : length (s .registers) ≡ 32) where
 
 -- ---- memory
 
-next : {origin a : ℕ} → origin ≤ a → a + 1 - origin ≡ suc (a - origin)
+pub next : {origin a : ℕ} → origin ≤ a → a + 1 - origin ≡ suc (a - origin)
 next h = omega arith
 
 -- the address of a further byte, where there is one, is not wrapped

@@ -16,7 +16,6 @@ use Rattle.registers.specs.File.{zeroSlot}
 use Rattle.memory.specs.Extension.{largest, extendedOf}
 use Rattle.instruction.specs.declared.line.Line.{Line}
 use Rattle.instruction.specs.Operations.{sizedAt}
-use Rattle.access.specs.declared.transfer.Transfer.{Transfer}
 use Rattle.access.specs.declared.addressing.Addressing.{Addressing}
 use Rattle.access.specs.declared.Access.the-variants.{Moves}
 use Rattle.access.specs.Transfers.{extentOf, sizedTransfer}
@@ -31,7 +30,7 @@ use Rattle.arm.specs.Pages.{pageOf}
 use Rattle.arm.specs.Choices.{marked, crosses, armOf}
 use Rattle.arm.proofs.Bits.{zero-extend, extended-is}
 use Rattle.arm.proofs.Places.{x-is, set-x, set-base, mem-is, withMemory, set-mem, low-bytes, joined-lt}
-use Rattle.arm.proofs.Marks.{one-marks}
+use Rattle.arm.proofs.Marks.{single, one-marks}
 use Rattle.arm.proofs.Steps.{Ready, Steps, loads-step, stores-step}
 
 -- a fact of each number of two bits
@@ -115,12 +114,8 @@ pub record Form (w : Window) (m : Machine) (l : Line) (word : ℕ) (a : Addressi
   pub apart : wback ≡ true → ¬ (field 9 5 word ≡ zeroSlot (field 4 0 word))
   pub block : (k : ℕ) → 0 < k → k ≤ 16 → misaligned ordered k address ≡ crosses (pageOf l word) address k
 
-abbrev transfer : Bool → Bool → ℕ → ℕ → ℕ → Transfer
-transfer store ordered bytes extent t =
-    record { store = store; ordered = ordered; bytes = bytes; more = 0; extent = extent; target = zeroSlot t; second = 32 }
-
 module _ (w : Window) (m : Machine) (r : Ready w m) (l : Line) (word : ℕ) (a : Addressing) (ordered wback : Bool) (address next : ℕ)
-    (f : Form w m l word a ordered wback address next) (single : pageOf l word .paired ≡ false) where
+    (f : Form w m l word a ordered wback address next) (alone : pageOf l word .paired ≡ false) where
   abbrev s : Arm
   s = armOf w m
 
@@ -137,10 +132,10 @@ module _ (w : Window) (m : Machine) (r : Ready w m) (l : Line) (word : ℕ) (a :
   stored k = back wback n next (setMem address k (X t (8 * k) s) s)
 
   pub one-load : (k extent width : ℕ) (g : ℕ → ℕ) → 0 < k → k ≤ 16 → ((v : ℕ) → v < 256 ^ k → extendedOf k extent v ≡ g v)
-      → wordAccess word ≡ Moves (transfer false ordered k extent t) a → Steps w m l word (loads address k (loaded k width g))
+      → wordAccess word ≡ Moves (single false ordered k extent t) a → Steps w m l word (loads address k (loaded k width g))
   unfolding setX
   one-load k extent width g p q ext e =
-      loads-step w m (r .top) l word (transfer false ordered k extent t) a address k (loaded k width g)
+      loads-step w m (r .top) l word (single false ordered k extent t) a address k (loaded k width g)
       (record {
         access = e;
         total = add-zero k;
@@ -156,15 +151,15 @@ module _ (w : Window) (m : Machine) (r : Ready w m) (l : Line) (word : ℕ) (a :
             load-all s (r .real .registers) wback n t next width _ (f .written) (f .sum) x (f .apart);
         marks =
             λ h.
-            rw (single, f .back) (one-marks wback (w .origin) word address (m .taints) (r .real .marks) (h .from) false ordered k extent (a .written) (f .written));
+            rw (alone, f .back) (one-marks wback (w .origin) word address (m .taints) (r .real .marks) (h .from) false ordered k extent (a .written) (f .written));
         memory = λ h. sym (back-memory wback n next (setX t width (g (Mem address k s)) s));
       })
       refl
 
-  pub one-store : (k extent : ℕ) → 0 < k → k ≤ 16 → wordAccess word ≡ Moves (transfer true ordered k extent t) a → Steps w m l word (stores address k (stored k))
+  pub one-store : (k extent : ℕ) → 0 < k → k ≤ 16 → wordAccess word ≡ Moves (single true ordered k extent t) a → Steps w m l word (stores address k (stored k))
   unfolding bytesOf
   one-store k extent p q e =
-      stores-step w m (r .top) l word (transfer true ordered k extent t) a address k (stored k)
+      stores-step w m (r .top) l word (single true ordered k extent t) a address k (stored k)
       (record {
         access = e;
         total = add-zero k;
@@ -174,7 +169,7 @@ module _ (w : Window) (m : Machine) (r : Ready w m) (l : Line) (word : ℕ) (a :
         registers = λ h. store-registers s (r .real .registers) k address (h .from) (h .upto) wback n next _ (f .written) (f .sum);
         marks =
             λ h.
-            rw (single, f .back) (one-marks wback (w .origin) word address (m .taints) (r .real .marks) (h .from) true ordered k extent (a .written) (f .written));
+            rw (alone, f .back) (one-marks wback (w .origin) word address (m .taints) (r .real .marks) (h .from) true ordered k extent (a .written) (f .written));
         memory = λ h. store-memory s (r .real .registers) k address (h .from) (h .upto) t p ∙ sym (back-memory wback n next _);
       })
       refl
