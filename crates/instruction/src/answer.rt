@@ -22,7 +22,7 @@ pub enum Answer {
 
 // 01's number of an answer.
 pub fn answer_number(answer: Answer) -> u32
-    ensures { λ r. ⌜ (r ≡ answerNumber answer) × (r < 12) ⌝ }
+    ensures { λ r. ⌜ (r ≡ answerNumber answer) × (r < 32) ⌝ }
 {
     match answer {
         Answer::Done => 0,

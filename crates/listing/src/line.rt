@@ -54,7 +54,7 @@ struct Content {
 
 // The text of a word. Words of answers 2 and 3 have none.
 fn put_content(output: &mut [u8], at: usize, word: u32) -> Content
-    ensures { λ r. ⌜ (r .number ≡ answerNumber (classOf word)) × (r .number < 12) × Puts (now (output .entry)) at (contentText word) (now (output .exit)) (r .end) ⌝ }
+    ensures { λ r. ⌜ (r .number ≡ answerNumber (classOf word)) × (r .number < 32) × Puts (now (output .entry)) at (contentText word) (now (output .exit)) (r .end) ⌝ }
 {
     let shown = text::put(output, at, word);
     let answer = shown.answer;

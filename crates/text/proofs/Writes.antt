@@ -5,7 +5,8 @@ use mathlib.Core.Bool.{Bool, true, false, _&&_, not}
 use mathlib.Core.List.{List, []}
 use native.Mathlib.Nat.{zero-add}
 use native.Mathlib.Omega.{arith}
-use borrow.Author.Tests.{lt-ltb, le-ltb}
+use borrow.Author.Tests.{lt-ltb, le-ltb, eq-eqb, ne-eqb}
+use lib.Dec.{eqb}
 use lib.ListN.{length}
 use Rattle.bits.specs.Choice.{pick}
 use Rattle.instruction.specs.declared.answer.Answer.the-variants.{Done, NotInSet, Undefined, Unpredictable, NoRoom}
@@ -19,7 +20,7 @@ use Rattle.instruction.specs.Unpredictable.{unpredictable}
 use Rattle.instruction.specs.Decoding.{decodeOf, classOf, empty}
 use Rattle.text.specs.Texts.{familyText, textOf}
 use Rattle.ascii.specs.route.Puts.{Puts}
-use Rattle.text.specs.Writing.{wordText, Outcome, copied, writeOf, isDone}
+use Rattle.text.specs.Writing.{wordText, Outcome, copied, writeOf}
 use Rattle.ascii.proofs.Pieces.{fits}
 
 -- ---- copying it
@@ -37,32 +38,32 @@ module _ (t b : List ℕ) where
 
 -- ---- the word's own text
 
-done-is : (s u : Bool) → isDone (pick s (pick u Undefined Done) NotInSet) ≡ (s && not u)
+done-is : (s u : Bool) → eqb (answerNumber (pick s (pick u Undefined Done) NotInSet)) 0 ≡ (s && not u)
 done-is true true = refl
 done-is true false = refl
 done-is false true = refl
 done-is false false = refl
 
-allocated-is : (w : ℕ) → isDone (decodeOf w .answer) ≡ allocated w
+allocated-is : (w : ℕ) → eqb (answerNumber (decodeOf w .answer)) 0 ≡ allocated w
 unfolding decodeOf allocated
 allocated-is w = done-is (inSet w) (undefined w)
 
-module _ (w : ℕ) (b : List ℕ) {d : Decoded} (e : d ≡ decodeOf w) {a : Bool} (q : a ≡ isDone (d .answer)) where
-  allocated-as : (t : Bool) → a ≡ t → allocated w ≡ t
-  allocated-as t h = sym (allocated-is w) ∙ ap (λ (x : Decoded). isDone (x .answer)) (sym e) ∙ sym q ∙ h
+module _ (w : ℕ) (b : List ℕ) {d : Decoded} (e : d ≡ decodeOf w) {n : ℕ} (q : n ≡ answerNumber (d .answer)) where
+  allocated-as : (t : Bool) → eqb n 0 ≡ t → allocated w ≡ t
+  allocated-as t h = sym (allocated-is w) ∙ ap (λ (x : Decoded). eqb (answerNumber (x .answer)) 0) (sym e) ∙ ap (λ (k : ℕ). eqb k 0) (sym q) ∙ h
 
-  pub write-refused : a ≡ false → record { answer = d .answer; length = 0; buffer = b } ≡ writeOf w b
+  pub write-refused : ¬ (n ≡ 0) → record { answer = d .answer; length = 0; buffer = b } ≡ writeOf w b
   unfolding writeOf
-  write-refused h = rw (allocated-as false h, e)
+  write-refused h = rw (allocated-as false (ne-eqb n 0 h), e)
 
   family-is : allocated w ≡ true → d .instruction .family ≡ instructionOf w .family
   unfolding decodeOf
   family-is h = ap (λ (x : Decoded). x .instruction .family) e ∙ rw h
 
-  pub write-done : {t : List ℕ} {o : Outcome} → a ≡ true → t ≡ familyText (d .instruction .family) → o ≡ copied t b → o ≡ writeOf w b
+  pub write-done : {t : List ℕ} {o : Outcome} → n ≡ 0 → t ≡ familyText (d .instruction .family) → o ≡ copied t b → o ≡ writeOf w b
   unfolding writeOf wordText textOf
   write-done {t} h p r =
-      let g = allocated-as true h in
+      let g = allocated-as true (eq-eqb n 0 h) in
       rw g (r ∙ ap (λ (x : List ℕ). copied x b) (p ∙ ap familyText (family-is g)))
 
 -- ---- a word that has no text

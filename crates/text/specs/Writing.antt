@@ -1,6 +1,5 @@
 -- What writing the text of a word gives: 01, "Answer numbers", tests 2, 3 and 10 in this order.
 use Prim.Native.Nat.{ℕ}
-use mathlib.Core.Bool.{Bool, true, false}
 use mathlib.Core.List.{List}
 use lib.Dec.{ltb}
 use lib.ListN
@@ -9,7 +8,7 @@ use Rattle.bits.specs.Choice.{pick}
 use Rattle.text.specs.Texts.{textOf}
 use Rattle.text.specs.declared.Written.{Written}
 use Rattle.instruction.specs.declared.answer.Answer.{Answer}
-use Rattle.instruction.specs.declared.answer.Answer.the-variants.{Done, BadWindow, NotInSet, Undefined, Unpredictable, TaintedAddress, Misaligned, OutOfWindow, ReadOnly, NoSuchText, NoRoom, NoSuchInstruction}
+use Rattle.instruction.specs.declared.answer.Answer.the-variants.{Done, NoRoom}
 use Rattle.instruction.specs.Undefined.{allocated}
 use Rattle.instruction.specs.Instructions.{instructionOf}
 use Rattle.instruction.specs.Decoding.{decodeOf}
@@ -38,17 +37,3 @@ copied t buffer =
 
 unfoldable pub writeOf : ℕ → List ℕ → Outcome
 writeOf w buffer = pick (allocated w) (copied (wordText w) buffer) (record { answer = decodeOf w .answer; length = 0; buffer = buffer })
-
-abbrev pub isDone : Answer → Bool
-isDone Done = true
-isDone BadWindow = false
-isDone NotInSet = false
-isDone Undefined = false
-isDone Unpredictable = false
-isDone TaintedAddress = false
-isDone Misaligned = false
-isDone OutOfWindow = false
-isDone ReadOnly = false
-isDone NoSuchText = false
-isDone NoRoom = false
-isDone NoSuchInstruction = false

@@ -14,7 +14,7 @@ ghost use mathlib.Core.Path.{_≡_};
 ghost use Rattle.instruction.specs.Decoding.{classOf, decodeOf};
 ghost use Rattle.ascii.specs.route.Puts.{Puts};
 ghost use Rattle.text.specs.Texts.{textOf, familyText};
-ghost use Rattle.text.specs.Writing.{isDone, outcome, copied, writeOf};
+ghost use Rattle.text.specs.Writing.{outcome, copied, writeOf};
 ghost use Rattle.text.specs.route.Lines.{Small, Sound, whole};
 
 // What writing a text returns. The length is 0 where it is refused.
@@ -66,7 +66,7 @@ pub fn write(word: u32, buffer: &mut [u8]) -> Written
     let answer = decoded.answer;
     let instruction = decoded.instruction;
     let family = instruction.family;
-    if !is_done(answer) {
+    if instruction::answer_number(answer) != 0 {
         return Written { answer, length: 0 };
     }
     write_pieces(line::pieces_of(family), buffer)
@@ -85,24 +85,5 @@ fn write_pieces(pieces: Pieces, buffer: &mut [u8]) -> Written
     Written {
         answer: Answer::Done,
         length: store::put_pieces(buffer, 0, pieces),
-    }
-}
-
-fn is_done(answer: Answer) -> bool
-    ensures { λ r. ⌜ r ≡ isDone answer ⌝ }
-{
-    match answer {
-        Answer::Done => true,
-        Answer::BadWindow => false,
-        Answer::NotInSet => false,
-        Answer::Undefined => false,
-        Answer::Unpredictable => false,
-        Answer::TaintedAddress => false,
-        Answer::Misaligned => false,
-        Answer::OutOfWindow => false,
-        Answer::ReadOnly => false,
-        Answer::NoSuchText => false,
-        Answer::NoRoom => false,
-        Answer::NoSuchInstruction => false,
     }
 }

@@ -1,5 +1,4 @@
 -- `text::write` meets its contract. Assumes nothing.
-use borrow.Author.Tests.{not-true, not-false}
 use Rattle.text.proofs.Smalls.{decoded-small}
 use Rattle.text.proofs.Writes.{write-refused, write-done}
 use borrow.Author.Needs.{needs}
@@ -12,8 +11,8 @@ write-spec =
     (tie.spec
     (λ c κs. search needs)
     (λ c κs. search needs)
-    (λ c. write-refused _ _ (c .before .before .before .decode .ensures) (c .before .is-done .ensures) (not-true _ (c .if1 .taken)))
+    (λ c. write-refused _ _ (c .before .before .before .decode .ensures) (c .before .answer-number .ensures .0) (c .if1 .taken))
     (λ c κs. rw (c .before .before .before .decode .ensures) (decoded-small _))
     (λ c κs. search needs)
     (λ c. search needs)
-    (λ c. write-done _ _ (c .before .before .before .before .before .before .before .before .decode .ensures) (c .before .before .before .before .before .before .is-done .ensures) (not-false _ (c .before .before .before .before .before .if1 .left)) (c .before .before .before .before .pieces-of .ensures .text) (c .before .before .write-pieces .ensures)))
+    (λ c. write-done _ _ (c .before .before .before .before .before .before .before .before .decode .ensures) (c .before .before .before .before .before .before .answer-number .ensures .0) (c .before .before .before .before .before .if1 .left) (c .before .before .before .before .pieces-of .ensures .text) (c .before .before .write-pieces .ensures)))
