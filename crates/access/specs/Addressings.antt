@@ -8,7 +8,7 @@ use Rattle.instruction.specs.declared.family.IndexOperands.{IndexOperands}
 use Rattle.instruction.specs.declared.operation.SizedOp.{SizedOp}
 use Rattle.instruction.specs.declared.operation.PairMode.{PairMode}
 use Rattle.instruction.specs.declared.operation.PairMode.the-variants.{NoAllocate, Post, Offset, Pre}
-use Rattle.instruction.specs.Operations.{sizeOf}
+use Rattle.instruction.specs.Operations.{scaleOf}
 use Rattle.registers.specs.File.{zeroSlot}
 use Rattle.access.specs.Transfers.{none}
 use Rattle.access.specs.declared.addressing.Addressing.{Addressing}
@@ -45,7 +45,7 @@ pairedMode Pre base offset = preMode base offset
 
 -- shifted left by size if S is 1
 unfoldable pub shiftOf : SizedOp → ℕ → ℕ
-shiftOf op scaled = pick (eqb scaled 1) (sizeOf op) 0
+shiftOf op scaled = pick (eqb scaled 1) (scaleOf op) 0
 
 unfoldable pub indexedMode : SizedOp → IndexOperands → Addressing
 indexedMode op o =

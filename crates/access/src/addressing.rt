@@ -95,7 +95,7 @@ fn shift(op: SizedOp, scaled: u32) -> u32
     ensures { λ r. ⌜ r ≡ shiftOf op scaled ⌝ }
 {
     if scaled == 1 {
-        return instruction::size_field(op);
+        return instruction::scale(op);
     }
     0
 }

@@ -2,14 +2,31 @@
 use Prim.Native.Nat.{ℕ, _+_, _*_, _≤_, _<_}
 use mathlib.Core.Path.{_≡_, refl}
 use mathlib.Core.Bool.{Bool, _||_, or-false}
+use native.Mathlib.Nat.{one-le-pow, pow-le-pow-right}
 use native.Mathlib.Omega.{arith}
 use lib.Dec.{eqb}
 use borrow.Author.Tests.{eqb-true, ne-eqb}
 use Rattle.bits.proofs.Choices.{tested}
 use Rattle.instruction.specs.Types.{SizedOp, StoreByte, LoadByte, LoadSignedByte64, LoadSignedByte32, StoreHalf, LoadHalf, LoadSignedHalf64, LoadSignedHalf32, StoreWord, LoadWord, LoadSignedWord64, StoreDouble, LoadDouble, Prefetch, PairOp, StoreWords, LoadWords, LoadSignedWords, StoreDoubles, LoadDoubles, LiteralOp, LiteralWord, LiteralDouble, LiteralSignedWord, LiteralPrefetch, PairMode, NoAllocate, Post, Offset, Pre}
-use Rattle.instruction.specs.Operations.{sizedAt, sizeOf, opcOf, sizedBytes, literalAt, literalOpc, pairAt, pairOpc, pairLoad, pairBytes, modeAt, modeCode}
+use Rattle.instruction.specs.Operations.{sizedCode, sizedAt, sizeOf, opcOf, scaleOf, sizedBytes, literalAt, literalOpc, pairAt, pairOpc, pairLoad, pairBytes, modeAt, modeCode}
 
 -- ---- bounds
+
+code-below : (op : SizedOp) → sizedCode op < 16
+code-below StoreByte = omega arith
+code-below LoadByte = omega arith
+code-below LoadSignedByte64 = omega arith
+code-below LoadSignedByte32 = omega arith
+code-below StoreHalf = omega arith
+code-below LoadHalf = omega arith
+code-below LoadSignedHalf64 = omega arith
+code-below LoadSignedHalf32 = omega arith
+code-below StoreWord = omega arith
+code-below LoadWord = omega arith
+code-below LoadSignedWord64 = omega arith
+code-below StoreDouble = omega arith
+code-below LoadDouble = omega arith
+code-below Prefetch = omega arith
 
 pub record Sized (op : SizedOp) : Type 0 where
   pub size : sizeOf op < 4
@@ -18,20 +35,14 @@ pub record Sized (op : SizedOp) : Type 0 where
   pub most : sizedBytes op ≤ 8
 
 pub sized : (op : SizedOp) → Sized op
-sized StoreByte = omega arith
-sized LoadByte = omega arith
-sized LoadSignedByte64 = omega arith
-sized LoadSignedByte32 = omega arith
-sized StoreHalf = omega arith
-sized LoadHalf = omega arith
-sized LoadSignedHalf64 = omega arith
-sized LoadSignedHalf32 = omega arith
-sized StoreWord = omega arith
-sized LoadWord = omega arith
-sized LoadSignedWord64 = omega arith
-sized StoreDouble = omega arith
-sized LoadDouble = omega arith
-sized Prefetch = omega arith
+sized op =
+    let size : sizeOf op < 4 = omega (arith, code-below op) in
+    record {
+      size = size;
+      opc = omega arith;
+      some = one-le-pow (scaleOf op) 2 (omega arith);
+      most = pow-le-pow-right {n = 2} (omega arith) {i = scaleOf op} {j = 3} (omega arith);
+    }
 
 pub record Paired (op : PairOp) : Type 0 where
   pub opc : pairOpc op < 4

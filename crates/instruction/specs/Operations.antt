@@ -1,16 +1,46 @@
 -- The operations of the families, by their codes: 01, "What a word says".
-use Prim.Native.Nat.{ℕ, _^_}
+use Prim.Native.Nat.{ℕ, _/_, _%_, _^_}
 use mathlib.Core.List.{List, [], _∷_}
 use Rattle.bits.specs.Choice.{lookup}
 use Rattle.instruction.specs.Types.{SizedOp, StoreByte, LoadByte, LoadSignedByte64, LoadSignedByte32, StoreHalf, LoadHalf, LoadSignedHalf64, LoadSignedHalf32, StoreWord, LoadWord, LoadSignedWord64, StoreDouble, LoadDouble, Prefetch, LiteralOp, LiteralWord, LiteralDouble, LiteralSignedWord, LiteralPrefetch, PairOp, StoreWords, LoadWords, LoadSignedWords, StoreDoubles, LoadDoubles, PairMode, NoAllocate, Post, Offset, Pre}
 
--- by size and opc; what the table leaves is 11 with 10, the prefetch, and the undefined ones
+-- size and opc of an operation side by side, as one number of four bits
+abbrev pub sizedCode : SizedOp → ℕ
+sizedCode StoreByte = 0b00_00
+sizedCode LoadByte = 0b00_01
+sizedCode LoadSignedByte64 = 0b00_10
+sizedCode LoadSignedByte32 = 0b00_11
+sizedCode StoreHalf = 0b01_00
+sizedCode LoadHalf = 0b01_01
+sizedCode LoadSignedHalf64 = 0b01_10
+sizedCode LoadSignedHalf32 = 0b01_11
+sizedCode StoreWord = 0b10_00
+sizedCode LoadWord = 0b10_01
+sizedCode LoadSignedWord64 = 0b10_10
+sizedCode StoreDouble = 0b11_00
+sizedCode LoadDouble = 0b11_01
+sizedCode Prefetch = 0b11_10
+
+-- the two fields of a word, and the scale: an access has 2 ^ scale bytes, which multiplies offsets and shifts an index
+abbrev pub sizeOf : SizedOp → ℕ
+sizeOf op = sizedCode op / 4
+
+abbrev pub opcOf : SizedOp → ℕ
+opcOf op = sizedCode op % 4
+
+abbrev pub scaleOf : SizedOp → ℕ
+scaleOf op = sizeOf op
+
+-- by code; what the table leaves is the prefetch, and the undefined codes
+abbrev pub coded : SizedOp → ℕ × SizedOp
+coded op = (sizedCode op, op)
+
 abbrev pub sizedTable : List (ℕ × SizedOp)
 sizedTable =
-    (0b00_00, StoreByte) ∷ (0b00_01, LoadByte) ∷ (0b00_10, LoadSignedByte64) ∷ (0b00_11, LoadSignedByte32)
-    ∷ (0b01_00, StoreHalf) ∷ (0b01_01, LoadHalf) ∷ (0b01_10, LoadSignedHalf64) ∷ (0b01_11, LoadSignedHalf32)
-    ∷ (0b10_00, StoreWord) ∷ (0b10_01, LoadWord) ∷ (0b10_10, LoadSignedWord64)
-    ∷ (0b11_00, StoreDouble) ∷ (0b11_01, LoadDouble) ∷ []
+    coded StoreByte ∷ coded LoadByte ∷ coded LoadSignedByte64 ∷ coded LoadSignedByte32
+    ∷ coded StoreHalf ∷ coded LoadHalf ∷ coded LoadSignedHalf64 ∷ coded LoadSignedHalf32
+    ∷ coded StoreWord ∷ coded LoadWord ∷ coded LoadSignedWord64
+    ∷ coded StoreDouble ∷ coded LoadDouble ∷ []
 
 unfoldable pub sizedAt : ℕ → SizedOp
 sizedAt code = lookup Prefetch sizedTable code
@@ -35,42 +65,9 @@ modeTable = (0b00, NoAllocate) ∷ (0b01, Post) ∷ (0b10, Offset) ∷ []
 unfoldable pub modeAt : ℕ → PairMode
 modeAt mode = lookup Pre modeTable mode
 
--- the size of an operation, and its opc
-abbrev pub sizeOf : SizedOp → ℕ
-sizeOf StoreByte = 0b00
-sizeOf LoadByte = 0b00
-sizeOf LoadSignedByte64 = 0b00
-sizeOf LoadSignedByte32 = 0b00
-sizeOf StoreHalf = 0b01
-sizeOf LoadHalf = 0b01
-sizeOf LoadSignedHalf64 = 0b01
-sizeOf LoadSignedHalf32 = 0b01
-sizeOf StoreWord = 0b10
-sizeOf LoadWord = 0b10
-sizeOf LoadSignedWord64 = 0b10
-sizeOf StoreDouble = 0b11
-sizeOf LoadDouble = 0b11
-sizeOf Prefetch = 0b11
-
-abbrev pub opcOf : SizedOp → ℕ
-opcOf StoreByte = 0b00
-opcOf LoadByte = 0b01
-opcOf LoadSignedByte64 = 0b10
-opcOf LoadSignedByte32 = 0b11
-opcOf StoreHalf = 0b00
-opcOf LoadHalf = 0b01
-opcOf LoadSignedHalf64 = 0b10
-opcOf LoadSignedHalf32 = 0b11
-opcOf StoreWord = 0b00
-opcOf LoadWord = 0b01
-opcOf LoadSignedWord64 = 0b10
-opcOf StoreDouble = 0b00
-opcOf LoadDouble = 0b01
-opcOf Prefetch = 0b10
-
 -- the bytes of one access; for a pair, of one register's access
 abbrev pub sizedBytes : SizedOp → ℕ
-sizedBytes op = 2 ^ sizeOf op
+sizedBytes op = 2 ^ scaleOf op
 
 abbrev pub pairBytes : PairOp → ℕ
 pairBytes StoreWords = 4

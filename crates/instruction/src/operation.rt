@@ -1,7 +1,7 @@
 // The operations of the families, and the bytes that each moves.
 ghost use mathlib.Core.Path.{_≡_};
 ghost use Prim.Native.Nat.{_<_};
-ghost use Rattle.instruction.specs.Operations.{sizeOf, opcOf, sizedBytes, pairBytes};
+ghost use Rattle.instruction.specs.Operations.{sizedCode, sizeOf, opcOf, scaleOf, sizedBytes, pairBytes};
 
 // A size with an opc. A signed load extends to 64 bits, or to 32 with zeros above.
 pub enum SizedOp {
@@ -43,55 +43,54 @@ pub enum PairMode {
     Pre,
 }
 
-// The size field of a word: an access moves 2 ^ size bytes. A prefetch has the size of a doubleword.
+// Size and opc side by side. A prefetch has the size of a doubleword.
+fn sized_code(op: SizedOp) -> u32
+    ensures { λ r. ⌜ (r ≡ sizedCode op) × (r < 16) ⌝ }
+{
+    match op {
+        SizedOp::StoreByte => 0b00_00,
+        SizedOp::LoadByte => 0b00_01,
+        SizedOp::LoadSignedByte64 => 0b00_10,
+        SizedOp::LoadSignedByte32 => 0b00_11,
+        SizedOp::StoreHalf => 0b01_00,
+        SizedOp::LoadHalf => 0b01_01,
+        SizedOp::LoadSignedHalf64 => 0b01_10,
+        SizedOp::LoadSignedHalf32 => 0b01_11,
+        SizedOp::StoreWord => 0b10_00,
+        SizedOp::LoadWord => 0b10_01,
+        SizedOp::LoadSignedWord64 => 0b10_10,
+        SizedOp::StoreDouble => 0b11_00,
+        SizedOp::LoadDouble => 0b11_01,
+        SizedOp::Prefetch => 0b11_10,
+    }
+}
+
+// The size field of a word.
 pub fn size_field(op: SizedOp) -> u32
     ensures { λ r. ⌜ (r ≡ sizeOf op) × (r < 4) ⌝ }
 {
-    match op {
-        SizedOp::StoreByte => 0,
-        SizedOp::LoadByte => 0,
-        SizedOp::LoadSignedByte64 => 0,
-        SizedOp::LoadSignedByte32 => 0,
-        SizedOp::StoreHalf => 1,
-        SizedOp::LoadHalf => 1,
-        SizedOp::LoadSignedHalf64 => 1,
-        SizedOp::LoadSignedHalf32 => 1,
-        SizedOp::StoreWord => 2,
-        SizedOp::LoadWord => 2,
-        SizedOp::LoadSignedWord64 => 2,
-        SizedOp::StoreDouble => 3,
-        SizedOp::LoadDouble => 3,
-        SizedOp::Prefetch => 3,
-    }
+    sized_code(op) / 4
 }
 
 // The opc field of a word.
 pub fn opc_field(op: SizedOp) -> u32
     ensures { λ r. ⌜ (r ≡ opcOf op) × (r < 4) ⌝ }
 {
-    match op {
-        SizedOp::StoreByte => 0,
-        SizedOp::LoadByte => 1,
-        SizedOp::LoadSignedByte64 => 2,
-        SizedOp::LoadSignedByte32 => 3,
-        SizedOp::StoreHalf => 0,
-        SizedOp::LoadHalf => 1,
-        SizedOp::LoadSignedHalf64 => 2,
-        SizedOp::LoadSignedHalf32 => 3,
-        SizedOp::StoreWord => 0,
-        SizedOp::LoadWord => 1,
-        SizedOp::LoadSignedWord64 => 2,
-        SizedOp::StoreDouble => 0,
-        SizedOp::LoadDouble => 1,
-        SizedOp::Prefetch => 2,
-    }
+    sized_code(op) % 4
+}
+
+// The bytes of an access as a power of two.
+pub fn scale(op: SizedOp) -> u32
+    ensures { λ r. ⌜ (r ≡ scaleOf op) × (r < 4) ⌝ }
+{
+    size_field(op)
 }
 
 // The bytes of an access.
 pub fn sized_bytes(op: SizedOp) -> u32
     ensures { λ r. ⌜ r ≡ sizedBytes op ⌝ }
 {
-    1 << size_field(op)
+    1 << scale(op)
 }
 
 // The bytes of one register of a pair.

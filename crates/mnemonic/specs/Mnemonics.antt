@@ -1,11 +1,14 @@
 -- Mnemonics: 01, "Lines of text".
 use Prim.Native.Nat.{ℕ}
-use mathlib.Core.List.{List, _++_}
+use mathlib.Core.Bool.{Bool}
+use mathlib.Core.List.{List, [], _∷_, _++_}
+use lib.Dec.{eqb, ltb}
+use Rattle.bits.specs.Choice.{pick, lookup}
+use Rattle.instruction.specs.Operations.{sizedCode, sizeOf, opcOf}
 use Rattle.ascii.specs.Ascii.{asc}
 use Rattle.mnemonic.specs.declared.Stem.{Stem}
 use Rattle.mnemonic.specs.declared.Stem.the-variants.{Plain, Unscale, Order}
 use Rattle.instruction.specs.declared.operation.SizedOp.{SizedOp}
-use Rattle.instruction.specs.declared.operation.SizedOp.the-variants.{StoreByte, LoadByte, LoadSignedByte64, LoadSignedByte32, StoreHalf, LoadHalf, LoadSignedHalf64, LoadSignedHalf32, StoreWord, LoadWord, LoadSignedWord64, StoreDouble, LoadDouble, Prefetch}
 use Rattle.instruction.specs.declared.operation.LiteralOp.{LiteralOp}
 use Rattle.instruction.specs.declared.operation.LiteralOp.the-variants.{LiteralWord, LiteralDouble, LiteralSignedWord, LiteralPrefetch}
 use Rattle.instruction.specs.declared.operation.PairOp.{PairOp}
@@ -13,22 +16,18 @@ use Rattle.instruction.specs.declared.operation.PairOp.the-variants.{StoreWords
 use Rattle.instruction.specs.declared.operation.PairMode.{PairMode}
 use Rattle.instruction.specs.declared.operation.PairMode.the-variants.{NoAllocate, Post, Offset, Pre}
 
--- a stem for stores and one for loads, with the size behind it; a prefetch has a name of its own
+-- b, h, and w where it is signed; a word and a doubleword have none
+abbrev pub sizeLetter : ℕ → Bool → List ℕ
+sizeLetter size signed = lookup [] ((0b00, asc "b") ∷ (0b01, asc "h") ∷ (0b10, pick signed (asc "w") []) ∷ []) size
+
+-- s where it is signed, and the letter of the size
+abbrev pub suffix : ℕ → Bool → List ℕ
+suffix size signed = pick signed (asc "s") [] ++ sizeLetter size signed
+
+-- a stem for stores and one for loads, of which opc 10 and 11 are signed; a prefetch has a name of its own
 abbrev pub stemmed : List ℕ → List ℕ → List ℕ → SizedOp → List ℕ
-stemmed store load hint StoreByte = store ++ asc "b"
-stemmed store load hint LoadByte = load ++ asc "b"
-stemmed store load hint LoadSignedByte64 = load ++ asc "sb"
-stemmed store load hint LoadSignedByte32 = load ++ asc "sb"
-stemmed store load hint StoreHalf = store ++ asc "h"
-stemmed store load hint LoadHalf = load ++ asc "h"
-stemmed store load hint LoadSignedHalf64 = load ++ asc "sh"
-stemmed store load hint LoadSignedHalf32 = load ++ asc "sh"
-stemmed store load hint StoreWord = store
-stemmed store load hint LoadWord = load
-stemmed store load hint LoadSignedWord64 = load ++ asc "sw"
-stemmed store load hint StoreDouble = store
-stemmed store load hint LoadDouble = load
-stemmed store load hint Prefetch = hint
+stemmed store load hint op =
+    pick (eqb (sizedCode op) 0b11_10) hint (pick (eqb (opcOf op) 0b00) store load ++ suffix (sizeOf op) (ltb 0b01 (opcOf op)))
 
 -- post, pre, register and unsigned
 abbrev pub plainName : SizedOp → List ℕ

@@ -1,7 +1,10 @@
 -- The first operand of an operation: a register of 32 bits (w), of 64 bits (x), or the hint of a prefetch.
 use Prim.Native.Nat.{ℕ}
+use mathlib.Core.Bool.{_||_}
+use lib.Dec.{eqb}
+use Rattle.bits.specs.Choice.{pick}
+use Rattle.instruction.specs.Operations.{sizedCode, sizeOf, opcOf}
 use Rattle.instruction.specs.declared.operation.SizedOp.{SizedOp}
-use Rattle.instruction.specs.declared.operation.SizedOp.the-variants.{StoreByte, LoadByte, LoadSignedByte64, LoadSignedByte32, StoreHalf, LoadHalf, LoadSignedHalf64, LoadSignedHalf32, StoreWord, LoadWord, LoadSignedWord64, StoreDouble, LoadDouble, Prefetch}
 use Rattle.instruction.specs.declared.operation.LiteralOp.{LiteralOp}
 use Rattle.instruction.specs.declared.operation.LiteralOp.the-variants.{LiteralWord, LiteralDouble, LiteralSignedWord, LiteralPrefetch}
 use Rattle.instruction.specs.declared.operation.PairOp.{PairOp}
@@ -18,21 +21,9 @@ letterOf Narrow = 119
 letterOf Wide = 120
 letterOf Hint = 35
 
+-- a prefetch has a hint; a doubleword, and what is signed to 64 bits, a register of 64
 abbrev pub sizedOperand : SizedOp → Operand
-sizedOperand StoreByte = Narrow
-sizedOperand LoadByte = Narrow
-sizedOperand LoadSignedByte64 = Wide
-sizedOperand LoadSignedByte32 = Narrow
-sizedOperand StoreHalf = Narrow
-sizedOperand LoadHalf = Narrow
-sizedOperand LoadSignedHalf64 = Wide
-sizedOperand LoadSignedHalf32 = Narrow
-sizedOperand StoreWord = Narrow
-sizedOperand LoadWord = Narrow
-sizedOperand LoadSignedWord64 = Wide
-sizedOperand StoreDouble = Wide
-sizedOperand LoadDouble = Wide
-sizedOperand Prefetch = Hint
+sizedOperand op = pick (eqb (sizedCode op) 0b11_10) Hint (pick (eqb (sizeOf op) 0b11 || eqb (opcOf op) 0b10) Wide Narrow)
 
 abbrev pub literalOperand : LiteralOp → Operand
 literalOperand LiteralWord = Narrow

@@ -10,7 +10,7 @@ use lib.Dec.{eqb, lit<}
 use lib.IntN.{ℤ, pos, negsuc, natAbs, negℤ}
 use Rattle.ascii.specs.Ascii.{asc, dec, signedDec}
 use Rattle.text.specs.Texts.{registerText, offsetTail, preTail, postTail, extendName, amountText, extendText, indexTail}
-use Rattle.instruction.specs.Operations.{sizeOf}
+use Rattle.instruction.specs.Operations.{scaleOf}
 use Rattle.instruction.proofs.Codes.{sized}
 use Rattle.reader.specs.Types.{Scan, Tail, AtOffset, Before, After, Indexed, SizedOp, IndexOperands}
 use Rattle.reader.specs.route.Scan.{packed, key, plainOf, stepOf}
@@ -253,4 +253,4 @@ module _ (w : Words) where
   pub index-end : (op : SizedOp) (o : IndexOperands) → o .index < 32 → (¬ (o .option ≡ 2) → ¬ (o .option ≡ 3) → ¬ (o .option ≡ 6) → o .option ≡ 7) → o .scaled < 2
       → IndexEnd w (o .index) (o .option) (o .scaled) (foldl stepOf (here w) (indexTail op o))
   unfolding indexTail
-  index-end op o h v b = index-any (o .index) h (sizeOf op) (sized op .size) (o .option) (o .scaled) v b
+  index-end op o h v b = index-any (o .index) h (scaleOf op) (sized op .size) (o .option) (o .scaled) v b

@@ -3,12 +3,11 @@ use Prim.Native.Nat.{ℕ, _+_, _≤_}
 use mathlib.Core.Bool.{Bool, true, false}
 use mathlib.Core.List.{List, [], _∷_, _++_}
 use native.Mathlib.Omega.{arith}
-use lib.Dec.{eqb}
+use lib.Dec.{eqb, ltb}
 use lib.IntN.{ℤ, pos, negsuc, natAbs}
 use lib.ListN.{length, length-append}
 use Rattle.bits.specs.Choice.{pick}
 use Rattle.instruction.specs.declared.operation.SizedOp.{SizedOp}
-use Rattle.instruction.specs.declared.operation.SizedOp.the-variants.{StoreByte, LoadByte, LoadSignedByte64, LoadSignedByte32, StoreHalf, LoadHalf, LoadSignedHalf64, LoadSignedHalf32, StoreWord, LoadWord, LoadSignedWord64, StoreDouble, LoadDouble, Prefetch}
 use Rattle.instruction.specs.declared.operation.LiteralOp.{LiteralOp}
 use Rattle.instruction.specs.declared.operation.LiteralOp.the-variants.{LiteralWord, LiteralDouble, LiteralSignedWord, LiteralPrefetch}
 use Rattle.instruction.specs.declared.operation.PairOp.{PairOp}
@@ -18,10 +17,11 @@ use Rattle.instruction.specs.declared.operation.PairMode.the-variants.{NoAlloca
 use Rattle.instruction.specs.declared.family.Family.{Family}
 use Rattle.instruction.specs.declared.family.Family.the-variants.{Empty, Literal, Pair, Ordered, Unscaled, PostIndex, PreIndex, Register, Unsigned}
 use Rattle.instruction.specs.declared.family.IndexOperands.{IndexOperands}
+use Rattle.instruction.specs.Operations.{sizedCode, sizeOf, opcOf}
 use Rattle.instruction.specs.Instructions.{instructionOf}
 use Rattle.ascii.specs.Ascii.{asc, dec, signedDec}
 use Rattle.mnemonic.specs.Operands.{Operand, Narrow, Wide, Hint, sizedOperand, pairOperand}
-use Rattle.mnemonic.specs.Mnemonics.{stemmed, noAllocateName, allocateName, plainName, unscaledName, orderedName, literalName, pairName}
+use Rattle.mnemonic.specs.Mnemonics.{sizeLetter, suffix, stemmed, noAllocateName, allocateName, plainName, unscaledName, orderedName, literalName, pairName}
 use Rattle.text.specs.Texts.{registerText, baseText, operandText, offsetTail, preTail, postTail, pairTail, extendName, amountText, extendText, indexTail, frontText, literalText, pairText, sizedText, familyText, textOf}
 use Rattle.text.specs.Writing.{wordText}
 use Rattle.ascii.proofs.Decimals.{dec-short}
@@ -112,21 +112,17 @@ index op o = trail 1 (asc "]") (omega arith) (joined (lead 2 (asc ", ") (omega a
 
 -- ---- mnemonics
 
+letter : (size : ℕ) (signed : Bool) → Short 1 (sizeLetter size signed)
+letter size signed =
+    either (eqb size 0) (within (asc "b") (omega arith))
+    (either (eqb size 1) (within (asc "h") (omega arith))
+    (either (eqb size 2) (either signed (within (asc "w") (omega arith)) (within [] (omega arith))) (within [] (omega arith))))
+
+behind : (size : ℕ) (signed : Bool) → Short 2 (suffix size signed)
+behind size signed = joined {m = 1} (either signed (within (asc "s") (omega arith)) (within [] (omega arith))) (letter size signed)
+
 stem : {store load hint : List ℕ} → Short 6 store → Short 6 load → Short 8 hint → (op : SizedOp) → Short 8 (stemmed store load hint op)
-stem s l h StoreByte = wider (trail 1 (asc "b") (omega arith) s) (omega arith)
-stem s l h LoadByte = wider (trail 1 (asc "b") (omega arith) l) (omega arith)
-stem s l h LoadSignedByte64 = trail 2 (asc "sb") (omega arith) l
-stem s l h LoadSignedByte32 = trail 2 (asc "sb") (omega arith) l
-stem s l h StoreHalf = wider (trail 1 (asc "h") (omega arith) s) (omega arith)
-stem s l h LoadHalf = wider (trail 1 (asc "h") (omega arith) l) (omega arith)
-stem s l h LoadSignedHalf64 = trail 2 (asc "sh") (omega arith) l
-stem s l h LoadSignedHalf32 = trail 2 (asc "sh") (omega arith) l
-stem s l h StoreWord = wider s (omega arith)
-stem s l h LoadWord = wider l (omega arith)
-stem s l h LoadSignedWord64 = trail 2 (asc "sw") (omega arith) l
-stem s l h StoreDouble = wider s (omega arith)
-stem s l h LoadDouble = wider l (omega arith)
-stem s l h Prefetch = h
+stem s l h op = either (eqb (sizedCode op) 0b11_10) h (joined (either (eqb (opcOf op) 0b00) s l) (behind (sizeOf op) (ltb 0b01 (opcOf op))))
 
 plain : (op : SizedOp) → Short 8 (plainName op)
 plain op = stem (within (asc "str") (omega arith)) (within (asc "ldr") (omega arith)) (within (asc "prfm") (omega arith)) op

@@ -18,7 +18,7 @@ use Rattle.instruction.specs.declared.family.PairOperands.{PairOperands}
 use Rattle.instruction.specs.declared.family.IndexOperands.{IndexOperands}
 use Rattle.instruction.specs.declared.family.Family.{Family}
 use Rattle.instruction.specs.declared.family.Family.the-variants.{Empty, Literal, Pair, Ordered, Unscaled, PostIndex, PreIndex, Register, Unsigned}
-use Rattle.instruction.specs.Operations.{sizeOf}
+use Rattle.instruction.specs.Operations.{scaleOf}
 
 -- ---- registers
 
@@ -70,7 +70,7 @@ extendText option scaled amount =
 -- the index is Wm if option bit 0 is 0, else Xm
 unfoldable pub indexTail : SizedOp → IndexOperands → List ℕ
 indexTail op o =
-    asc ", " ++ registerText (119 + o .option % 2) (o .index) ++ extendText (o .option) (o .scaled) (sizeOf op) ++ asc "]"
+    asc ", " ++ registerText (119 + o .option % 2) (o .index) ++ extendText (o .option) (o .scaled) (scaleOf op) ++ asc "]"
 
 -- ---- lines
 

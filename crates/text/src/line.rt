@@ -117,5 +117,5 @@ fn indexed(op: SizedOp, o: IndexOperands) -> Pieces
     ensures { λ r. ⌜ Made (sizedText (plainName op) op (o .target) (o .base) (indexTail op o)) r ⌝ }
 {
     let m = mnemonic::sized_name(Stem::Plain, op);
-    index::indexed(m, o, instruction::size_field(op))
+    index::indexed(m, o, instruction::scale(op))
 }

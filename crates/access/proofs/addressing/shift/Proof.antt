@@ -11,5 +11,5 @@ shift-spec =
     tie.close
     (tie.spec
     (λ c κs. search needs)
-    (λ c. rw (c .before .if1 .taken) (c .size-field .ensures .0))
+    (λ c. rw (c .before .if1 .taken) (c .scale .ensures .0))
     (λ c. rw (ne-eqb _ 1 (c .if1 .left))))

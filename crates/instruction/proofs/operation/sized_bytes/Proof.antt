@@ -1,4 +1,4 @@
--- `instruction::sized_bytes` meets its contract: a shift of 1 by the size, which loses no bit. Assumes nothing.
+-- `instruction::sized_bytes` meets its contract: a shift of 1 by the scale, which loses no bit. Assumes nothing.
 use Prim.Native.Nat.{_^_}
 use mathlib.Core.Path.{ap, _∙_}
 use borrow.Author.Needs.{needs}
@@ -15,5 +15,5 @@ sized-bytes-spec =
     (λ c κs. search needs)
     (λ c. search needs)
     (λ c.
-    shl-exact 1 (c .size-field .result) 32 (omega arith) (omega arith) ∙ one-mul (2 ^ c .size-field .result)
-    ∙ ap (λ n. 2 ^ n) (c .size-field .ensures .0)))
+    shl-exact 1 (c .scale .result) 32 (omega arith) (omega arith) ∙ one-mul (2 ^ c .scale .result)
+    ∙ ap (λ n. 2 ^ n) (c .scale .ensures .0)))
