@@ -1,4 +1,4 @@
--- A step does what Arm's page says, with 01's choices: the page of each line (`line-step`), and the answers before it.
+-- A step does what Arm's page says, with 01's choices: the page of each row (`row-step`), and the answers before it.
 -- Assumes nothing.
 use Prim.Native.Nat.{ℕ, _+_, _%_, _^_, _≤_}
 use mathlib.Core.Path.{_≡_, refl, ap, _∙_}
@@ -9,10 +9,10 @@ use borrow.Author.Tests.{ltb-false}
 use Rattle.bits.specs.Choice.{pick}
 use Rattle.bits.proofs.Choices.{neither}
 use Rattle.instruction.specs.declared.answer.Answer.the-variants.{Done, BadWindow, NotInSet, Undefined, Unpredictable}
-use Rattle.instruction.specs.declared.line.Line.{Line}
-use Rattle.instruction.specs.declared.line.Line.the-variants.{NoLine, LiteralLine, PairLine, OrderedLine, UnscaledLine, PostLine, PreLine, RegisterLine, UnsignedLine}
+use Rattle.instruction.specs.declared.row.Row.{Row}
+use Rattle.instruction.specs.declared.row.Row.the-variants.{NoRow, LiteralRow, PairRow, OrderedRow, UnscaledRow, PostRow, PreRow, RegisterRow, UnsignedRow}
 use Rattle.instruction.specs.Answers.{answerNumber}
-use Rattle.instruction.specs.Table.{isLine, lineOf, inSet}
+use Rattle.instruction.specs.Table.{isRow, rowOf, inSet}
 use Rattle.instruction.specs.Undefined.{undefinedIn, undefined, allocated}
 use Rattle.instruction.specs.Unpredictable.{unpredictableIn, unpredictable}
 use Rattle.instruction.specs.Instructions.{familyIn, instructionOf}
@@ -34,26 +34,26 @@ use Rattle.arm.proofs.Pairs.{pair-step}
 -- ---- the page of a word
 
 module _ (w : Window) (m : Machine) (r : Ready w m) (word : ℕ) where
-  line-step : (l : Line) → isLine l ≡ true → undefinedIn l word ≡ false → unpredictableIn l word ≡ false → wordAccess word ≡ familyAccess (familyIn l word)
+  row-step : (l : Row) → isRow l ≡ true → undefinedIn l word ≡ false → unpredictableIn l word ≡ false → wordAccess word ≡ familyAccess (familyIn l word)
       → Steps w m l word (pageOf l word .operation word (armOf w m))
-  line-step NoLine t u v e = absurd (never t)
-  line-step LiteralLine t u v e = literal-step w m r word e
-  line-step PairLine t u v e = pair-step w m r word u v e
-  line-step OrderedLine t u v e = ordered-step w m r word u e
-  line-step UnscaledLine t u v e = unscaled-step w m r word u e
-  line-step PostLine t u v e = post-step w m r word u v e
-  line-step PreLine t u v e = pre-step w m r word u v e
-  line-step RegisterLine t u v e = indexed-step w m r word u e
-  line-step UnsignedLine t u v e = unsigned-step w m r word u e
+  row-step NoRow t u v e = absurd (never t)
+  row-step LiteralRow t u v e = literal-step w m r word e
+  row-step PairRow t u v e = pair-step w m r word u v e
+  row-step OrderedRow t u v e = ordered-step w m r word u e
+  row-step UnscaledRow t u v e = unscaled-step w m r word u e
+  row-step PostRow t u v e = post-step w m r word u v e
+  row-step PreRow t u v e = pre-step w m r word u v e
+  row-step RegisterRow t u v e = indexed-step w m r word u e
+  row-step UnsignedRow t u v e = unsigned-step w m r word u e
 
-  access-of : inSet word ≡ true → undefined word ≡ false → wordAccess word ≡ familyAccess (familyIn (lineOf word) word)
+  access-of : inSet word ≡ true → undefined word ≡ false → wordAccess word ≡ familyAccess (familyIn (rowOf word) word)
   unfolding decodeOf accessOf allocated instructionOf
   access-of t u = rw (t, u)
 
   page-step : inSet word ≡ true → undefined word ≡ false → unpredictable word ≡ false
-      → Steps w m (lineOf word) word (pageOf (lineOf word) word .operation word (armOf w m))
+      → Steps w m (rowOf word) word (pageOf (rowOf word) word .operation word (armOf w m))
   unfolding inSet undefined unpredictable
-  page-step t u v = line-step (lineOf word) t u v (access-of t u)
+  page-step t u v = row-step (rowOf word) t u v (access-of t u)
 
 -- ---- answer 1
 

@@ -6,7 +6,7 @@ use mathlib.Core.List.{[], _∷_, _++_, map}
 use lib.ListN.{getD, replicate}
 use Rattle.bits.specs.Fields.{part}
 use Rattle.instruction.specs.Answers.{answerNumber}
-use Rattle.instruction.specs.Table.{lineOf, inSet}
+use Rattle.instruction.specs.Table.{rowOf, inSet}
 use Rattle.instruction.specs.Undefined.{undefined, undefinedSize, undefinedOption, undefinedPair}
 use Rattle.instruction.specs.Unpredictable.{unpredictable, baseIs, pairBaseIs, unpredictablePair}
 use Rattle.plan.specs.declared.window.Window.{Window}
@@ -38,12 +38,12 @@ answer word = answerNumber (performed start (armStep window word start) .answer)
 
 -- ldurb, and ldursb to 32 and to 64 bits, at 4100
 loads : map loaded (0x385ff020 ∷ 0x38dff020 ∷ 0x389ff020 ∷ []) ≡ (128 ∷ 4294967168 ∷ (2 ^ 64 - 128) ∷ [])
-unfolding armStep badStart lineOf inSet undefined undefinedSize unpredictable part unscaled SignExtend ZeroExtend Add X setX base Mem marksOf anyMarked
+unfolding armStep badStart rowOf inSet undefined undefinedSize unpredictable part unscaled SignExtend ZeroExtend Add X setX base Mem marksOf anyMarked
 loads = refl
 
 -- not of the set; two undefined words; an unpredictable pair
 -- 8 bytes at 4104, which are inside, and at 4105; a byte stored at 4099, among the first r, and at 4100
 answers : map answer (0x91000000 ∷ 0xb8c00020 ∷ 0x38e00862 ∷ 0xa9400020 ∷ 0xf8403020 ∷ 0xf8404020 ∷ 0x381fe020 ∷ 0x381ff020 ∷ [])
     ≡ (2 ∷ 3 ∷ 3 ∷ 4 ∷ 0 ∷ 7 ∷ 8 ∷ 0 ∷ [])
-unfolding armStep badStart lineOf inSet undefined undefinedSize undefinedOption undefinedPair unpredictable baseIs pairBaseIs unpredictablePair part unscaled SignExtend Add X base
+unfolding armStep badStart rowOf inSet undefined undefinedSize undefinedOption undefinedPair unpredictable baseIs pairBaseIs unpredictablePair part unscaled SignExtend Add X base
 answers = refl

@@ -15,8 +15,8 @@ use Rattle.bits.proofs.Choices.{neither}
 use Rattle.bits.proofs.Parts.{part-lt}
 use Rattle.registers.specs.File.{zeroSlot}
 use Rattle.memory.specs.Extension.{extendedOf}
-use Rattle.instruction.specs.declared.line.Line.{Line}
-use Rattle.instruction.specs.declared.line.Line.the-variants.{LiteralLine, OrderedLine, UnscaledLine, PostLine, PreLine, RegisterLine, UnsignedLine}
+use Rattle.instruction.specs.declared.row.Row.{Row}
+use Rattle.instruction.specs.declared.row.Row.the-variants.{LiteralRow, OrderedRow, UnscaledRow, PostRow, PreRow, RegisterRow, UnsignedRow}
 use Rattle.instruction.specs.Operations.{sizedAt, sizeOf, literalAt}
 use Rattle.instruction.specs.Undefined.{sizeOpc, undefinedSize, undefinedPrefetch, undefinedOption}
 use Rattle.instruction.specs.Unpredictable.{baseIs}
@@ -74,7 +74,7 @@ either : (a b : Bool) → pick a true b ≡ (a || b)
 either true b = refl
 either false b = refl
 
-module _ (w : Window) (m : Machine) (r : Ready w m) (l : Line) (word : ℕ) where
+module _ (w : Window) (m : Machine) (r : Ready w m) (l : Row) (word : ℕ) where
   abbrev s : Arm
   s = armOf w m
 
@@ -133,21 +133,21 @@ module _ (w : Window) (m : Machine) (r : Ready w m) (word : ℕ) where
   offset9-is : offset9 ≡ twosComplement (signedOf 256 1 (field 20 12 word))
   offset9-is = imm9-is (field 20 12 word) (part-lt 12 9 word)
 
-  pub unscaled-step : undefinedSize word ≡ false → wordAccess word ≡ familyAccess (familyIn UnscaledLine word)
-      → Steps w m UnscaledLine word (unscaled word (armOf w m))
+  pub unscaled-step : undefinedSize word ≡ false → wordAccess word ≡ familyAccess (familyIn UnscaledRow word)
+      → Steps w m UnscaledRow word (unscaled word (armOf w m))
   unfolding unscaled misaligned signedIn sizedIn
   unscaled-step u e =
       let k = known-sizes word u in
-      let form = based-form w m r UnscaledLine word offset9 false false false refl refl (λ h. absurd (never h)) (λ k x p q. refl) in
-      all-sizes w m r UnscaledLine word _ false false _ _ form refl size opc size-lt opc-lt (k .0) (k .1) (rw offset9-is e)
+      let form = based-form w m r UnscaledRow word offset9 false false false refl refl (λ h. absurd (never h)) (λ k x p q. refl) in
+      all-sizes w m r UnscaledRow word _ false false _ _ form refl size opc size-lt opc-lt (k .0) (k .1) (rw offset9-is e)
 
-  pub ordered-step : (undefinedSize word || undefinedPrefetch word) ≡ false → wordAccess word ≡ familyAccess (familyIn OrderedLine word)
-      → Steps w m OrderedLine word (ordered word (armOf w m))
+  pub ordered-step : (undefinedSize word || undefinedPrefetch word) ≡ false → wordAccess word ≡ familyAccess (familyIn OrderedRow word)
+      → Steps w m OrderedRow word (ordered word (armOf w m))
   unfolding ordered misaligned signedIn sizedIn
   ordered-step u e =
       let k = known-sizes word (neither (undefinedSize word) (undefinedPrefetch word) u .0) in
-      let form = based-form w m r OrderedLine word offset9 false false true refl refl (λ h. absurd (never h)) (λ k x p q. same-block x k p q) in
-      all-sizes w m r OrderedLine word _ true false _ _ form refl size opc size-lt opc-lt (k .0) (k .1) (rw offset9-is e)
+      let form = based-form w m r OrderedRow word offset9 false false true refl refl (λ h. absurd (never h)) (λ k x p q. same-block x k p q) in
+      all-sizes w m r OrderedRow word _ true false _ _ form refl size opc size-lt opc-lt (k .0) (k .1) (rw offset9-is e)
 
   -- with writeback
   base-apart : baseIs (field 4 0 word) word ≡ false → ¬ (field 9 5 word ≡ zeroSlot (field 4 0 word))
@@ -155,20 +155,20 @@ module _ (w : Window) (m : Machine) (r : Ready w m) (word : ℕ) where
   base-apart h = apart (field 9 5 word) (field 4 0 word) (part-lt 5 5 word) h
 
   pub post-step : (undefinedSize word || undefinedPrefetch word) ≡ false → baseIs (field 4 0 word) word ≡ false
-      → wordAccess word ≡ familyAccess (familyIn PostLine word) → Steps w m PostLine word (postIndex word (armOf w m))
+      → wordAccess word ≡ familyAccess (familyIn PostRow word) → Steps w m PostRow word (postIndex word (armOf w m))
   unfolding immediate misaligned signedIn sizedIn
   post-step u b e =
       let k = known-sizes word (neither (undefinedSize word) (undefinedPrefetch word) u .0) in
-      let form = based-form w m r PostLine word offset9 true true false refl refl (λ h. base-apart b) (λ k x p q. refl) in
-      all-sizes w m r PostLine word _ false true _ _ form refl size opc size-lt opc-lt (k .0) (k .1) (rw offset9-is e)
+      let form = based-form w m r PostRow word offset9 true true false refl refl (λ h. base-apart b) (λ k x p q. refl) in
+      all-sizes w m r PostRow word _ false true _ _ form refl size opc size-lt opc-lt (k .0) (k .1) (rw offset9-is e)
 
   pub pre-step : (undefinedSize word || undefinedPrefetch word) ≡ false → baseIs (field 4 0 word) word ≡ false
-      → wordAccess word ≡ familyAccess (familyIn PreLine word) → Steps w m PreLine word (preIndex word (armOf w m))
+      → wordAccess word ≡ familyAccess (familyIn PreRow word) → Steps w m PreRow word (preIndex word (armOf w m))
   unfolding immediate misaligned signedIn sizedIn
   pre-step u b e =
       let k = known-sizes word (neither (undefinedSize word) (undefinedPrefetch word) u .0) in
-      let form = based-form w m r PreLine word offset9 false true false refl refl (λ h. base-apart b) (λ k x p q. refl) in
-      all-sizes w m r PreLine word _ false true _ _ form refl size opc size-lt opc-lt (k .0) (k .1) (rw offset9-is e)
+      let form = based-form w m r PreRow word offset9 false true false refl refl (λ h. base-apart b) (λ k x p q. refl) in
+      all-sizes w m r PreRow word _ false true _ _ form refl size opc size-lt opc-lt (k .0) (k .1) (rw offset9-is e)
 
   -- the size of an operation is that of its word
   size-back : undefinedSize word ≡ false → sizeOf (sizedIn word) ≡ size
@@ -179,16 +179,16 @@ module _ (w : Window) (m : Machine) (r : Ready w m) (word : ℕ) where
       let b = opc-lt in
       omega (arith, sized-code (sizeOpc word) (omega arith) (k .0) (k .1), sized (sizedAt (sizeOpc word)))
 
-  pub unsigned-step : undefinedSize word ≡ false → wordAccess word ≡ familyAccess (familyIn UnsignedLine word)
-      → Steps w m UnsignedLine word (unsigned word (armOf w m))
+  pub unsigned-step : undefinedSize word ≡ false → wordAccess word ≡ familyAccess (familyIn UnsignedRow word)
+      → Steps w m UnsignedRow word (unsigned word (armOf w m))
   unfolding immediate misaligned unsignedIn sizedIn
   unsigned-step u e =
       let k = known-sizes word u in
       let offset : ℕ = LSL (ZeroExtend 12 64 (field 21 10 word)) size in
       let offset-is : field 21 10 word * 2 ^ sizeOf (sizedIn word) ≡ offset =
       rw (size-back u) (sym (imm12-is (field 21 10 word) size (part-lt 10 12 word) size-lt)) in
-      let form = based-form w m r UnsignedLine word offset false false false refl refl (λ h. absurd (never h)) (λ k x p q. refl) in
-      all-sizes w m r UnsignedLine word _ false false _ _ form refl size opc size-lt opc-lt (k .0) (k .1) (rw (← offset-is) e)
+      let form = based-form w m r UnsignedRow word offset false false false refl refl (λ h. absurd (never h)) (λ k x p q. refl) in
+      all-sizes w m r UnsignedRow word _ false false _ _ form refl size opc size-lt opc-lt (k .0) (k .1) (rw (← offset-is) e)
 
   -- ---- a base and an index
 
@@ -235,9 +235,9 @@ module _ (w : Window) (m : Machine) (r : Ready w m) (word : ℕ) where
       → sumOf indexing (operandsOf indexing m) ≡ Add (base (field 9 5 word) (armOf w m)) (ExtendReg i option shift (armOf w m))
   unfolding sumOf shiftedOf
   index-sum u =
-      rw (base-register w m r RegisterLine word, index-is i (armOf w m) option shift (part-lt 13 3 word) (option-set u) shift-lt, index-x, add-is) (omega arith)
+      rw (base-register w m r RegisterRow word, index-is i (armOf w m) option shift (part-lt 13 3 word) (option-set u) shift-lt, index-x, add-is) (omega arith)
 
-  index-mark : operandsOf indexing m .tainted ≡ marked (pageOf RegisterLine word) word m
+  index-mark : operandsOf indexing m .tainted ≡ marked (pageOf RegisterRow word) word m
   index-mark =
       let u = m .taints .registers in
       either (getD u (field 9 5 word) false) (getD u (zeroSlot i) false)
@@ -245,7 +245,7 @@ module _ (w : Window) (m : Machine) (r : Ready w m) (word : ℕ) where
 
   index-form : undefinedOption word ≡ false
       → let address = Add (base (field 9 5 word) (armOf w m)) (ExtendReg i option shift (armOf w m)) in
-      Form w m RegisterLine word indexing false false address address
+      Form w m RegisterRow word indexing false false address address
   unfolding misaligned
   index-form u =
       record {
@@ -258,13 +258,13 @@ module _ (w : Window) (m : Machine) (r : Ready w m) (word : ℕ) where
         block = λ k p q. refl;
       }
 
-  pub indexed-step : (undefinedSize word || undefinedOption word) ≡ false → wordAccess word ≡ familyAccess (familyIn RegisterLine word)
-      → Steps w m RegisterLine word (indexed word (armOf w m))
+  pub indexed-step : (undefinedSize word || undefinedOption word) ≡ false → wordAccess word ≡ familyAccess (familyIn RegisterRow word)
+      → Steps w m RegisterRow word (indexed word (armOf w m))
   unfolding indexed indexIn sizedIn indexedMode shiftOf
   indexed-step u e =
       let p = neither (undefinedSize word) (undefinedOption word) u in
       let k = known-sizes word (p .0) in
-      all-sizes w m r RegisterLine word indexing false false _ _ (index-form (p .1)) refl size opc size-lt opc-lt (k .0) (k .1)
+      all-sizes w m r RegisterRow word indexing false false _ _ (index-form (p .1)) refl size opc size-lt opc-lt (k .0) (k .1)
       (e ∙ ap (λ (k : ℕ). sizedAccess (sizedIn word) (field 4 0 word) false (indexingBy k)) (size-back (p .0)))
 
   -- ---- the program counter and an offset
@@ -276,7 +276,7 @@ module _ (w : Window) (m : Machine) (r : Ready w m) (word : ℕ) where
   unfolding literalMode sumOf shiftedOf indexOf
   literal-sum offset = rw (add-is, List·getD-eq-default (m .values) 0 {n = 32} (omega (arith, r .real .registers))) (omega arith)
 
-  literal-form : (offset : ℕ) → Form w m LiteralLine word (literalMode offset) false false (Add (m .pc) offset) (Add (m .pc) offset)
+  literal-form : (offset : ℕ) → Form w m LiteralRow word (literalMode offset) false false (Add (m .pc) offset) (Add (m .pc) offset)
   unfolding literalMode misaligned
   literal-form offset =
       record {
@@ -292,10 +292,10 @@ module _ (w : Window) (m : Machine) (r : Ready w m) (word : ℕ) where
   literal-load : (k extent width : ℕ) (g : ℕ → ℕ) → ((v : ℕ) → v < 256 ^ k → extendedOf k extent v ≡ g v) → 0 < k → k ≤ 16
       → wordAccess word ≡ literalMoves k extent (literalIn word)
       → let address = Add (m .pc) offset19 in
-      Steps w m LiteralLine word (loads address k (setX (field 4 0 word) width (g (Mem address k (armOf w m))) (armOf w m)))
+      Steps w m LiteralRow word (loads address k (setX (field 4 0 word) width (g (Mem address k (armOf w m))) (armOf w m)))
   unfolding literalMoves literalTransfer literalIn
   literal-load k extent width g x p q e =
-      one-load w m r LiteralLine word (literalMode offset19) false false _ _ (literal-form offset19) refl k extent width g p q x
+      one-load w m r LiteralRow word (literalMode offset19) false false _ _ (literal-form offset19) refl k extent width g p q x
       (e ∙ ap (λ (o : ℕ). Moves (literalTransfer k extent (field 4 0 word)) (literalMode o)) (sym (imm19-is (field 23 5 word) (part-lt 5 19 word))))
 
   -- the page, by opc
@@ -310,10 +310,10 @@ module _ (w : Window) (m : Machine) (r : Ready w m) (word : ℕ) where
       (loads address size (pick (eqb opc 0b10) (setX t 64 (SignExtend (size * 8) 64 (Mem address size s)) s) (setX t (size * 8) (Mem address size s) s)))
       hint
 
-  pub literal-step : wordAccess word ≡ familyAccess (familyIn LiteralLine word) → Steps w m LiteralLine word (literal word (armOf w m))
+  pub literal-step : wordAccess word ≡ familyAccess (familyIn LiteralRow word) → Steps w m LiteralRow word (literal word (armOf w m))
   unfolding literal literalAt literalMoves
   literal-step e =
-      four (λ opc. wordAccess word ≡ literalAccess (literalAt opc) (literalIn word) → Steps w m LiteralLine word (literalPage opc))
+      four (λ opc. wordAccess word ≡ literalAccess (literalAt opc) (literalIn word) → Steps w m LiteralRow word (literalPage opc))
       (λ e. literal-load 4 4 32 (λ v. v) (λ v h. extended-none 4 v) (omega arith) (omega arith) e)
       (λ e. literal-load 8 8 64 (λ v. v) (λ v h. extended-none 8 v) (omega arith) (omega arith) e)
       (λ e. literal-load 4 8 64 (SignExtend 32 64) (λ v. extended-is 3 8 v (omega arith)) (omega arith) (omega arith) e)

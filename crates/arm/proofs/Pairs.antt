@@ -17,7 +17,7 @@ use Rattle.bits.proofs.Choices.{neither}
 use Rattle.bits.proofs.Parts.{part-lt}
 use Rattle.registers.specs.File.{zeroSlot}
 use Rattle.memory.specs.Extension.{extendedOf}
-use Rattle.instruction.specs.declared.line.Line.the-variants.{PairLine}
+use Rattle.instruction.specs.declared.row.Row.the-variants.{PairRow}
 use Rattle.instruction.specs.Operations.{pairAt, modeAt, pairBytes}
 use Rattle.instruction.specs.Undefined.{undefinedPair}
 use Rattle.instruction.specs.Unpredictable.{baseIs, pairBaseIs, unpredictablePair}
@@ -85,7 +85,7 @@ module _ (s : Arm) (len : length (s .registers) ≡ 32) where
       rw (a, one, two, e, x-is s len t (8 * k) (omega arith), x-is s len t2 (8 * k) (omega arith), low-bytes k (getD (s .registers) (zeroSlot t) 0), low-bytes k (getD (s .registers) (zeroSlot t2) 0))
 
 module _ (w : Window) (m : Machine) (r : Ready w m) (word : ℕ) (a : Addressing) (wback : Bool) (address next : ℕ)
-    (f : Form w m PairLine word a false wback address next) (other : wback ≡ true → ¬ (field 9 5 word ≡ zeroSlot (field 14 10 word))) where
+    (f : Form w m PairRow word a false wback address next) (other : wback ≡ true → ¬ (field 9 5 word ≡ zeroSlot (field 14 10 word))) where
   abbrev s : Arm
   s = armOf w m
 
@@ -105,10 +105,10 @@ module _ (w : Window) (m : Machine) (r : Ready w m) (word : ℕ) (a : Addressing
   stored k = back wback n next (setMem (Add address k) k (X t2 (8 * k) s) (setMem address k (X t (8 * k) s) s))
 
   two-loads : (k extent width : ℕ) (g : ℕ → ℕ) → 0 < k → k ≤ 8 → ((v : ℕ) → v < 256 ^ k → extendedOf k extent v ≡ g v)
-      → wordAccess word ≡ Moves (double false k extent t t2) a → Steps w m PairLine word (loads address (2 * k) (loaded k width g))
+      → wordAccess word ≡ Moves (double false k extent t t2) a → Steps w m PairRow word (loads address (2 * k) (loaded k width g))
   unfolding setX
   two-loads k extent width g p q ext e =
-      loads-step w m (r .top) PairLine word (double false k extent t t2) a address (2 * k) (loaded k width g)
+      loads-step w m (r .top) PairRow word (double false k extent t t2) a address (2 * k) (loaded k width g)
       (record {
         access = e;
         total = omega arith;
@@ -133,13 +133,13 @@ module _ (w : Window) (m : Machine) (r : Ready w m) (word : ℕ) (a : Addressing
       })
       refl
 
-  two-stores : (k extent : ℕ) → 0 < k → k ≤ 8 → wordAccess word ≡ Moves (double true k extent t t2) a → Steps w m PairLine word (stores address (2 * k) (stored k))
+  two-stores : (k extent : ℕ) → 0 < k → k ≤ 8 → wordAccess word ≡ Moves (double true k extent t t2) a → Steps w m PairRow word (stores address (2 * k) (stored k))
   two-stores k extent p q e =
       let len = r .real .registers in
       let after : Arm = withMemory (filled s len k t t2 (address - w .origin)) s in
       let places : Inside w address (2 * k) → setMem (Add address k) k (X t2 (8 * k) s) (setMem address k (X t (8 * k) s) s) ≡ after =
       λ h. two-places s len k t t2 address p (h .from) (h .upto) in
-      stores-step w m (r .top) PairLine word (double true k extent t t2) a address (2 * k) (stored k)
+      stores-step w m (r .top) PairRow word (double true k extent t t2) a address (2 * k) (stored k)
       (record {
         access = e;
         total = omega arith;
@@ -186,7 +186,7 @@ module _ (w : Window) (m : Machine) (word : ℕ) (wback postindex : Bool) where
   abbrev Paged : ℕ → ℕ → Type 0
   Paged opc L =
       wordAccess word ≡ accessBy opc L (twosComplement (signedOf 64 (pairBytes (pairAt (opc * 2 + L))) (field 21 15 word)))
-      → Steps w m PairLine word (page opc L)
+      → Steps w m PairRow word (page opc L)
 
 module _ (w : Window) (m : Machine) (r : Ready w m) (word : ℕ) where
   -- imm7 by its scale
@@ -201,9 +201,9 @@ module _ (w : Window) (m : Machine) (r : Ready w m) (word : ℕ) where
     form : (offset : ℕ)
         → let n = field 9 5 word in
         let next = Add (base n (armOf w m)) offset in
-        Form w m PairLine word (based n offset postindex (pick wback n 32)) false wback (pick postindex (base n (armOf w m)) next) next
+        Form w m PairRow word (based n offset postindex (pick wback n 32)) false wback (pick postindex (base n (armOf w m)) next) next
     unfolding misaligned
-    form offset = based-form w m r PairLine word offset postindex wback false writing refl one (λ k x p q. refl)
+    form offset = based-form w m r PairRow word offset postindex wback false writing refl one (λ k x p q. refl)
 
     store-words : Paged w m word wback postindex 0 0
     unfolding pairAt pairTransfer part
@@ -291,15 +291,15 @@ module _ (w : Window) (m : Machine) (r : Ready w m) (word : ℕ) where
         let op = pairOpIn word in
         Moves (pairTransfer op (field 4 0 word) (field 14 10 word)) (pairedMode (modeAt mode) (field 9 5 word) (twosComplement (signedOf 64 (pairBytes op) (field 21 15 word))))
 
-    modes : (mode : ℕ) → mode < 4 → field 24 23 word ≡ mode → wordAccess word ≡ accessIn mode → Steps w m PairLine word (pair word (armOf w m))
+    modes : (mode : ℕ) → mode < 4 → field 24 23 word ≡ mode → wordAccess word ≡ accessIn mode → Steps w m PairRow word (pair word (armOf w m))
     unfolding pair paired pairOpIn modeAt
     modes =
-        four (λ mode. field 24 23 word ≡ mode → wordAccess word ≡ accessIn mode → Steps w m PairLine word (pair word (armOf w m)))
+        four (λ mode. field 24 23 word ≡ mode → wordAccess word ≡ accessIn mode → Steps w m PairRow word (pair word (armOf w m)))
         (λ f e. rw f (by false false (rw (low-mode 0 f)) e))
         (λ f e. rw f (by true true (rw (low-mode 1 f)) e))
         (λ f e. rw f (by false false (rw (low-mode 2 f)) e))
         (λ f e. rw f (by true false (rw (low-mode 3 f)) e))
 
-    pub pair-step : wordAccess word ≡ familyAccess (familyIn PairLine word) → Steps w m PairLine word (pair word (armOf w m))
+    pub pair-step : wordAccess word ≡ familyAccess (familyIn PairRow word) → Steps w m PairRow word (pair word (armOf w m))
     unfolding pairAccess pairIn
     pair-step e = modes (field 24 23 word) (part-lt 23 2 word) refl e

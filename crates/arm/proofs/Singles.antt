@@ -14,7 +14,7 @@ use Rattle.bits.specs.Fields.{part, field}
 use Rattle.bits.specs.Bytes.{bytesOf, joined, spanOf}
 use Rattle.registers.specs.File.{zeroSlot}
 use Rattle.memory.specs.Extension.{largest, extendedOf}
-use Rattle.instruction.specs.declared.line.Line.{Line}
+use Rattle.instruction.specs.declared.row.Row.{Row}
 use Rattle.instruction.specs.Operations.{sizedAt}
 use Rattle.access.specs.declared.addressing.Addressing.{Addressing}
 use Rattle.access.specs.declared.Access.the-variants.{Moves}
@@ -105,7 +105,7 @@ zeros k width v h = rw (zero-extend (8 * k) width v) (extended-none k v)
 -- ---- one access
 
 -- what the addressing of an access and a page agree on, with the address and the number to write back
-pub record Form (w : Window) (m : Machine) (l : Line) (word : ℕ) (a : Addressing) (ordered wback : Bool) (address next : ℕ) : Type 0 where
+pub record Form (w : Window) (m : Machine) (l : Row) (word : ℕ) (a : Addressing) (ordered wback : Bool) (address next : ℕ) : Type 0 where
   pub mark : operandsOf a m .tainted ≡ marked (pageOf l word) word m
   pub first : addressOf a (operandsOf a m) ≡ address
   pub sum : sumOf a (operandsOf a m) ≡ next
@@ -114,7 +114,7 @@ pub record Form (w : Window) (m : Machine) (l : Line) (word : ℕ) (a : Addressi
   pub apart : wback ≡ true → ¬ (field 9 5 word ≡ zeroSlot (field 4 0 word))
   pub block : (k : ℕ) → 0 < k → k ≤ 16 → misaligned ordered k address ≡ crosses (pageOf l word) address k
 
-module _ (w : Window) (m : Machine) (r : Ready w m) (l : Line) (word : ℕ) (a : Addressing) (ordered wback : Bool) (address next : ℕ)
+module _ (w : Window) (m : Machine) (r : Ready w m) (l : Row) (word : ℕ) (a : Addressing) (ordered wback : Bool) (address next : ℕ)
     (f : Form w m l word a ordered wback address next) (alone : pageOf l word .paired ≡ false) where
   abbrev s : Arm
   s = armOf w m

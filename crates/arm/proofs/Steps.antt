@@ -10,7 +10,7 @@ use borrow.Author.Tests.{ltb-true, ltb-false, lt-ltb, le-ltb, leb-true, leb-fals
 use Rattle.bits.specs.Choice.{pick}
 use Rattle.bits.proofs.Choices.{both}
 use Rattle.instruction.specs.declared.answer.Answer.the-variants.{Done, TaintedAddress, Misaligned, OutOfWindow, ReadOnly}
-use Rattle.instruction.specs.declared.line.Line.{Line}
+use Rattle.instruction.specs.declared.row.Row.{Row}
 use Rattle.access.specs.declared.transfer.Transfer.{Transfer}
 use Rattle.access.specs.declared.addressing.Addressing.{Addressing}
 use Rattle.access.specs.declared.Access.the-variants.{Moves}
@@ -102,11 +102,11 @@ same-plan : (F : Bool → Bool → Bool → ℕ → Step Machine) {p p′ q q′
 same-plan F e f g h = rw (e, f, g, h)
 
 -- the step of a word is that of its page
-abbrev pub Steps : Window → Machine → Line → ℕ → Operation → Type 0
+abbrev pub Steps : Window → Machine → Row → ℕ → Operation → Type 0
 Steps w m l word o = accessStep (w .origin) (admitOf w (length (m .memory))) (wordAccess word) m ≡ chosen w word m (pageOf l word) o
 
 -- what an access and a page agree on
-pub record Agreed (w : Window) (m : Machine) (l : Line) (word : ℕ) (t : Transfer) (a : Addressing) (address size : ℕ) (after : Arm) : Type 0 where
+pub record Agreed (w : Window) (m : Machine) (l : Row) (word : ℕ) (t : Transfer) (a : Addressing) (address size : ℕ) (after : Arm) : Type 0 where
   pub access : wordAccess word ≡ Moves t a
   pub total : totalOf t ≡ size
   pub mark : operandsOf a m .tainted ≡ marked (pageOf l word) word m
@@ -120,7 +120,7 @@ pub record Agreed (w : Window) (m : Machine) (l : Line) (word : ℕ) (t : Transf
       ≡ marksOf (pageOf l word .paired) (pageOf l word .wback) (t .store) (w .origin) word address size (m .taints)
   pub memory : Inside w address size → pick (t .store) (storedBytes t (address - w .origin) (m .values) (m .memory)) (m .memory) ≡ after .memory
 
-module _ (w : Window) (m : Machine) (top : w .origin + length (m .memory) ≤ 2 ^ 64) (l : Line) (word : ℕ) (t : Transfer) (a : Addressing)
+module _ (w : Window) (m : Machine) (top : w .origin + length (m .memory) ≤ 2 ^ 64) (l : Row) (word : ℕ) (t : Transfer) (a : Addressing)
     (address size : ℕ) (after : Arm) (g : Agreed w m l word t a address size after) where
   abbrev o : Bool
   o = outOf w m address size

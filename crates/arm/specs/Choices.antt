@@ -7,7 +7,7 @@ use lib.ListN.{length, getD}
 use Rattle.bits.specs.Choice.{pick}
 use Rattle.bits.specs.Fields.{field}
 use Rattle.instruction.specs.declared.answer.Answer.the-variants.{BadWindow, NotInSet, Undefined, Unpredictable, TaintedAddress, Misaligned, OutOfWindow, ReadOnly}
-use Rattle.instruction.specs.Table.{lineOf, inSet}
+use Rattle.instruction.specs.Table.{rowOf, inSet}
 use Rattle.instruction.specs.Undefined.{undefined}
 use Rattle.instruction.specs.Unpredictable.{unpredictable}
 use Rattle.plan.specs.declared.window.Window.{Window}
@@ -71,10 +71,10 @@ chosen w word m page (access store address size s) =
 abbrev pub armOf : Window → Machine → Arm
 armOf w m = record { registers = m .values; pc = m .pc; origin = w .origin; memory = m .memory }
 
--- 1 to 4, then the page of the word's line
+-- 1 to 4, then the page of the word's row
 unfoldable pub armStep : Window → ℕ → Machine → Step Machine
 armStep w word m =
-    let page = pageOf (lineOf word) word in
+    let page = pageOf (rowOf word) word in
     pick (badStart w m) (stopped BadWindow 0)
     (pick (not (inSet word)) (stopped NotInSet 0)
     (pick (undefined word) (stopped Undefined 0)

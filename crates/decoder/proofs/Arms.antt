@@ -9,13 +9,13 @@ use Rattle.bits.specs.Fields.{field}
 use Rattle.bits.specs.Signed.{signedOf}
 use Rattle.instruction.specs.declared.answer.Answer.{Answer}
 use Rattle.instruction.specs.declared.answer.Decoded.{Decoded}
-use Rattle.instruction.specs.declared.line.Line.{Line}
+use Rattle.instruction.specs.declared.row.Row.{Row}
 use Rattle.instruction.specs.declared.family.Family.{Family}
 use Rattle.instruction.specs.declared.operation.PairMode.{PairMode}
 use Rattle.instruction.specs.declared.operation.PairOp.{PairOp}
 use Rattle.instruction.specs.declared.operation.SizedOp.{SizedOp}
 use Rattle.instruction.specs.Answers.{answerNumber}
-use Rattle.instruction.specs.Table.{lineOf, isLine, inSet}
+use Rattle.instruction.specs.Table.{rowOf, isRow, inSet}
 use Rattle.instruction.specs.Undefined.{undefinedIn, undefined, allocated}
 use Rattle.instruction.specs.Unpredictable.{unpredictableIn, unpredictable}
 use Rattle.instruction.specs.Operations.{modeAt, pairBytes, sizedBytes}
@@ -52,13 +52,13 @@ turned : {A : Type 0} (b : Bool) (x y : A) → pick b x y ≡ pick (not b) y x
 turned true x y = refl
 turned false x y = refl
 
--- an arm of a match on a line
-module _ (w : ℕ) {l : Line} {r : Decoded} (e : l ≡ lineOf w) where
-  pub outside : l ≡ Line.NoLine → (r .answer ≡ Answer.NotInSet) × (r .instruction ≡ empty) → Examined w r
+-- an arm of a match on a row
+module _ (w : ℕ) {l : Row} {r : Decoded} (e : l ≡ rowOf w) where
+  pub outside : l ≡ Row.NoRow → (r .answer ≡ Answer.NotInSet) × (r .instruction ≡ empty) → Examined w r
   unfolding classOf decodeOf allocated inSet
   outside g p = rw (← e, g) p
 
-  pub viewed-is : (k : Line) {u v : Bool} {f : Family} → l ≡ k → isLine k ≡ true → u ≡ undefinedIn k w → v ≡ unpredictableIn k w → f ≡ familyIn k w
+  pub viewed-is : (k : Row) {u v : Bool} {f : Family} → l ≡ k → isRow k ≡ true → u ≡ undefinedIn k w → v ≡ unpredictableIn k w → f ≡ familyIn k w
       → (r .answer ≡ pick u Answer.Undefined (pick v Answer.Unpredictable Answer.Done)) × (r .instruction ≡ pick u empty (record { family = f })) → Examined w r
   unfolding classOf decodeOf allocated inSet undefined unpredictable instructionOf
   viewed-is k {u} {v} {f} g s p q h a = rw (← e, g, s, ← p, ← q, ← h) (a .0, a .1 ∙ turned u empty (record { family = f }))

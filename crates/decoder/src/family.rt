@@ -1,13 +1,13 @@
 // The fields of a word, as operations and operands.
 use instruction::Family;
 use instruction::IndexOperands;
-use instruction::Line;
 use instruction::LiteralOp;
 use instruction::LiteralOperands;
 use instruction::OffsetOperands;
 use instruction::PairMode;
 use instruction::PairOp;
 use instruction::PairOperands;
+use instruction::Row;
 use instruction::SizedOp;
 ghost use mathlib.Core.Path.{_≡_};
 ghost use Prim.Native.Nat.{_*_, _<_, _≤_};
@@ -16,50 +16,50 @@ ghost use Rattle.instruction.specs.Operations.{sizedAt, literalAt, pairAt, mode
 ghost use Rattle.instruction.specs.Instructions.{sizedIn, pairOpIn, literalIn, pairIn, signedIn, indexIn, unsignedIn, familyIn};
 
 pub fn literal(word: u32) -> Family
-    ensures { λ r. ⌜ r ≡ familyIn Line.LiteralLine word ⌝ }
+    ensures { λ r. ⌜ r ≡ familyIn Row.LiteralRow word ⌝ }
 {
     Family::Literal(literal_op(word / 0x4000_0000 % 4), literal_operands(word))
 }
 
 pub fn pair(word: u32) -> Family
-    ensures { λ r. ⌜ r ≡ familyIn Line.PairLine word ⌝ }
+    ensures { λ r. ⌜ r ≡ familyIn Row.PairRow word ⌝ }
 {
     let op = pair_op_in(word);
     Family::Pair(op, pair_operands(op, word))
 }
 
 pub fn ordered(word: u32) -> Family
-    ensures { λ r. ⌜ r ≡ familyIn Line.OrderedLine word ⌝ }
+    ensures { λ r. ⌜ r ≡ familyIn Row.OrderedRow word ⌝ }
 {
     Family::Ordered(sized_op_in(word), signed_operands(word))
 }
 
 pub fn unscaled(word: u32) -> Family
-    ensures { λ r. ⌜ r ≡ familyIn Line.UnscaledLine word ⌝ }
+    ensures { λ r. ⌜ r ≡ familyIn Row.UnscaledRow word ⌝ }
 {
     Family::Unscaled(sized_op_in(word), signed_operands(word))
 }
 
 pub fn post_index(word: u32) -> Family
-    ensures { λ r. ⌜ r ≡ familyIn Line.PostLine word ⌝ }
+    ensures { λ r. ⌜ r ≡ familyIn Row.PostRow word ⌝ }
 {
     Family::PostIndex(sized_op_in(word), signed_operands(word))
 }
 
 pub fn pre_index(word: u32) -> Family
-    ensures { λ r. ⌜ r ≡ familyIn Line.PreLine word ⌝ }
+    ensures { λ r. ⌜ r ≡ familyIn Row.PreRow word ⌝ }
 {
     Family::PreIndex(sized_op_in(word), signed_operands(word))
 }
 
 pub fn register(word: u32) -> Family
-    ensures { λ r. ⌜ r ≡ familyIn Line.RegisterLine word ⌝ }
+    ensures { λ r. ⌜ r ≡ familyIn Row.RegisterRow word ⌝ }
 {
     Family::Register(sized_op_in(word), index_operands(word))
 }
 
 pub fn unsigned(word: u32) -> Family
-    ensures { λ r. ⌜ r ≡ familyIn Line.UnsignedLine word ⌝ }
+    ensures { λ r. ⌜ r ≡ familyIn Row.UnsignedRow word ⌝ }
 {
     let op = sized_op_in(word);
     Family::Unsigned(op, unsigned_operands(op, word))

@@ -1,6 +1,6 @@
 // A word to its instruction. Every word has an answer, and nobody has to check first.
 mod family;
-mod line;
+mod row;
 mod undefined;
 mod unpredictable;
 mod view;

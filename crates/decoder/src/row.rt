@@ -1,50 +1,50 @@
-// Which line of the table a word matches: by keys, where the definition goes line by line.
-use instruction::Line;
+// Which row of the table a word matches: by keys, where the definition goes row by row.
+use instruction::Row;
 ghost use mathlib.Core.Path.{_≡_};
 ghost use Rattle.bits.specs.Fields.{field};
-ghost use Rattle.instruction.specs.Table.{lineOf};
+ghost use Rattle.instruction.specs.Table.{rowOf};
 
-pub fn line_of(word: u32) -> Line
-    ensures { λ r. ⌜ r ≡ lineOf word ⌝ }
+pub fn row_of(word: u32) -> Row
+    ensures { λ r. ⌜ r ≡ rowOf word ⌝ }
 {
     let group = word / 0x200_0000 % 32;
     match group {
         0b01100 => literal_or_ordered(word),
-        0b10100 => Line::PairLine,
+        0b10100 => Row::PairRow,
         0b11100 => with_size(word),
-        _ => Line::NoLine,
+        _ => Row::NoRow,
     }
 }
 
-fn literal_or_ordered(word: u32) -> Line
+fn literal_or_ordered(word: u32) -> Row
     requires { ⌜ field 29 25 word ≡ 0b01100 ⌝ }
-    ensures { λ r. ⌜ r ≡ lineOf word ⌝ }
+    ensures { λ r. ⌜ r ≡ rowOf word ⌝ }
 {
     let literal = word / 0x100_0000 % 2;
     let form = word / 0x20_0000 % 2 * 4 + word / 0x400 % 4;
     if literal == 0 {
-        return Line::LiteralLine;
+        return Row::LiteralRow;
     }
     match form {
-        0b000 => Line::OrderedLine,
-        _ => Line::NoLine,
+        0b000 => Row::OrderedRow,
+        _ => Row::NoRow,
     }
 }
 
-fn with_size(word: u32) -> Line
+fn with_size(word: u32) -> Row
     requires { ⌜ field 29 25 word ≡ 0b11100 ⌝ }
-    ensures { λ r. ⌜ r ≡ lineOf word ⌝ }
+    ensures { λ r. ⌜ r ≡ rowOf word ⌝ }
 {
     let unsigned = word / 0x100_0000 % 2;
     let form = word / 0x20_0000 % 2 * 4 + word / 0x400 % 4;
     if unsigned == 1 {
-        return Line::UnsignedLine;
+        return Row::UnsignedRow;
     }
     match form {
-        0b000 => Line::UnscaledLine,
-        0b001 => Line::PostLine,
-        0b011 => Line::PreLine,
-        0b110 => Line::RegisterLine,
-        _ => Line::NoLine,
+        0b000 => Row::UnscaledRow,
+        0b001 => Row::PostRow,
+        0b011 => Row::PreRow,
+        0b110 => Row::RegisterRow,
+        _ => Row::NoRow,
     }
 }

@@ -1,13 +1,13 @@
-// What a word says, by the one line that it matches.
+// What a word says, by the one row that it matches.
 use crate::family;
-use crate::line;
+use crate::row;
 use crate::undefined;
 use crate::unpredictable;
 use instruction::Answer;
 use instruction::Decoded;
 use instruction::Family;
 use instruction::Instruction;
-use instruction::Line;
+use instruction::Row;
 ghost use mathlib.Core.Path.{_≡_};
 ghost use Rattle.bits.specs.Choice.{pick};
 ghost use Rattle.instruction.specs.Decoding.{decodeOf, classOf, empty};
@@ -16,23 +16,23 @@ ghost use Rattle.instruction.specs.Decoding.{decodeOf, classOf, empty};
 pub fn examine(word: u32) -> Decoded
     ensures { λ r. ⌜ (r .answer ≡ classOf word) × (r .instruction ≡ decodeOf word .instruction) ⌝ }
 {
-    let line = line::line_of(word);
-    match line {
-        Line::NoLine => refused(Answer::NotInSet),
-        Line::LiteralLine => viewed(false, false, family::literal(word)),
-        Line::PairLine => {
+    let row = row::row_of(word);
+    match row {
+        Row::NoRow => refused(Answer::NotInSet),
+        Row::LiteralRow => viewed(false, false, family::literal(word)),
+        Row::PairRow => {
             let undefined = undefined::in_pair(word);
             viewed(undefined, unpredictable::in_pair(word), family::pair(word))
         }
-        Line::OrderedLine => {
+        Row::OrderedRow => {
             viewed(
                 undefined::without_prefetch(word),
                 false,
                 family::ordered(word),
             )
         }
-        Line::UnscaledLine => viewed(undefined::in_size(word), false, family::unscaled(word)),
-        Line::PostLine => {
+        Row::UnscaledRow => viewed(undefined::in_size(word), false, family::unscaled(word)),
+        Row::PostRow => {
             let undefined = undefined::without_prefetch(word);
             viewed(
                 undefined,
@@ -40,7 +40,7 @@ pub fn examine(word: u32) -> Decoded
                 family::post_index(word),
             )
         }
-        Line::PreLine => {
+        Row::PreRow => {
             let undefined = undefined::without_prefetch(word);
             viewed(
                 undefined,
@@ -48,8 +48,8 @@ pub fn examine(word: u32) -> Decoded
                 family::pre_index(word),
             )
         }
-        Line::RegisterLine => viewed(undefined::in_register(word), false, family::register(word)),
-        Line::UnsignedLine => viewed(undefined::in_size(word), false, family::unsigned(word)),
+        Row::RegisterRow => viewed(undefined::in_register(word), false, family::register(word)),
+        Row::UnsignedRow => viewed(undefined::in_size(word), false, family::unsigned(word)),
     }
 }
 

@@ -10,8 +10,8 @@ use Rattle.bits.specs.Signed.{bitsOf, plainBitsOf}
 use Rattle.bits.proofs.Choices.{picked}
 use Rattle.bits.proofs.Parts.{unpack, Has, Fit, fit-true}
 use Rattle.bits.proofs.Offsets.{unfit, signed-back, plain-is}
-use Rattle.instruction.specs.declared.line.Line.{Line}
-use Rattle.instruction.specs.declared.line.Line.the-variants.{LiteralLine, PairLine, OrderedLine, UnscaledLine, PostLine, PreLine, RegisterLine, UnsignedLine}
+use Rattle.instruction.specs.declared.row.Row.{Row}
+use Rattle.instruction.specs.declared.row.Row.the-variants.{LiteralRow, PairRow, OrderedRow, UnscaledRow, PostRow, PreRow, RegisterRow, UnsignedRow}
 use Rattle.instruction.specs.declared.family.Family.{Family}
 use Rattle.instruction.specs.declared.family.Family.the-variants.{Empty, Literal, Pair, Ordered, Unscaled, PostIndex, PreIndex, Register, Unsigned}
 use Rattle.instruction.specs.declared.family.LiteralOperands.{LiteralOperands}
@@ -21,11 +21,11 @@ use Rattle.instruction.specs.declared.family.IndexOperands.{IndexOperands}
 use Rattle.instruction.specs.declared.operation.LiteralOp.{LiteralOp}
 use Rattle.instruction.specs.declared.operation.PairOp.{PairOp}
 use Rattle.instruction.specs.declared.operation.SizedOp.{SizedOp}
-use Rattle.instruction.specs.Table.{lineOf}
+use Rattle.instruction.specs.Table.{rowOf}
 use Rattle.instruction.specs.Operations.{sizeOf, opcOf, sizedBytes, literalOpc, pairOpc, pairLoad, pairBytes, modeCode}
 use Rattle.instruction.specs.Instructions.{sizedIn, literalIn, pairOpIn, pairIn, signedIn, indexIn, unsignedIn, familyIn}
 use Rattle.instruction.specs.Encoding.{fixed, wordWith, withBits, literalFields, literalWord, pairFields, pairWord, sizedFields, signedWord, indexFields, indexWord, unsignedWord, wordOf}
-use Rattle.instruction.proofs.Lines.{line-is}
+use Rattle.instruction.proofs.Rows.{row-is}
 use Rattle.instruction.proofs.Codes.{sized-at, literal-at, pair-at, mode-at}
 
 -- ---- what a word that was found says
@@ -40,36 +40,36 @@ word-back f fs w h =
     let p = picked (fit fs) h unfit in
     (fit-true fs (p .0), cc)
 
--- the word is of the line, and its family is the one that it was made of
-abbrev Back : ℕ → Line → Family → Type 0
-Back w l F = (lineOf w ≡ l) × (familyIn l w ≡ F) × (w < 2 ^ 32)
+-- the word is of the row, and its family is the one that it was made of
+abbrev Back : ℕ → Row → Family → Type 0
+Back w l F = (rowOf w ≡ l) × (familyIn l w ≡ F) × (w < 2 ^ 32)
 
-literal-back : (op : LiteralOp) (o : LiteralOperands) (w : ℕ) → literalWord op o ≡ Holds w → Back w LiteralLine (Literal op o)
+literal-back : (op : LiteralOp) (o : LiteralOperands) (w : ℕ) → literalWord op o ≡ Holds w → Back w LiteralRow (Literal op o)
 unfolding literalWord literalIn
 literal-back op o w h =
-    let p = with-back (bitsOf 262144 4 (o .offset)) (λ b. wordWith (fixed LiteralLine) (literalFields op (o .target) b)) w h in
+    let p = with-back (bitsOf 262144 4 (o .offset)) (λ b. wordWith (fixed LiteralRow) (literalFields op (o .target) b)) w h in
     let s = signed-back 262144 4 (p .0) (o .offset) (p .1) in
-    let q = word-back (fixed LiteralLine) (literalFields op (o .target) (p .0)) w (p .2) in
+    let q = word-back (fixed LiteralRow) (literalFields op (o .target) (p .0)) w (p .2) in
     let r = q .0 in
     let u = unpack ((o .target, 5) ∷ (p .0, 19) ∷ (0, 2) ∷ (0, 1) ∷ (3, 3) ∷ (literalOpc op, 2) ∷ []) w (omega (arith, q .1))
     (r .1 .0, (r .1 .1 .0, (omega arith, (omega arith, (omega arith, (r .0, tt)))))) in (
-      line-is w LiteralLine refl (u .1 .1 .1 .0, (u .1 .1 .1 .1 .0, (u .1 .1 .0, tt))),
+      row-is w LiteralRow refl (u .1 .1 .1 .0, (u .1 .1 .1 .1 .0, (u .1 .1 .0, tt))),
       simp (u .1 .1 .1 .1 .1 .0, literal-at op, u .0, u .1 .0, s .1),
       omega (arith, q .1, r .0, r .1 .0, r .1 .1 .0),
     )
 
-pair-back : (op : PairOp) (o : PairOperands) (w : ℕ) → pairWord op o ≡ Holds w → Back w PairLine (Pair op o)
+pair-back : (op : PairOp) (o : PairOperands) (w : ℕ) → pairWord op o ≡ Holds w → Back w PairRow (Pair op o)
 unfolding pairWord pairIn pairOpIn
 pair-back op o w h =
-    let p = with-back (bitsOf 64 (pairBytes op) (o .offset)) (λ b. wordWith (fixed PairLine) (pairFields op o b)) w h in
+    let p = with-back (bitsOf 64 (pairBytes op) (o .offset)) (λ b. wordWith (fixed PairRow) (pairFields op o b)) w h in
     let s = signed-back 64 (pairBytes op) (p .0) (o .offset) (p .1) in
-    let q = word-back (fixed PairLine) (pairFields op o (p .0)) w (p .2) in
+    let q = word-back (fixed PairRow) (pairFields op o (p .0)) w (p .2) in
     let (opc, (mode, (load, (base, (first, (second, (imm7, t))))))) = q .0 in
     let u = unpack
     ((o .first, 5) ∷ (o .base, 5) ∷ (o .second, 5) ∷ (p .0, 7) ∷ (pairLoad op, 1) ∷ (modeCode (o .mode), 2) ∷ (0, 1) ∷ (0, 1) ∷ (5, 3) ∷ (pairOpc op, 2) ∷ [])
     w (omega (arith, q .1)) (first, (base, (second, (imm7, (load, (mode, (omega arith, (omega arith, (omega arith, (opc, tt)))))))))) in
     let (first=, (base=, (second=, (imm7=, (load=, (mode=, (b25, (b26, (b27, (opc=, _)))))))))) = u in (
-      line-is w PairLine refl (b26, (b27, (b25, tt))),
+      row-is w PairRow refl (b26, (b27, (b25, tt))),
       simp (opc=, load=, pair-at op, first=, second=, base=, mode=, mode-at (o .mode), imm7=, s .1),
       omega (arith, q .1, opc, mode, load, base, first, second, imm7),
     )
@@ -106,67 +106,67 @@ module _ (op : SizedOp) (o : OffsetOperands) (w a b d : ℕ) (ha : a < 8) (hb : 
         word = omega (arith, q .1, e, size, opc, base, target, imm9);
       }
 
-  signed-family : (l : Line) (F : SizedOp → OffsetOperands → Family) {f : ℕ} → f ≡ a * 2 ^ 27 + b * 2 ^ 24 + d * 2 ^ 10 → signedWord f op o ≡ Holds w
-      → (Has w (bits 26 26 0 ∷ bits 29 27 a ∷ bits 25 24 b ∷ bits 21 21 0 ∷ bits 11 10 d ∷ []) → lineOf w ≡ l)
+  signed-family : (l : Row) (F : SizedOp → OffsetOperands → Family) {f : ℕ} → f ≡ a * 2 ^ 27 + b * 2 ^ 24 + d * 2 ^ 10 → signedWord f op o ≡ Holds w
+      → (Has w (bits 26 26 0 ∷ bits 29 27 a ∷ bits 25 24 b ∷ bits 21 21 0 ∷ bits 11 10 d ∷ []) → rowOf w ≡ l)
       → familyIn l w ≡ F (sizedIn w) (signedIn w) → Back w l (F op o)
   signed-family l F e h line q =
       let s = signed-back-from e h in
       (line (s .has), q ∙ ap (λ (x : SizedOp). F x (signedIn w)) (s .op=) ∙ ap (F op) (s .operands), s .word)
 
-index-back : (op : SizedOp) (o : IndexOperands) (w : ℕ) → indexWord op o ≡ Holds w → Back w RegisterLine (Register op o)
+index-back : (op : SizedOp) (o : IndexOperands) (w : ℕ) → indexWord op o ≡ Holds w → Back w RegisterRow (Register op o)
 unfolding indexWord indexIn
 index-back op o w h =
-    let q = word-back (fixed RegisterLine) (sizedFields op (o .base) (o .target) (indexFields o)) w h in
+    let q = word-back (fixed RegisterRow) (sizedFields op (o .base) (o .target) (indexFields o)) w h in
     let (size, (opc, (base, (target, (index, (option, (scaled, t))))))) = q .0 in
     let u = unpack
     ((o .target, 5) ∷ (o .base, 5) ∷ (2, 2) ∷ (o .scaled, 1) ∷ (o .option, 3) ∷ (o .index, 5) ∷ (1, 1) ∷ (opcOf op, 2) ∷ (0, 2) ∷ (0, 1) ∷ (7, 3) ∷ (sizeOf op, 2) ∷ [])
     w (omega (arith, q .1))
     (target, (base, (omega arith, (scaled, (option, (index, (omega arith, (opc, (omega arith, (omega arith, (omega arith, (size, tt)))))))))))) in
     let (target=, (base=, (b10, (scaled=, (option=, (index=, (b21, (opc=, (b24, (b26, (b27, (size=, _)))))))))))) = u in (
-      line-is w RegisterLine refl (b26, (b27, (b24, (b21, (b10, tt))))),
+      row-is w RegisterRow refl (b26, (b27, (b24, (b21, (b10, tt))))),
       simp (sized-back op w size= opc=, target=, base=, index=, option=, scaled=),
       omega (arith, q .1, size, opc, base, target, index, option, scaled),
     )
 
-unsigned-back : (op : SizedOp) (o : OffsetOperands) (w : ℕ) → unsignedWord op o ≡ Holds w → Back w UnsignedLine (Unsigned op o)
+unsigned-back : (op : SizedOp) (o : OffsetOperands) (w : ℕ) → unsignedWord op o ≡ Holds w → Back w UnsignedRow (Unsigned op o)
 unfolding unsignedWord unsignedIn
 unsigned-back op o w h =
-    let p = with-back (plainBitsOf 4096 (sizedBytes op) (o .offset)) (λ b. wordWith (fixed UnsignedLine) (sizedFields op (o .base) (o .target) (bits 21 10 b ∷ []))) w h in
+    let p = with-back (plainBitsOf 4096 (sizedBytes op) (o .offset)) (λ b. wordWith (fixed UnsignedRow) (sizedFields op (o .base) (o .target) (bits 21 10 b ∷ []))) w h in
     let s = plain-is 4096 (sizedBytes op) (p .0) (o .offset) (p .1) in
-    let q = word-back (fixed UnsignedLine) (sizedFields op (o .base) (o .target) (bits 21 10 (p .0) ∷ [])) w (p .2) in
+    let q = word-back (fixed UnsignedRow) (sizedFields op (o .base) (o .target) (bits 21 10 (p .0) ∷ [])) w (p .2) in
     let (size, (opc, (base, (target, (imm12, t))))) = q .0 in
     let u = unpack
     ((o .target, 5) ∷ (o .base, 5) ∷ (p .0, 12) ∷ (opcOf op, 2) ∷ (1, 2) ∷ (0, 1) ∷ (7, 3) ∷ (sizeOf op, 2) ∷ [])
     w (omega (arith, q .1)) (target, (base, (imm12, (opc, (omega arith, (omega arith, (omega arith, (size, tt)))))))) in
     let (target=, (base=, (imm12=, (opc=, (b24, (b26, (b27, (size=, _)))))))) = u in (
-      line-is w UnsignedLine refl (b26, (b27, (b24, tt))),
+      row-is w UnsignedRow refl (b26, (b27, (b24, tt))),
       simp (sized-back op w size= opc=, target=, base=, imm12=, s .1),
       omega (arith, q .1, size, opc, base, target, imm12),
     )
 
--- the line of a family
-abbrev pub lineFor : Family → Line
-lineFor Empty = Line.NoLine
-lineFor (Literal op o) = LiteralLine
-lineFor (Pair op o) = PairLine
-lineFor (Ordered op o) = OrderedLine
-lineFor (Unscaled op o) = UnscaledLine
-lineFor (PostIndex op o) = PostLine
-lineFor (PreIndex op o) = PreLine
-lineFor (Register op o) = RegisterLine
-lineFor (Unsigned op o) = UnsignedLine
+-- the row of a family
+abbrev pub rowFor : Family → Row
+rowFor Empty = Row.NoRow
+rowFor (Literal op o) = LiteralRow
+rowFor (Pair op o) = PairRow
+rowFor (Ordered op o) = OrderedRow
+rowFor (Unscaled op o) = UnscaledRow
+rowFor (PostIndex op o) = PostRow
+rowFor (PreIndex op o) = PreRow
+rowFor (Register op o) = RegisterRow
+rowFor (Unsigned op o) = UnsignedRow
 
-pub back : (F : Family) (w : ℕ) → wordOf F ≡ Holds w → Back w (lineFor F) F
+pub back : (F : Family) (w : ℕ) → wordOf F ≡ Holds w → Back w (rowFor F) F
 back Empty w h = absurd (unfit h)
 back (Literal op o) w h = literal-back op o w h
 back (Pair op o) w h = pair-back op o w h
 back (Ordered op o) w h =
-    signed-family op o w 3 1 0 (omega arith) (omega arith) (omega arith) OrderedLine Ordered refl h (line-is w OrderedLine refl) refl
+    signed-family op o w 3 1 0 (omega arith) (omega arith) (omega arith) OrderedRow Ordered refl h (row-is w OrderedRow refl) refl
 back (Unscaled op o) w h =
-    signed-family op o w 7 0 0 (omega arith) (omega arith) (omega arith) UnscaledLine Unscaled refl h (line-is w UnscaledLine refl) refl
+    signed-family op o w 7 0 0 (omega arith) (omega arith) (omega arith) UnscaledRow Unscaled refl h (row-is w UnscaledRow refl) refl
 back (PostIndex op o) w h =
-    signed-family op o w 7 0 1 (omega arith) (omega arith) (omega arith) PostLine PostIndex refl h (line-is w PostLine refl) refl
+    signed-family op o w 7 0 1 (omega arith) (omega arith) (omega arith) PostRow PostIndex refl h (row-is w PostRow refl) refl
 back (PreIndex op o) w h =
-    signed-family op o w 7 0 3 (omega arith) (omega arith) (omega arith) PreLine PreIndex refl h (line-is w PreLine refl) refl
+    signed-family op o w 7 0 3 (omega arith) (omega arith) (omega arith) PreRow PreIndex refl h (row-is w PreRow refl) refl
 back (Register op o) w h = index-back op o w h
 back (Unsigned op o) w h = unsigned-back op o w h

@@ -14,11 +14,11 @@ use Rattle.instruction.specs.declared.answer.Answer.the-variants.{Done, NoSuchI
 use Rattle.instruction.specs.declared.answer.Encoded.{Encoded}
 use Rattle.instruction.specs.declared.family.Family.{Family}
 use Rattle.instruction.specs.declared.family.Instruction.{Instruction}
-use Rattle.instruction.specs.Table.{lineOf, isLine, inSet}
+use Rattle.instruction.specs.Table.{rowOf, isRow, inSet}
 use Rattle.instruction.specs.Undefined.{undefinedIn, undefined, allocated}
 use Rattle.instruction.specs.Instructions.{familyIn, instructionOf}
 use Rattle.instruction.specs.Encoding.{wordOf, encodedAs, encodeOf}
-use Rattle.instruction.proofs.Lines.{line-has}
+use Rattle.instruction.proofs.Rows.{row-has}
 use Rattle.encoder.specs.Exact.{encoded, noWord, Word, Exact}
 use Rattle.encoder.proofs.There.{there}
 use Rattle.encoder.proofs.Back.{back}
@@ -26,8 +26,8 @@ use Rattle.encoder.proofs.Back.{back}
 allocated-there : (w : ℕ) → w < 2 ^ 32 → allocated w ≡ true → wordOf (instructionOf w .family) ≡ Holds w
 unfolding allocated inSet undefined instructionOf
 allocated-there w h a =
-    let p = both (isLine (lineOf w)) (not (undefinedIn (lineOf w) w)) a in
-    there w h (lineOf w) (p .0) (line-has w (p .0)) (not-true _ (p .1))
+    let p = both (isRow (rowOf w)) (not (undefinedIn (rowOf w) w)) a in
+    there w h (rowOf w) (p .0) (row-has w (p .0)) (not-true _ (p .1))
 
 -- encoding the instruction of an allocated word gives the word
 pub encode-decoded : (w : ℕ) → w < 2 ^ 32 → allocated w ≡ true → encodeOf (instructionOf w) ≡ encoded w

@@ -11,9 +11,9 @@ use Rattle.bits.specs.Fields.{part, field, bits}
 use Rattle.bits.proofs.Choices.{neither}
 use Rattle.bits.proofs.Parts.{part-lt, top, split, Has}
 use Rattle.bits.proofs.Offsets.{bits-back, plain-back}
-use Rattle.instruction.specs.declared.line.Line.{Line}
-use Rattle.instruction.specs.declared.line.Line.the-variants.{NoLine, LiteralLine, PairLine, OrderedLine, UnscaledLine, PostLine, PreLine, RegisterLine, UnsignedLine}
-use Rattle.instruction.specs.Table.{isLine, fixedOf}
+use Rattle.instruction.specs.declared.row.Row.{Row}
+use Rattle.instruction.specs.declared.row.Row.the-variants.{NoRow, LiteralRow, PairRow, OrderedRow, UnscaledRow, PostRow, PreRow, RegisterRow, UnsignedRow}
+use Rattle.instruction.specs.Table.{isRow, fixedOf}
 use Rattle.instruction.specs.Undefined.{sizeOpc, undefinedSize, undefinedPrefetch, undefinedOption, undefinedPair, undefinedIn}
 use Rattle.instruction.specs.Operations.{sizeOf, opcOf, sizedAt, literalAt, pairOpc, pairLoad, pairAt}
 use Rattle.instruction.specs.Instructions.{sizedIn, literalIn, pairOpIn, pairIn, signedIn, indexIn, unsignedIn, familyIn}
@@ -65,7 +65,7 @@ pairs w u =
 -- ---- the word of each family
 
 module _ (w : ℕ) (h : w < 2 ^ 32) where
-  literal-there : Has w (fixedOf LiteralLine) → literalWord (literalAt (field 31 30 w)) (literalIn w) ≡ Holds w
+  literal-there : Has w (fixedOf LiteralRow) → literalWord (literalAt (field 31 30 w)) (literalIn w) ≡ Holds w
   unfolding literalWord literalIn
   literal-there g =
       let c = literal-code (part 30 2 w) (part-lt 30 2 w) in
@@ -73,7 +73,7 @@ module _ (w : ℕ) (h : w < 2 ^ 32) where
       (sym (word-is _ _ (simp (c, lt-ltb _ _ (part-lt 30 2 w), lt-ltb _ _ (part-lt 0 5 w), lt-ltb _ _ (part-lt 5 19 w)))
       (omega (arith, split (5 ∷ 19 ∷ 2 ∷ 1 ∷ 3 ∷ 2 ∷ []) w, top w 32 h))))
 
-  pair-there : Has w (fixedOf PairLine) → undefinedPair w ≡ false → pairWord (pairOpIn w) (pairIn (pairOpIn w) w) ≡ Holds w
+  pair-there : Has w (fixedOf PairRow) → undefinedPair w ≡ false → pairWord (pairOpIn w) (pairIn (pairOpIn w) w) ≡ Holds w
   unfolding pairWord pairIn
   pair-there g u =
       let p = pairs w u in
@@ -111,9 +111,9 @@ module _ (w : ℕ) (h : w < 2 ^ 32) where
         lt-ltb _ _ (part-lt 0 5 w),
         lt-ltb _ _ (part-lt 12 9 w),
       ))
-      (omega (arith, split (5 ∷ 5 ∷ 2 ∷ 9 ∷ 1 ∷ 2 ∷ 2 ∷ 1 ∷ 3 ∷ 2 ∷ []) w, top w 32 h))))
+      (rw (s .size, s .opc) (omega (arith, split (5 ∷ 5 ∷ 2 ∷ 9 ∷ 1 ∷ 2 ∷ 2 ∷ 1 ∷ 3 ∷ 2 ∷ []) w, top w 32 h)))))
 
-  index-there : Has w (fixedOf RegisterLine) → undefinedSize w ≡ false → indexWord (sizedIn w) (indexIn w) ≡ Holds w
+  index-there : Has w (fixedOf RegisterRow) → undefinedSize w ≡ false → indexWord (sizedIn w) (indexIn w) ≡ Holds w
   unfolding indexWord indexIn
   index-there g u =
       let s = sizes w u in
@@ -131,7 +131,7 @@ module _ (w : ℕ) (h : w < 2 ^ 32) where
       ))
       (omega (arith, split (5 ∷ 5 ∷ 2 ∷ 1 ∷ 3 ∷ 5 ∷ 1 ∷ 2 ∷ 2 ∷ 1 ∷ 3 ∷ 2 ∷ []) w, top w 32 h)))
 
-  unsigned-there : Has w (fixedOf UnsignedLine) → undefinedSize w ≡ false → unsignedWord (sizedIn w) (unsignedIn (sizedIn w) w) ≡ Holds w
+  unsigned-there : Has w (fixedOf UnsignedRow) → undefinedSize w ≡ false → unsignedWord (sizedIn w) (unsignedIn (sizedIn w) w) ≡ Holds w
   unfolding unsignedWord unsignedIn
   unsigned-there g u =
       let s = sizes w u in
@@ -148,13 +148,13 @@ module _ (w : ℕ) (h : w < 2 ^ 32) where
       ))
       (omega (arith, split (5 ∷ 5 ∷ 12 ∷ 2 ∷ 2 ∷ 1 ∷ 3 ∷ 2 ∷ []) w, top w 32 h))))
 
-  pub there : (l : Line) → isLine l ≡ true → Has w (fixedOf l) → undefinedIn l w ≡ false → wordOf (familyIn l w) ≡ Holds w
-  there NoLine t g u = cc
-  there LiteralLine t g u = literal-there g
-  there PairLine t g u = pair-there g u
-  there OrderedLine t g u = signed-there 3 1 0 g refl (neither (undefinedSize w) (undefinedPrefetch w) u .0)
-  there UnscaledLine t g u = signed-there 7 0 0 g refl u
-  there PostLine t g u = signed-there 7 0 1 g refl (neither (undefinedSize w) (undefinedPrefetch w) u .0)
-  there PreLine t g u = signed-there 7 0 3 g refl (neither (undefinedSize w) (undefinedPrefetch w) u .0)
-  there RegisterLine t g u = index-there g (neither (undefinedSize w) (undefinedOption w) u .0)
-  there UnsignedLine t g u = unsigned-there g u
+  pub there : (l : Row) → isRow l ≡ true → Has w (fixedOf l) → undefinedIn l w ≡ false → wordOf (familyIn l w) ≡ Holds w
+  there NoRow t g u = cc
+  there LiteralRow t g u = literal-there g
+  there PairRow t g u = pair-there g u
+  there OrderedRow t g u = signed-there 3 1 0 g refl (neither (undefinedSize w) (undefinedPrefetch w) u .0)
+  there UnscaledRow t g u = signed-there 7 0 0 g refl u
+  there PostRow t g u = signed-there 7 0 1 g refl (neither (undefinedSize w) (undefinedPrefetch w) u .0)
+  there PreRow t g u = signed-there 7 0 3 g refl (neither (undefinedSize w) (undefinedPrefetch w) u .0)
+  there RegisterRow t g u = index-there g (neither (undefinedSize w) (undefinedOption w) u .0)
+  there UnsignedRow t g u = unsigned-there g u

@@ -15,7 +15,7 @@ use Rattle.instruction.specs.declared.answer.Encoded.{Encoded}
 use Rattle.instruction.specs.declared.family.Family.{Family}
 use Rattle.instruction.specs.declared.family.IndexOperands.{IndexOperands}
 use Rattle.instruction.specs.declared.family.Instruction.{Instruction}
-use Rattle.instruction.specs.declared.line.Line.{Line}
+use Rattle.instruction.specs.declared.row.Row.{Row}
 use Rattle.instruction.specs.declared.operation.SizedOp.{SizedOp}
 use Rattle.instruction.specs.Undefined.{allocated}
 use Rattle.instruction.specs.Encoding.{fixed, wordWith, withBits, sizedFields, indexFields, indexWord, wordOf, encodedAs, encodeOf}
@@ -53,14 +53,14 @@ module _ (f : ℕ) (op : SizedOp) (base target : ℕ) (own : List Bits) where
   sized-not t = word-not f (sizedFields op base target own) (simp (t, and-false))
 
 module _ (op : SizedOp) (o : IndexOperands) where
-  pub index-is : {w : ℕ} → fit (indexFields o) ≡ true → w ≡ fixed Line.RegisterLine + placed (indexFields o)
+  pub index-is : {w : ℕ} → fit (indexFields o) ≡ true → w ≡ fixed Row.RegisterRow + placed (indexFields o)
       → sizedWord op (o .base) (o .target) w ≡ indexWord op o
   unfolding indexWord
-  index-is t e = sized-is (fixed Line.RegisterLine) op (o .base) (o .target) (indexFields o) t e
+  index-is t e = sized-is (fixed Row.RegisterRow) op (o .base) (o .target) (indexFields o) t e
 
   pub index-not : fit (indexFields o) ≡ false → Unfit ≡ indexWord op o
   unfolding indexWord
-  index-not t = sized-not (fixed Line.RegisterLine) op (o .base) (o .target) (indexFields o) t
+  index-not t = sized-not (fixed Row.RegisterRow) op (o .base) (o .target) (indexFields o) t
 
 -- ---- an instruction
 

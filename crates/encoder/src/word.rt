@@ -1,16 +1,16 @@
 // The word with the fields of an instruction, or none where one is out of range. The constants are the
-// fixed bits of each line.
+// fixed bits of each row.
 use crate::offset;
 use bits::Field;
 use instruction::Family;
 use instruction::IndexOperands;
-use instruction::Line;
 use instruction::LiteralOp;
 use instruction::LiteralOperands;
 use instruction::OffsetOperands;
 use instruction::PairMode;
 use instruction::PairOp;
 use instruction::PairOperands;
+use instruction::Row;
 use instruction::SizedOp;
 ghost use mathlib.Core.Path.{_≡_};
 ghost use Prim.Native.Nat.{_<_, _≤_};
@@ -47,7 +47,7 @@ fn literal_word(op: LiteralOp, o: LiteralOperands) -> Field
 
 fn literal_sum(op: LiteralOp, target: u32, imm19: u32) -> Field
     requires { ⌜ imm19 < 524288 ⌝ }
-    ensures { λ r. ⌜ r ≡ wordWith (fixed Line.LiteralLine) (literalFields op target imm19) ⌝ }
+    ensures { λ r. ⌜ r ≡ wordWith (fixed Row.LiteralRow) (literalFields op target imm19) ⌝ }
 {
     if 32 <= target {
         return Field::Unfit;
@@ -78,7 +78,7 @@ fn pair_word(op: PairOp, o: PairOperands) -> Field
 
 fn pair_sum(op: PairOp, o: PairOperands, imm7: u32) -> Field
     requires { ⌜ imm7 < 128 ⌝ }
-    ensures { λ r. ⌜ r ≡ wordWith (fixed Line.PairLine) (pairFields op o imm7) ⌝ }
+    ensures { λ r. ⌜ r ≡ wordWith (fixed Row.PairRow) (pairFields op o imm7) ⌝ }
 {
     let base = o.base;
     let first = o.first;
@@ -149,15 +149,15 @@ fn sized_word(op: SizedOp, base: u32, target: u32, own: u32) -> Field
     Field::Holds(size * 0x4000_0000 + opc * 0x40_0000 + base * 32 + target + own)
 }
 
-fn signed_word(line: u32, op: SizedOp, o: OffsetOperands) -> Field
-    requires { ⌜ line ≤ 0x3900_0000 ⌝ }
-    ensures { λ r. ⌜ r ≡ signedWord line op o ⌝ }
+fn signed_word(row: u32, op: SizedOp, o: OffsetOperands) -> Field
+    requires { ⌜ row ≤ 0x3900_0000 ⌝ }
+    ensures { λ r. ⌜ r ≡ signedWord row op o ⌝ }
 {
     let base = o.base;
     let target = o.target;
     let field = offset::imm9(o.offset);
     match field {
-        Field::Holds(imm9) => sized_word(op, base, target, line + imm9 * 0x1000),
+        Field::Holds(imm9) => sized_word(op, base, target, row + imm9 * 0x1000),
         Field::Unfit => Field::Unfit,
     }
 }

@@ -6,7 +6,7 @@ use lib.IntN.{pos, negsuc}
 use Rattle.bits.specs.Fields.{part}
 use Rattle.bits.specs.Signed.{signedOf}
 use Rattle.instruction.specs.Types.{Family, Literal, Pair, Ordered, Unscaled, PostIndex, Register, Unsigned, LoadByte, LoadDouble, LoadSignedByte32, LoadSignedByte64, StoreDoubles, LiteralDouble, Pre, Prefetch, StoreByte, Undefined, Unpredictable, NotInSet, Answer, Done}
-use Rattle.instruction.specs.Table.{lineOf, inSet}
+use Rattle.instruction.specs.Table.{rowOf, inSet}
 use Rattle.instruction.specs.Undefined.{undefined, undefinedSize, undefinedPrefetch, undefinedOption, undefinedPair}
 use Rattle.instruction.specs.Unpredictable.{unpredictable, baseIs, pairBaseIs, unpredictablePair}
 use Rattle.instruction.specs.Operations.{sizedAt, literalAt, pairAt, modeAt}
@@ -31,7 +31,7 @@ examples =
     ∷ []
 
 pub starred-instructions : Decodes examples
-unfolding instructionOf lineOf part signedOf sizedAt literalAt pairAt modeAt sizedIn literalIn pairOpIn pairIn signedIn indexIn unsignedIn
+unfolding instructionOf rowOf part signedOf sizedAt literalAt pairAt modeAt sizedIn literalIn pairOpIn pairIn signedIn indexIn unsignedIn
 starred-instructions = (refl, (refl, (refl, (refl, (refl, (refl, (refl, (refl, (refl, tt)))))))))
 
 abbrev Classes : List (ℕ × Answer) → Type 0
@@ -45,5 +45,5 @@ answered =
     ∷ (0x91000000, NotInSet) ∷ (0x385ff020, Done) ∷ []
 
 pub starred-answers : Classes answered
-unfolding classOf lineOf inSet part undefined undefinedSize undefinedPrefetch undefinedOption undefinedPair unpredictable baseIs pairBaseIs unpredictablePair
+unfolding classOf rowOf inSet part undefined undefinedSize undefinedPrefetch undefinedOption undefinedPair unpredictable baseIs pairBaseIs unpredictablePair
 starred-answers = (refl, (refl, (refl, (refl, (refl, (refl, (refl, tt)))))))

@@ -1,4 +1,4 @@
-pub mod Lines
+pub mod Rows
 pub mod Codes
 pub mod Sorts
 pub mod Examples

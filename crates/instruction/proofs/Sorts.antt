@@ -5,26 +5,26 @@ use mathlib.Core.Bool.{Bool, true, false, _&&_, not}
 use mathlib.Core.List.{[], _∷_}
 use mathlib.Core.Logic.{_↔_}
 use Rattle.bits.specs.Choice.{pick, howMany}
-use Rattle.instruction.specs.Types.{Line, NoLine, LiteralLine, PairLine, OrderedLine, UnscaledLine, PostLine, PreLine, RegisterLine, UnsignedLine, Answer, Done, NotInSet, Undefined}
-use Rattle.instruction.specs.Table.{isLine, lineOf, inSet}
+use Rattle.instruction.specs.Types.{Row, NoRow, LiteralRow, PairRow, OrderedRow, UnscaledRow, PostRow, PreRow, RegisterRow, UnsignedRow, Answer, Done, NotInSet, Undefined}
+use Rattle.instruction.specs.Table.{isRow, rowOf, inSet}
 use Rattle.instruction.specs.Undefined.{undefinedIn, undefined, allocated}
 use Rattle.instruction.specs.Decoding.{decodeOf}
 
 -- undefined words are of the set
-none-undefined : (l : Line) (w : ℕ) → isLine l ≡ false → undefinedIn l w ≡ false
-none-undefined NoLine w e = refl
-none-undefined LiteralLine w e = refl
-none-undefined PairLine w e = cc
-none-undefined OrderedLine w e = cc
-none-undefined UnscaledLine w e = cc
-none-undefined PostLine w e = cc
-none-undefined PreLine w e = cc
-none-undefined RegisterLine w e = cc
-none-undefined UnsignedLine w e = cc
+none-undefined : (l : Row) (w : ℕ) → isRow l ≡ false → undefinedIn l w ≡ false
+none-undefined NoRow w e = refl
+none-undefined LiteralRow w e = refl
+none-undefined PairRow w e = cc
+none-undefined OrderedRow w e = cc
+none-undefined UnscaledRow w e = cc
+none-undefined PostRow w e = cc
+none-undefined PreRow w e = cc
+none-undefined RegisterRow w e = cc
+none-undefined UnsignedRow w e = cc
 
 inside : (w : ℕ) → inSet w ≡ false → undefined w ≡ false
 unfolding inSet undefined
-inside w e = none-undefined (lineOf w) w e
+inside w e = none-undefined (rowOf w) w e
 
 one-of : (s u : Bool) → (s ≡ false → u ≡ false) → howMany (not s ∷ u ∷ (s && not u) ∷ []) ≡ 1
 one-of true true n = refl

@@ -6,13 +6,13 @@ use Rattle.bits.specs.Fields.{Bits, bits, fit, placed}
 use Rattle.bits.specs.Signed.{bitsOf, plainBitsOf}
 use Rattle.bits.specs.declared.Field.{Field}
 use Rattle.bits.specs.declared.Field.the-variants.{Holds, Unfit}
-use Rattle.instruction.specs.Types.{Line, LiteralLine, PairLine, OrderedLine, UnscaledLine, PostLine, PreLine, RegisterLine, UnsignedLine, Family, Empty, Literal, Pair, Ordered, Unscaled, PostIndex, PreIndex, Register, Unsigned, Instruction, LiteralOp, LiteralOperands, PairOp, PairOperands, OffsetOperands, IndexOperands, SizedOp, Encoded, Done, NoSuchInstruction}
+use Rattle.instruction.specs.Types.{Row, LiteralRow, PairRow, OrderedRow, UnscaledRow, PostRow, PreRow, RegisterRow, UnsignedRow, Family, Empty, Literal, Pair, Ordered, Unscaled, PostIndex, PreIndex, Register, Unsigned, Instruction, LiteralOp, LiteralOperands, PairOp, PairOperands, OffsetOperands, IndexOperands, SizedOp, Encoded, Done, NoSuchInstruction}
 use Rattle.instruction.specs.Table.{fixedOf}
 use Rattle.instruction.specs.Undefined.{allocated}
 use Rattle.instruction.specs.Operations.{sizeOf, opcOf, sizedBytes, literalOpc, pairOpc, pairLoad, modeCode, pairBytes}
 
--- the fixed bits of a line
-abbrev pub fixed : Line → ℕ
+-- the fixed bits of a row
+abbrev pub fixed : Row → ℕ
 fixed l = placed (fixedOf l)
 
 -- the word of these fields beside the fixed bits, if each has room
@@ -29,7 +29,7 @@ abbrev pub literalFields : LiteralOp → ℕ → ℕ → List Bits
 literalFields op target imm19 = bits 31 30 (literalOpc op) ∷ bits 4 0 target ∷ bits 23 5 imm19 ∷ []
 
 unfoldable pub literalWord : LiteralOp → LiteralOperands → Field
-literalWord op o = withBits (bitsOf 262144 4 (o .offset)) (λ b. wordWith (fixed LiteralLine) (literalFields op (o .target) b))
+literalWord op o = withBits (bitsOf 262144 4 (o .offset)) (λ b. wordWith (fixed LiteralRow) (literalFields op (o .target) b))
 
 -- mode, L, imm7 and Rt2
 abbrev pub pairFields : PairOp → PairOperands → ℕ → List Bits
@@ -38,7 +38,7 @@ pairFields op o imm7 =
     ∷ bits 14 10 (o .second) ∷ bits 21 15 imm7 ∷ []
 
 unfoldable pub pairWord : PairOp → PairOperands → Field
-pairWord op o = withBits (bitsOf 64 (pairBytes op) (o .offset)) (λ b. wordWith (fixed PairLine) (pairFields op o b))
+pairWord op o = withBits (bitsOf 64 (pairBytes op) (o .offset)) (λ b. wordWith (fixed PairRow) (pairFields op o b))
 
 -- the families with a size, and their own fields
 abbrev pub sizedFields : SizedOp → ℕ → ℕ → List Bits → List Bits
@@ -55,23 +55,23 @@ abbrev pub indexFields : IndexOperands → List Bits
 indexFields o = bits 20 16 (o .index) ∷ bits 15 13 (o .option) ∷ bits 12 12 (o .scaled) ∷ []
 
 unfoldable pub indexWord : SizedOp → IndexOperands → Field
-indexWord op o = wordWith (fixed RegisterLine) (sizedFields op (o .base) (o .target) (indexFields o))
+indexWord op o = wordWith (fixed RegisterRow) (sizedFields op (o .base) (o .target) (indexFields o))
 
 -- imm12
 unfoldable pub unsignedWord : SizedOp → OffsetOperands → Field
 unsignedWord op o =
     withBits (plainBitsOf 4096 (sizedBytes op) (o .offset))
-    (λ b. wordWith (fixed UnsignedLine) (sizedFields op (o .base) (o .target) (bits 21 10 b ∷ [])))
+    (λ b. wordWith (fixed UnsignedRow) (sizedFields op (o .base) (o .target) (bits 21 10 b ∷ [])))
 
 -- the word with the fields of a family, if they are in range
 abbrev pub wordOf : Family → Field
 wordOf Empty = Unfit
 wordOf (Literal op o) = literalWord op o
 wordOf (Pair op o) = pairWord op o
-wordOf (Ordered op o) = signedWord (fixed OrderedLine) op o
-wordOf (Unscaled op o) = signedWord (fixed UnscaledLine) op o
-wordOf (PostIndex op o) = signedWord (fixed PostLine) op o
-wordOf (PreIndex op o) = signedWord (fixed PreLine) op o
+wordOf (Ordered op o) = signedWord (fixed OrderedRow) op o
+wordOf (Unscaled op o) = signedWord (fixed UnscaledRow) op o
+wordOf (PostIndex op o) = signedWord (fixed PostRow) op o
+wordOf (PreIndex op o) = signedWord (fixed PreRow) op o
 wordOf (Register op o) = indexWord op o
 wordOf (Unsigned op o) = unsignedWord op o
 

@@ -3,8 +3,8 @@ use Prim.Native.Nat.{ℕ, _+_, _*_}
 use lib.IntN.{pos}
 use Rattle.bits.specs.Fields.{field}
 use Rattle.bits.specs.Signed.{signedOf}
-use Rattle.instruction.specs.Types.{Line, NoLine, LiteralLine, PairLine, OrderedLine, UnscaledLine, PostLine, PreLine, RegisterLine, UnsignedLine, Family, Empty, Literal, Pair, Ordered, Unscaled, PostIndex, PreIndex, Register, Unsigned, Instruction, LiteralOperands, PairOperands, OffsetOperands, IndexOperands, SizedOp, PairOp}
-use Rattle.instruction.specs.Table.{lineOf}
+use Rattle.instruction.specs.Types.{Row, NoRow, LiteralRow, PairRow, OrderedRow, UnscaledRow, PostRow, PreRow, RegisterRow, UnsignedRow, Family, Empty, Literal, Pair, Ordered, Unscaled, PostIndex, PreIndex, Register, Unsigned, Instruction, LiteralOperands, PairOperands, OffsetOperands, IndexOperands, SizedOp, PairOp}
+use Rattle.instruction.specs.Table.{rowOf}
 use Rattle.instruction.specs.Undefined.{sizeOpc}
 use Rattle.instruction.specs.Operations.{sizedAt, literalAt, pairAt, modeAt, sizedBytes, pairBytes}
 
@@ -50,17 +50,17 @@ indexIn w =
 unfoldable pub unsignedIn : SizedOp → ℕ → OffsetOperands
 unsignedIn op w = record { target = field 4 0 w; base = field 9 5 w; offset = pos (field 21 10 w * sizedBytes op) }
 
-abbrev pub familyIn : Line → ℕ → Family
-familyIn NoLine w = Empty
-familyIn LiteralLine w = Literal (literalAt (field 31 30 w)) (literalIn w)
-familyIn PairLine w = Pair (pairOpIn w) (pairIn (pairOpIn w) w)
-familyIn OrderedLine w = Ordered (sizedIn w) (signedIn w)
-familyIn UnscaledLine w = Unscaled (sizedIn w) (signedIn w)
-familyIn PostLine w = PostIndex (sizedIn w) (signedIn w)
-familyIn PreLine w = PreIndex (sizedIn w) (signedIn w)
-familyIn RegisterLine w = Register (sizedIn w) (indexIn w)
-familyIn UnsignedLine w = Unsigned (sizedIn w) (unsignedIn (sizedIn w) w)
+abbrev pub familyIn : Row → ℕ → Family
+familyIn NoRow w = Empty
+familyIn LiteralRow w = Literal (literalAt (field 31 30 w)) (literalIn w)
+familyIn PairRow w = Pair (pairOpIn w) (pairIn (pairOpIn w) w)
+familyIn OrderedRow w = Ordered (sizedIn w) (signedIn w)
+familyIn UnscaledRow w = Unscaled (sizedIn w) (signedIn w)
+familyIn PostRow w = PostIndex (sizedIn w) (signedIn w)
+familyIn PreRow w = PreIndex (sizedIn w) (signedIn w)
+familyIn RegisterRow w = Register (sizedIn w) (indexIn w)
+familyIn UnsignedRow w = Unsigned (sizedIn w) (unsignedIn (sizedIn w) w)
 
 -- the instruction of an allocated word
 unfoldable pub instructionOf : ℕ → Instruction
-instructionOf w = record { family = familyIn (lineOf w) w }
+instructionOf w = record { family = familyIn (rowOf w) w }

@@ -3,8 +3,8 @@ pub use Rattle.instruction.specs.declared.answer.Answer.{Answer}
 pub use Rattle.instruction.specs.declared.answer.Answer.the-variants.{Done, BadWindow, NotInSet, Undefined, Unpredictable, TaintedAddress, Misaligned, OutOfWindow, ReadOnly, NoSuchText, NoRoom, NoSuchInstruction}
 pub use Rattle.instruction.specs.declared.answer.Decoded.{Decoded}
 pub use Rattle.instruction.specs.declared.answer.Encoded.{Encoded}
-pub use Rattle.instruction.specs.declared.line.Line.{Line}
-pub use Rattle.instruction.specs.declared.line.Line.the-variants.{NoLine, LiteralLine, PairLine, OrderedLine, UnscaledLine, PostLine, PreLine, RegisterLine, UnsignedLine}
+pub use Rattle.instruction.specs.declared.row.Row.{Row}
+pub use Rattle.instruction.specs.declared.row.Row.the-variants.{NoRow, LiteralRow, PairRow, OrderedRow, UnscaledRow, PostRow, PreRow, RegisterRow, UnsignedRow}
 pub use Rattle.instruction.specs.declared.operation.SizedOp.{SizedOp}
 pub use Rattle.instruction.specs.declared.operation.SizedOp.the-variants.{StoreByte, LoadByte, LoadSignedByte64, LoadSignedByte32, StoreHalf, LoadHalf, LoadSignedHalf64, LoadSignedHalf32, StoreWord, LoadWord, LoadSignedWord64, StoreDouble, LoadDouble, Prefetch}
 pub use Rattle.instruction.specs.declared.operation.LiteralOp.{LiteralOp}

@@ -3,8 +3,8 @@ use Prim.Native.Nat.{ℕ, _+_, _*_}
 use mathlib.Core.Bool.{Bool, false, _&&_, _||_, not}
 use lib.Dec.{eqb}
 use Rattle.bits.specs.Fields.{field}
-use Rattle.instruction.specs.Types.{Line, NoLine, LiteralLine, PairLine, OrderedLine, UnscaledLine, PostLine, PreLine, RegisterLine, UnsignedLine}
-use Rattle.instruction.specs.Table.{lineOf, inSet}
+use Rattle.instruction.specs.Types.{Row, NoRow, LiteralRow, PairRow, OrderedRow, UnscaledRow, PostRow, PreRow, RegisterRow, UnsignedRow}
+use Rattle.instruction.specs.Table.{rowOf, inSet}
 
 -- size and opc side by side, as one number of four bits
 abbrev pub sizeOpc : ℕ → ℕ
@@ -28,19 +28,19 @@ undefinedPair w =
     eqb (field 31 30 w) 0b11
     || (eqb (field 31 30 w) 0b01 && not (eqb (field 22 22 w) 1 && not (eqb (field 24 23 w) 0b00)))
 
-abbrev pub undefinedIn : Line → ℕ → Bool
-undefinedIn NoLine w = false
-undefinedIn LiteralLine w = false
-undefinedIn PairLine w = undefinedPair w
-undefinedIn OrderedLine w = undefinedSize w || undefinedPrefetch w
-undefinedIn UnscaledLine w = undefinedSize w
-undefinedIn PostLine w = undefinedSize w || undefinedPrefetch w
-undefinedIn PreLine w = undefinedSize w || undefinedPrefetch w
-undefinedIn RegisterLine w = undefinedSize w || undefinedOption w
-undefinedIn UnsignedLine w = undefinedSize w
+abbrev pub undefinedIn : Row → ℕ → Bool
+undefinedIn NoRow w = false
+undefinedIn LiteralRow w = false
+undefinedIn PairRow w = undefinedPair w
+undefinedIn OrderedRow w = undefinedSize w || undefinedPrefetch w
+undefinedIn UnscaledRow w = undefinedSize w
+undefinedIn PostRow w = undefinedSize w || undefinedPrefetch w
+undefinedIn PreRow w = undefinedSize w || undefinedPrefetch w
+undefinedIn RegisterRow w = undefinedSize w || undefinedOption w
+undefinedIn UnsignedRow w = undefinedSize w
 
 unfoldable pub undefined : ℕ → Bool
-undefined w = undefinedIn (lineOf w) w
+undefined w = undefinedIn (rowOf w) w
 
 -- 01's "allocated": of the set and not undefined
 unfoldable pub allocated : ℕ → Bool

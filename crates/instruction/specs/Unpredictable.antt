@@ -3,8 +3,8 @@ use Prim.Native.Nat.{ℕ}
 use mathlib.Core.Bool.{Bool, false, _&&_, _||_, not}
 use lib.Dec.{eqb}
 use Rattle.bits.specs.Fields.{field}
-use Rattle.instruction.specs.Types.{Line, NoLine, LiteralLine, PairLine, OrderedLine, UnscaledLine, PostLine, PreLine, RegisterLine, UnsignedLine}
-use Rattle.instruction.specs.Table.{lineOf}
+use Rattle.instruction.specs.Types.{Row, NoRow, LiteralRow, PairRow, OrderedRow, UnscaledRow, PostRow, PreRow, RegisterRow, UnsignedRow}
+use Rattle.instruction.specs.Table.{rowOf}
 
 -- Rn is not 31 and is register r
 unfoldable pub baseIs : ℕ → ℕ → Bool
@@ -18,16 +18,16 @@ pairBaseIs w = eqb (field 23 23 w) 1 && (baseIs (field 4 0 w) w || baseIs (field
 unfoldable pub unpredictablePair : ℕ → Bool
 unpredictablePair w = pairBaseIs w || (eqb (field 22 22 w) 1 && eqb (field 4 0 w) (field 14 10 w))
 
-abbrev pub unpredictableIn : Line → ℕ → Bool
-unpredictableIn NoLine w = false
-unpredictableIn LiteralLine w = false
-unpredictableIn PairLine w = unpredictablePair w
-unpredictableIn OrderedLine w = false
-unpredictableIn UnscaledLine w = false
-unpredictableIn PostLine w = baseIs (field 4 0 w) w
-unpredictableIn PreLine w = baseIs (field 4 0 w) w
-unpredictableIn RegisterLine w = false
-unpredictableIn UnsignedLine w = false
+abbrev pub unpredictableIn : Row → ℕ → Bool
+unpredictableIn NoRow w = false
+unpredictableIn LiteralRow w = false
+unpredictableIn PairRow w = unpredictablePair w
+unpredictableIn OrderedRow w = false
+unpredictableIn UnscaledRow w = false
+unpredictableIn PostRow w = baseIs (field 4 0 w) w
+unpredictableIn PreRow w = baseIs (field 4 0 w) w
+unpredictableIn RegisterRow w = false
+unpredictableIn UnsignedRow w = false
 
 unfoldable pub unpredictable : ℕ → Bool
-unpredictable w = unpredictableIn (lineOf w) w
+unpredictable w = unpredictableIn (rowOf w) w

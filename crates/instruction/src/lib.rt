@@ -2,8 +2,8 @@
 // defined in specs/.
 mod answer;
 mod family;
-mod line;
 mod operation;
+mod row;
 
 pub use answer::Answer;
 pub use answer::Decoded;
@@ -15,12 +15,13 @@ pub use family::Instruction;
 pub use family::LiteralOperands;
 pub use family::OffsetOperands;
 pub use family::PairOperands;
-pub use line::Line;
 pub use operation::LiteralOp;
 pub use operation::PairMode;
 pub use operation::PairOp;
 pub use operation::SizedOp;
 pub use operation::opc_field;
 pub use operation::pair_bytes;
+pub use operation::scale;
 pub use operation::size_field;
 pub use operation::sized_bytes;
+pub use row::Row;

@@ -1,13 +1,13 @@
-// The lines of 01's table of instructions: which words are of the set.
+// The rows of 01's table of instructions, which it calls lines: which words are of the set.
 
-pub enum Line {
-    NoLine,
-    LiteralLine,
-    PairLine,
-    OrderedLine,
-    UnscaledLine,
-    PostLine,
-    PreLine,
-    RegisterLine,
-    UnsignedLine,
+pub enum Row {
+    NoRow,
+    LiteralRow,
+    PairRow,
+    OrderedRow,
+    UnscaledRow,
+    PostRow,
+    PreRow,
+    RegisterRow,
+    UnsignedRow,
 }

@@ -2,7 +2,7 @@
 use mathlib.Core.Path.{_≡_, refl}
 use Rattle.bits.specs.Fields.{part}
 use Rattle.bits.specs.Signed.{signedOf}
-use Rattle.instruction.specs.Table.{lineOf, inSet}
+use Rattle.instruction.specs.Table.{rowOf, inSet}
 use Rattle.instruction.specs.Undefined.{undefined, allocated, undefinedSize, undefinedPrefetch}
 use Rattle.instruction.specs.Unpredictable.{unpredictable, baseIs}
 use Rattle.instruction.specs.Operations.{sizedAt}
@@ -15,5 +15,5 @@ use Rattle.listing.specs.Listing.{hexDigit, hex4, hex8, contentText, ans
 use Rattle.listing.specs.Examples.{exampleBytes, exampleLines}
 
 pub listing-example : listingOf exampleBytes ≡ exampleLines
-unfolding lineText hexDigit hex4 hex8 contentText answerText shortText wordOf wordText textOf registerText baseText offsetTail postTail frontText sizedText dec signedDec instructionOf lineOf part signedOf sizedAt sizedIn signedIn classOf inSet allocated undefined undefinedSize undefinedPrefetch unpredictable baseIs
+unfolding lineText hexDigit hex4 hex8 contentText answerText shortText wordOf wordText textOf registerText baseText offsetTail postTail frontText sizedText dec signedDec instructionOf rowOf part signedOf sizedAt sizedIn signedIn classOf inSet allocated undefined undefinedSize undefinedPrefetch unpredictable baseIs
 listing-example = refl

@@ -33,7 +33,11 @@ use Rattle.encoder.specs.Exact.{Exact}
 use Rattle.encoder.proofs.RoundTrip.{encode-exact}
 use Rattle.reader.specs.declared.Reading.{Reading}
 use Rattle.reader.specs.Reading.{ReadOf}
-use Rattle.reader.proofs.RoundTrip.{read-some, read-once}
+use Rattle.reader.proofs.RoundTrip.{text-injective, read-some, read-once}
+use Rattle.host.specs.declared.WordReply.{WordReply}
+use Rattle.host.specs.Replies.{ReadAs}
+use Rattle.host.specs.Hosting.{machineIn, hostRun}
+use Rattle.host.proofs.Replies.{read-as}
 use Rattle.promises.specs.Answered.{oneOf, Answered, Is}
 
 pub by-definition : {R : Type 0} (x : R) {number : R → ℕ} {numbers : List ℕ} → oneOf numbers (number x) ≡ true → Answered (Is x) number numbers
@@ -131,3 +135,31 @@ read-number t r (inr (d, z, n)) = rw d
 
 pub read-answered : (t : List ℕ) → Answered (ReadOf t) (λ r. answerNumber (r .answer)) (0 ∷ 9 ∷ [])
 read-answered t = record { some = read-some t; one = read-once t; answer = read-number t }
+
+-- ---- the library
+
+module _ (w : Window) (words registers flags memory taint trace : List ℕ) where
+  call-at : (y z : Bool) → ltb (length registers) 33 ≡ y → ltb (length flags) 32 ≡ z → oneOf runNumbers (hostRun w words registers flags memory taint trace .reply .answer) ≡ true
+  unfolding hostRun
+  call-at true z e g = rw e
+  call-at false true e g = rw (e, g)
+  call-at false false e g = rw (e, g) (run-number w words (machineIn registers flags memory taint) trace)
+
+  pub call-number : oneOf runNumbers (hostRun w words registers flags memory taint trace .reply .answer) ≡ true
+  call-number = call-at (ltb (length registers) 33) (ltb (length flags) 32) refl refl
+
+word-some : (t : List ℕ) → (r : Reading) × ReadOf t r → (r : WordReply) × ReadAs t r
+word-some t (r, h) = (record { answer = answerNumber (r .answer); word = r .word }, read-as t r refl h)
+
+word-one : (t : List ℕ) (r s : WordReply) → ReadAs t r → ReadAs t s → r ≡ s
+word-one t r s (inl (d, l)) (inl (e, k)) = let same = text-injective (r .word) (s .word) t l k in λ i. record { answer = (d ∙ sym e) i; word = same i }
+word-one t r s (inl (d, l)) (inr (e, z, n)) = absurd (n (r .word) l)
+word-one t r s (inr (d, z, n)) (inl (e, l)) = absurd (n (s .word) l)
+word-one t r s (inr (d, z, n)) (inr (e, y, k)) = λ i. record { answer = (d ∙ sym e) i; word = (z ∙ sym y) i }
+
+word-number : (t : List ℕ) (r : WordReply) → ReadAs t r → oneOf (0 ∷ 9 ∷ []) (r .answer) ≡ true
+word-number t r (inl (d, l)) = rw d
+word-number t r (inr (d, z, n)) = rw d
+
+pub word-answered : (t : List ℕ) → Answered (ReadAs t) (λ r. r .answer) (0 ∷ 9 ∷ [])
+word-answered t = record { some = word-some t (read-some t); one = word-one t; answer = word-number t }

@@ -19,7 +19,7 @@ use Rattle.instruction.specs.Undefined.{undefined, allocated}
 use Rattle.instruction.specs.Unpredictable.{unpredictable}
 use Rattle.instruction.specs.Decoding.{decodeOf, classOf}
 use Rattle.instruction.specs.Encoding.{encodeOf}
-use Rattle.instruction.proofs.Lines.{never-overlap}
+use Rattle.instruction.proofs.Rows.{never-overlap}
 use Rattle.instruction.proofs.Sorts.{exactly-one}
 use Rattle.machine.specs.Rule.{Taints, wordRule}
 use Rattle.machine.specs.Machine.{Machine}
@@ -44,11 +44,13 @@ use Rattle.reader.specs.declared.Reading.{Reading}
 use Rattle.reader.specs.Reading.{LineOf, ReadOf}
 use Rattle.reader.proofs.RoundTrip.{read-once}
 use Rattle.reader.proofs.Triangle.{triangle}
+use Rattle.host.specs.Replies.{numbered}
+use Rattle.host.specs.Hosting.{hostRun}
 use Rattle.host.proofs.Runs.{refused-unchanged as refused-calls}
 use Rattle.host.proofs.Secrecy.{hosted-taints, hosted-same}
 use Rattle.promises.specs.Answered.{oneOf}
 use Rattle.promises.specs.Demands.{Demand1, Demand2, Demand3, Library}
-use Rattle.promises.proofs.Answered.{by-definition, lowest-of-2, lowest-of-3, first-of-3, ten-or-none, step-number, run-number, encode-number, read-answered}
+use Rattle.promises.proofs.Answered.{by-definition, lowest-of-2, lowest-of-3, first-of-3, ten-or-none, step-number, run-number, encode-number, read-answered, call-number, word-answered}
 
 decode-answer : (member wrong : Bool) → answerNumber (pick member (pick wrong Undefined Done) NotInSet) ≡ lowest 2 (not member ∷ wrong ∷ [])
 decode-answer true true = refl
@@ -124,6 +126,16 @@ list-answer : (short : Bool) → answerNumber (pick short NoRoom Done) ≡ pick 
 list-answer true = refl
 list-answer false = refl
 
+written-number : (word : ℕ) (buffer : List ℕ) → oneOf (0 ∷ 2 ∷ 3 ∷ 10 ∷ []) (answerNumber (writeOf word buffer .answer)) ≡ true
+written-number word buffer =
+    ap (oneOf (0 ∷ 2 ∷ 3 ∷ 10 ∷ [])) (write-number word buffer) ∙ first-of-3 (not (inSet word)) (undefined word) (ltb (length buffer) (length (wordText word)))
+
+listed-number : (bytes output : List ℕ) → oneOf (0 ∷ 10 ∷ []) (answerNumber (listOf bytes output .answer)) ≡ true
+unfolding listOf copied
+listed-number bytes output =
+    let short = ltb (length output) (length (listingOf bytes)) in
+    ap (oneOf (0 ∷ 10 ∷ [])) (list-answer short) ∙ ten-or-none short
+
 -- ---- steps
 
 step-marks : (rule : ℕ → Taints → Taints) (m : Machine) (s : Step Machine) → Refuses s → Follows taintsIn rule m s
@@ -145,11 +157,9 @@ demand-1 =
           λ word. by-definition (classOf word)
           (ap (oneOf (0 ∷ 2 ∷ 3 ∷ 4 ∷ [])) (class-answer (inSet word) (undefined word) (unpredictable word)) ∙ lowest-of-3 (not (inSet word)) (undefined word) (unpredictable word));
       encoded = λ i. by-definition (encodeOf i) (encode-number i);
-      written =
-          λ word buffer. by-definition (writeOf word buffer)
-          (ap (oneOf (0 ∷ 2 ∷ 3 ∷ 10 ∷ [])) (write-number word buffer) ∙ first-of-3 (not (inSet word)) (undefined word) (ltb (length buffer) (length (wordText word))));
+      written = λ word buffer. by-definition (writeOf word buffer) (written-number word buffer);
       read = read-answered;
-      listed = λ bytes output. by-definition (listOf bytes output) (ap (oneOf (0 ∷ 10 ∷ [])) (list-answer (ltb (length output) (length (listingOf bytes)))) ∙ ten-or-none (ltb (length output) (length (listingOf bytes))));
+      listed = λ bytes output. by-definition (listOf bytes output) (listed-number bytes output);
       step = λ w word m. by-definition (performed m (stepOf w word m)) (step-number w word m);
       run = λ w words m trace. by-definition (machineRun w words m trace) (run-number w words m trace);
       step-answers = answers-exact;
@@ -203,6 +213,10 @@ demand-3 =
 pub library : Library
 library =
     record {
+      run = λ w words registers flags memory taint trace. by-definition (hostRun w words registers flags memory taint trace) (call-number w words registers flags memory taint trace);
+      text = λ word buffer. by-definition (numbered (writeOf word buffer)) (written-number word buffer);
+      word = word-answered;
+      list = λ bytes output. by-definition (numbered (listOf bytes output)) (listed-number bytes output);
       early = refused-calls;
       two-calls = λ w words registers flags memory taint trace others raised bytes marks trail h many wide room. hosted-same w words registers flags memory taint trace others raised bytes marks trail h many wide room;
       marks-at-end = hosted-taints;

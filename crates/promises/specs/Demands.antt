@@ -12,9 +12,9 @@ use lib.Seq.{sets}
 use Rattle.bits.specs.Choice.{pick, howMany}
 use Rattle.instruction.specs.declared.answer.Answer.the-variants.{Done, BadWindow, NoSuchText, NoRoom}
 use Rattle.instruction.specs.declared.family.Instruction.{Instruction}
-use Rattle.instruction.specs.declared.line.Line.{Line}
+use Rattle.instruction.specs.declared.row.Row.{Row}
 use Rattle.instruction.specs.Answers.{answerNumber}
-use Rattle.instruction.specs.Table.{isLine, matches, inSet}
+use Rattle.instruction.specs.Table.{isRow, matches, inSet}
 use Rattle.instruction.specs.Undefined.{undefined, allocated}
 use Rattle.instruction.specs.Unpredictable.{unpredictable}
 use Rattle.instruction.specs.Instructions.{instructionOf}
@@ -44,6 +44,7 @@ use Rattle.listing.specs.Examples.{exampleBytes, exampleLines}
 use Rattle.reader.specs.declared.Reading.{Reading}
 use Rattle.reader.specs.Reading.{LineOf, ReadOf}
 use Rattle.reader.specs.Triangle.{Bijection, Allocated, Encodable, Readable}
+use Rattle.host.specs.Replies.{numbered, ReadAs}
 use Rattle.host.specs.Hosting.{machineIn, hosted, hostRun}
 use Rattle.host.specs.Secrecy.{machineLeft, ShowsHosted}
 use Rattle.promises.specs.Answered.{Answered, Is}
@@ -110,9 +111,9 @@ pub record Demand2 : Type 0 where
   pub run-as-arm : (w : Window) (words : List ℕ) (m : Machine) (trace : List ℕ) → Real m → machineRun w words m trace ≡ runOf (badStart w) (armStep w) words m trace
   pub step-real : (w : Window) (word : ℕ) (m : Machine) → Real m → Real (stepped w word m .machine)
   pub some-real : (m : Machine) × Real m
-  -- "Every allocated word of the set has one record and one line of text": a word matches at most one line of 01's
+  -- "Every allocated word of the set has one record and one line of text": a word matches at most one row of 01's
   -- table, and is exactly one of not of the set, undefined, and allocated
-  pub never-overlap : (word : ℕ) (a b : Line) → isLine a ≡ true → isLine b ≡ true → matches word a ≡ true → matches word b ≡ true → a ≡ b
+  pub never-overlap : (word : ℕ) (a b : Row) → isRow a ≡ true → isRow b ≡ true → matches word a ≡ true → matches word b ≡ true → a ≡ b
   pub one-sort : (word : ℕ) → howMany (not (inSet word) ∷ undefined word ∷ allocated word ∷ []) ≡ 1
   -- "and each of the three leads back to the other two"
   pub line-of-record : (word : ℕ) → wordText word ≡ textOf (instructionOf word)
@@ -147,6 +148,12 @@ pub record Demand3 : Type 0 where
 
 -- What the library for C and Rust carries over of this, its registers and marks being lent slices
 pub record Library : Type 0 where
+  -- every call gets an answer
+  pub run : (w : Window) (words registers flags memory taint trace : List ℕ)
+      → Answered (Is (hostRun w words registers flags memory taint trace)) (λ r. r .reply .answer) (0 ∷ 1 ∷ 2 ∷ 3 ∷ 4 ∷ 5 ∷ 6 ∷ 7 ∷ 8 ∷ 10 ∷ [])
+  pub text : (word : ℕ) (buffer : List ℕ) → Answered (Is (numbered (writeOf word buffer))) (λ r. r .answer) (0 ∷ 2 ∷ 3 ∷ 10 ∷ [])
+  pub word : (t : List ℕ) → Answered (ReadAs t) (λ r. r .answer) (0 ∷ 9 ∷ [])
+  pub list : (bytes output : List ℕ) → Answered (Is (numbered (listOf bytes output))) (λ r. r .answer) (0 ∷ 10 ∷ [])
   -- with 1 and 10 every slice is as it was
   pub early : (w : Window) (words registers flags memory taint trace : List ℕ)
       → let ran = hostRun w words registers flags memory taint trace in

@@ -13,9 +13,9 @@ use Rattle.bits.specs.Fields.{part, field}
 use Rattle.bits.specs.Signed.{signedOf}
 use Rattle.bits.proofs.Choices.{pick-by, neither, tested}
 use Rattle.bits.proofs.Parts.{part-lt, cut}
-use Rattle.instruction.specs.declared.line.Line.{Line}
-use Rattle.instruction.specs.declared.line.Line.the-variants.{NoLine, LiteralLine, PairLine, OrderedLine, UnscaledLine, PostLine, PreLine, RegisterLine, UnsignedLine}
-use Rattle.instruction.specs.Table.{isLine}
+use Rattle.instruction.specs.declared.row.Row.{Row}
+use Rattle.instruction.specs.declared.row.Row.the-variants.{NoRow, LiteralRow, PairRow, OrderedRow, UnscaledRow, PostRow, PreRow, RegisterRow, UnsignedRow}
+use Rattle.instruction.specs.Table.{isRow}
 use Rattle.instruction.specs.Undefined.{sizeOpc, undefinedSize, undefinedPrefetch, undefinedOption, undefinedPair, undefinedIn}
 use Rattle.instruction.specs.Operations.{sizedBytes, pairAt, pairOpc, pairBytes, modeAt, modeCode}
 use Rattle.instruction.specs.Instructions.{sizedIn, literalIn, pairOpIn, pairIn, signedIn, indexIn, unsignedIn, familyIn}
@@ -110,13 +110,13 @@ module _ (w : ℕ) where
         scaled = part-lt 12 1 w;
       }
 
-  pub in-range : (l : Line) → isLine l ≡ true → undefinedIn l w ≡ false → InRange (familyIn l w)
-  in-range NoLine t u = let z : _≡_ {A = ℕ} 0 1 = cc in omega arith
-  in-range LiteralLine t u = literal-range
-  in-range PairLine t u = pair-range u
-  in-range OrderedLine t u = let n = neither (undefinedSize w) (undefinedPrefetch w) u in (no-prefetch w (n .0) (n .1), signed-range)
-  in-range UnscaledLine t u = signed-range
-  in-range PostLine t u = signed-range
-  in-range PreLine t u = signed-range
-  in-range RegisterLine t u = index-range (neither (undefinedSize w) (undefinedOption w) u .1)
-  in-range UnsignedLine t u = unsigned-range
+  pub in-range : (l : Row) → isRow l ≡ true → undefinedIn l w ≡ false → InRange (familyIn l w)
+  in-range NoRow t u = let z : _≡_ {A = ℕ} 0 1 = cc in omega arith
+  in-range LiteralRow t u = literal-range
+  in-range PairRow t u = pair-range u
+  in-range OrderedRow t u = let n = neither (undefinedSize w) (undefinedPrefetch w) u in (no-prefetch w (n .0) (n .1), signed-range)
+  in-range UnscaledRow t u = signed-range
+  in-range PostRow t u = signed-range
+  in-range PreRow t u = signed-range
+  in-range RegisterRow t u = index-range (neither (undefinedSize w) (undefinedOption w) u .1)
+  in-range UnsignedRow t u = unsigned-range

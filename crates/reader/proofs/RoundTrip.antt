@@ -8,7 +8,7 @@ use mathlib.Core.Logic.{inl, inr}
 use native.Mathlib.Decide.{ℕ-discrete}
 use borrow.Author.Tests.{not-true}
 use Rattle.bits.proofs.Choices.{both}
-use Rattle.instruction.specs.Table.{lineOf, isLine, inSet}
+use Rattle.instruction.specs.Table.{rowOf, isRow, inSet}
 use Rattle.instruction.specs.Undefined.{undefinedIn, undefined, allocated}
 use Rattle.instruction.specs.Instructions.{familyIn, instructionOf}
 use Rattle.instruction.specs.Encoding.{encodeOf}
@@ -27,8 +27,8 @@ use Rattle.reader.proofs.Ranges.{in-range}
 pub build-back : (w : ℕ) → allocated w ≡ true → buildOf (foldl stepOf scanStart (wordText w)) ≡ instructionOf w
 unfolding wordText textOf allocated inSet undefined instructionOf
 build-back w a =
-    let p = both (isLine (lineOf w)) (not (undefinedIn (lineOf w) w)) a in
-    family-comes (familyIn (lineOf w) w) (in-range w (lineOf w) (p .0) (not-true _ (p .1)))
+    let p = both (isRow (rowOf w)) (not (undefinedIn (rowOf w) w)) a in
+    family-comes (familyIn (rowOf w) w) (in-range w (rowOf w) (p .0) (not-true _ (p .1)))
 
 -- the word of a line is the word that its candidate is encoded to
 pub line-encodes : (w : ℕ) (t : List ℕ) → LineOf w t → encodeOf (buildOf (foldl stepOf scanStart t)) ≡ record { answer = Done; word = w }

@@ -2,7 +2,7 @@
 use mathlib.Core.Path.{refl}
 use Rattle.bits.specs.Fields.{part}
 use Rattle.bits.specs.Signed.{signedOf}
-use Rattle.instruction.specs.Table.{lineOf, inSet}
+use Rattle.instruction.specs.Table.{rowOf, inSet}
 use Rattle.instruction.specs.Undefined.{undefined, allocated, undefinedSize, undefinedPrefetch, undefinedOption, undefinedPair}
 use Rattle.instruction.specs.Unpredictable.{unpredictable, baseIs, pairBaseIs, unpredictablePair}
 use Rattle.instruction.specs.Operations.{sizedAt, literalAt, pairAt, modeAt}
@@ -14,5 +14,5 @@ use Rattle.text.specs.Writing.{wordText}
 use Rattle.text.specs.Examples.{Holds, examples}
 
 pub starred-examples : Holds examples
-unfolding wordText textOf registerText baseText offsetTail preTail postTail extendName amountText extendText indexTail frontText literalText pairText sizedText dec signedDec instructionOf lineOf part signedOf sizedAt literalAt pairAt modeAt sizedIn literalIn pairOpIn pairIn signedIn indexIn unsignedIn classOf inSet allocated undefined undefinedSize undefinedPrefetch undefinedOption undefinedPair unpredictable baseIs pairBaseIs unpredictablePair
+unfolding wordText textOf registerText baseText offsetTail preTail postTail extendName amountText extendText indexTail frontText literalText pairText sizedText dec signedDec instructionOf rowOf part signedOf sizedAt literalAt pairAt modeAt sizedIn literalIn pairOpIn pairIn signedIn indexIn unsignedIn classOf inSet allocated undefined undefinedSize undefinedPrefetch undefinedOption undefinedPair unpredictable baseIs pairBaseIs unpredictablePair
 starred-examples = (refl, refl, (refl, refl, (refl, refl, (refl, refl, (refl, refl, (refl, refl, (refl, refl, (refl, refl, (refl, (refl, (refl, tt)))))))))))

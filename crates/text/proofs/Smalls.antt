@@ -12,11 +12,11 @@ use Rattle.bits.specs.Choice.{pick}
 use Rattle.bits.specs.Fields.{field}
 use Rattle.bits.specs.Signed.{signedOf}
 use Rattle.bits.proofs.Parts.{part-lt}
-use Rattle.instruction.specs.declared.line.Line.{Line}
-use Rattle.instruction.specs.declared.line.Line.the-variants.{NoLine, LiteralLine, PairLine, OrderedLine, UnscaledLine, PostLine, PreLine, RegisterLine, UnsignedLine}
+use Rattle.instruction.specs.declared.row.Row.{Row}
+use Rattle.instruction.specs.declared.row.Row.the-variants.{NoRow, LiteralRow, PairRow, OrderedRow, UnscaledRow, PostRow, PreRow, RegisterRow, UnsignedRow}
 use Rattle.instruction.specs.declared.operation.SizedOp.{SizedOp}
 use Rattle.instruction.specs.Operations.{sizedBytes, pairBytes}
-use Rattle.instruction.specs.Table.{lineOf}
+use Rattle.instruction.specs.Table.{rowOf}
 use Rattle.instruction.specs.Undefined.{allocated}
 use Rattle.instruction.specs.Instructions.{sizedIn, literalIn, pairOpIn, pairIn, signedIn, indexIn, unsignedIn, familyIn, instructionOf}
 use Rattle.instruction.specs.Decoding.{decodeOf, empty}
@@ -46,26 +46,26 @@ unsigned-small op w =
     let most : field 21 10 w * sizedBytes op ≤ 4096 * 8 = mul-le-mul below (sized op .most) in
     (part-lt 0 5 w, part-lt 5 5 w, omega arith)
 
-pub small-in : (l : Line) (w : ℕ) → Small (familyIn l w)
+pub small-in : (l : Row) (w : ℕ) → Small (familyIn l w)
 unfolding literalIn pairIn indexIn
-small-in NoLine w = tt
-small-in LiteralLine w = (part-lt 0 5 w, omega (arith, signed-most 262144 4 (field 23 5 w) (omega (arith, part-lt 5 19 w))))
-small-in PairLine w =
+small-in NoRow w = tt
+small-in LiteralRow w = (part-lt 0 5 w, omega (arith, signed-most 262144 4 (field 23 5 w) (omega (arith, part-lt 5 19 w))))
+small-in PairRow w =
     let op = pairOpIn w in
     let most = signed-most 64 (pairBytes op) (field 21 15 w) (omega (arith, part-lt 15 7 w)) in
     let eight : 64 * pairBytes op ≤ 64 * 8 = mul-le-mul-left 64 (paired op .most) in
     (part-lt 0 5 w, part-lt 10 5 w, part-lt 5 5 w, omega arith)
-small-in OrderedLine w = signed-small w
-small-in UnscaledLine w = signed-small w
-small-in PostLine w = signed-small w
-small-in PreLine w = signed-small w
-small-in RegisterLine w = (part-lt 0 5 w, part-lt 5 5 w, part-lt 16 5 w)
-small-in UnsignedLine w = unsigned-small (sizedIn w) w
+small-in OrderedRow w = signed-small w
+small-in UnscaledRow w = signed-small w
+small-in PostRow w = signed-small w
+small-in PreRow w = signed-small w
+small-in RegisterRow w = (part-lt 0 5 w, part-lt 5 5 w, part-lt 16 5 w)
+small-in UnsignedRow w = unsigned-small (sizedIn w) w
 
-by-allocated : (b : Bool) (l : Line) (w : ℕ) → Small (pick b (record { family = familyIn l w }) empty .family)
+by-allocated : (b : Bool) (l : Row) (w : ℕ) → Small (pick b (record { family = familyIn l w }) empty .family)
 by-allocated true l w = small-in l w
 by-allocated false l w = tt
 
 pub decoded-small : (w : ℕ) → Small (decodeOf w .instruction .family)
 unfolding decodeOf instructionOf
-decoded-small w = by-allocated (allocated w) (lineOf w) w
+decoded-small w = by-allocated (allocated w) (rowOf w) w

@@ -1,13 +1,13 @@
--- `decoder::line::literal_or_ordered` meets its contract. Assumes nothing.
+-- `decoder::row::literal_or_ordered` meets its contract. Assumes nothing.
 use mathlib.Core.Path.{refl, sym}
 use native.Mathlib.Omega.{arith}
 use Rattle.bits.specs.Fields.{part}
-use Rattle.instruction.specs.declared.line.Line.{Line}
-use Rattle.instruction.proofs.Lines.{keyed, unkeyed}
+use Rattle.instruction.specs.declared.row.Row.{Row}
+use Rattle.instruction.proofs.Rows.{keyed, unkeyed}
 use Rattle.decoder.proofs.Keyless.{no-ordered}
 use borrow.Author.Needs.{needs}
-use Rattle.decoder.proofs.line.literal_or_ordered.Statement.{statement}
-use Rattle.decoder.proofs.line.literal_or_ordered.Tie as tie
+use Rattle.decoder.proofs.row.literal_or_ordered.Statement.{statement}
+use Rattle.decoder.proofs.row.literal_or_ordered.Tie as tie
 
 pub literal-or-ordered-spec : {M : Type 1} → statement M
 unfolding part
@@ -16,6 +16,6 @@ literal-or-ordered-spec =
     (tie.spec
     (λ c. search needs)
     (λ c. search needs)
-    (λ c. sym (keyed _ Line.LiteralLine refl (c .before .pre, c .if1 .taken)))
-    (λ c. sym (keyed _ Line.OrderedLine refl (c .before .before .pre, omega arith, c .match .keys1)))
+    (λ c. sym (keyed _ Row.LiteralRow refl (c .before .pre, c .if1 .taken)))
+    (λ c. sym (keyed _ Row.OrderedRow refl (c .before .before .pre, omega arith, c .match .keys1)))
     (λ c. sym (unkeyed _ (no-ordered _ (c .before .before .pre) (c .before .if1 .left) (c .match .rest .1)))))

@@ -1,20 +1,20 @@
--- `decoder::line::line_of` meets its contract. Assumes nothing.
+-- `decoder::row::row_of` meets its contract. Assumes nothing.
 use mathlib.Core.Path.{refl, sym}
 use Rattle.bits.specs.Fields.{part}
-use Rattle.instruction.specs.declared.line.Line.{Line}
-use Rattle.instruction.proofs.Lines.{keyed, unkeyed}
+use Rattle.instruction.specs.declared.row.Row.{Row}
+use Rattle.instruction.proofs.Rows.{keyed, unkeyed}
 use Rattle.decoder.proofs.Keyless.{no-group}
-use Rattle.decoder.proofs.line.line_of.Statement.{statement}
-use Rattle.decoder.proofs.line.line_of.Tie as tie
+use Rattle.decoder.proofs.row.row_of.Statement.{statement}
+use Rattle.decoder.proofs.row.row_of.Tie as tie
 
-pub line-of-spec : {M : Type 1} → statement M
+pub row-of-spec : {M : Type 1} → statement M
 unfolding part
-line-of-spec =
+row-of-spec =
     tie.close
     (tie.spec
     (λ c κs. c .match .keys1)
     (λ c κs. c .match .keys3)
     (λ c. c .literal-or-ordered .ensures)
-    (λ c. sym (keyed _ Line.PairLine refl (c .match .keys2)))
+    (λ c. sym (keyed _ Row.PairRow refl (c .match .keys2)))
     (λ c. c .with-size .ensures)
     (λ c. sym (unkeyed _ (no-group _ (c .match .rest .0 .0 .1) (c .match .rest .0 .1) (c .match .rest .1)))))

@@ -1,7 +1,7 @@
 -- `decoder::view::examine` meets its contract. Assumes nothing.
 use mathlib.Core.Path.{refl}
 use Rattle.bits.specs.Fields.{part}
-use Rattle.instruction.specs.declared.line.Line.{Line}
+use Rattle.instruction.specs.declared.row.Row.{Row}
 use Rattle.decoder.proofs.Arms.{outside, viewed-is}
 use borrow.Author.Needs.{needs}
 use Rattle.decoder.proofs.view.examine.Statement.{statement}
@@ -49,12 +49,12 @@ examine-spec =
     (λ c κs. search needs)
     (λ c κs. search needs)
     (λ c κs. search needs)
-    (λ c. outside _ (c .before .before .before .line-of .ensures) (c .before .enum-told .given .1) (c .refused .ensures))
-    (λ c. viewed-is _ (c .before .before .before .before .line-of .ensures) Line.LiteralLine (c .before .before .enum-told2 .given .1) refl refl refl (c .before .literal .ensures) (c .viewed .ensures))
-    (λ c. viewed-is _ (c .before .before .before .before .before .before .line-of .ensures) Line.PairLine (c .before .before .before .before .enum-told3 .given .1) refl (c .before .before .before .in-pair .ensures) (c .before .before .in-pair2 .ensures) (c .before .pair .ensures) (c .viewed2 .ensures))
-    (λ c. viewed-is _ (c .before .before .before .before .before .line-of .ensures) Line.OrderedLine (c .before .before .before .enum-told4 .given .1) refl (c .before .before .without-prefetch .ensures) refl (c .before .ordered .ensures) (c .viewed3 .ensures))
-    (λ c. viewed-is _ (c .before .before .before .before .before .line-of .ensures) Line.UnscaledLine (c .before .before .before .enum-told5 .given .1) refl (c .before .before .in-size .ensures) refl (c .before .unscaled .ensures) (c .viewed4 .ensures))
-    (λ c. viewed-is _ (c .before .before .before .before .before .before .line-of .ensures) Line.PostLine (c .before .before .before .before .enum-told6 .given .1) refl (c .before .before .before .without-prefetch2 .ensures) (c .before .before .base-is .ensures) (c .before .post-index .ensures) (c .viewed5 .ensures))
-    (λ c. viewed-is _ (c .before .before .before .before .before .before .line-of .ensures) Line.PreLine (c .before .before .before .before .enum-told7 .given .1) refl (c .before .before .before .without-prefetch3 .ensures) (c .before .before .base-is2 .ensures) (c .before .pre-index .ensures) (c .viewed6 .ensures))
-    (λ c. viewed-is _ (c .before .before .before .before .before .line-of .ensures) Line.RegisterLine (c .before .before .before .enum-told8 .given .1) refl (c .before .before .in-register .ensures) refl (c .before .register .ensures) (c .viewed7 .ensures))
-    (λ c. viewed-is _ (c .before .before .before .before .before .line-of .ensures) Line.UnsignedLine (c .before .before .before .enum-told9 .given .1) refl (c .before .before .in-size2 .ensures) refl (c .before .unsigned .ensures) (c .viewed8 .ensures)))
+    (λ c. outside _ (c .before .before .before .row-of .ensures) (c .before .enum-told .given .1) (c .refused .ensures))
+    (λ c. viewed-is _ (c .before .before .before .before .row-of .ensures) Row.LiteralRow (c .before .before .enum-told2 .given .1) refl refl refl (c .before .literal .ensures) (c .viewed .ensures))
+    (λ c. viewed-is _ (c .before .before .before .before .before .before .row-of .ensures) Row.PairRow (c .before .before .before .before .enum-told3 .given .1) refl (c .before .before .before .in-pair .ensures) (c .before .before .in-pair2 .ensures) (c .before .pair .ensures) (c .viewed2 .ensures))
+    (λ c. viewed-is _ (c .before .before .before .before .before .row-of .ensures) Row.OrderedRow (c .before .before .before .enum-told4 .given .1) refl (c .before .before .without-prefetch .ensures) refl (c .before .ordered .ensures) (c .viewed3 .ensures))
+    (λ c. viewed-is _ (c .before .before .before .before .before .row-of .ensures) Row.UnscaledRow (c .before .before .before .enum-told5 .given .1) refl (c .before .before .in-size .ensures) refl (c .before .unscaled .ensures) (c .viewed4 .ensures))
+    (λ c. viewed-is _ (c .before .before .before .before .before .before .row-of .ensures) Row.PostRow (c .before .before .before .before .enum-told6 .given .1) refl (c .before .before .before .without-prefetch2 .ensures) (c .before .before .base-is .ensures) (c .before .post-index .ensures) (c .viewed5 .ensures))
+    (λ c. viewed-is _ (c .before .before .before .before .before .before .row-of .ensures) Row.PreRow (c .before .before .before .before .enum-told7 .given .1) refl (c .before .before .before .without-prefetch3 .ensures) (c .before .before .base-is2 .ensures) (c .before .pre-index .ensures) (c .viewed6 .ensures))
+    (λ c. viewed-is _ (c .before .before .before .before .before .row-of .ensures) Row.RegisterRow (c .before .before .before .enum-told8 .given .1) refl (c .before .before .in-register .ensures) refl (c .before .register .ensures) (c .viewed7 .ensures))
+    (λ c. viewed-is _ (c .before .before .before .before .before .row-of .ensures) Row.UnsignedRow (c .before .before .before .enum-told9 .given .1) refl (c .before .before .in-size2 .ensures) refl (c .before .unsigned .ensures) (c .viewed8 .ensures)))
