@@ -3,14 +3,14 @@ use Prim.Native.Nat.{ℕ, zero, suc, _+_, _-_, _*_, _/_, _%_, _<_, _≤_}
 use mathlib.Core.Path.{_≡_, refl, ap}
 use mathlib.Core.Bool.{Bool, true, false}
 use native.Mathlib.Omega.{arith}
-use native.Mathlib.Nat.{div-add-mod', mul-div-cancel, mul-mod-left, mul-le-mul, zero-mul, not-suc-le-zero}
+use native.Mathlib.Nat.{div-add-mod', mul-div-cancel, mul-mod-left, mul-le-mul, le-refl, zero-mul, not-suc-le-zero}
 use lib.Dec.{ltb, eqb}
-use lib.IntN.{ℤ, pos, negsuc, negℤ}
+use lib.IntN.{ℤ, pos, negsuc, negℤ, natAbs}
 use borrow.Author.Tests.{eqb-true, ltb-true, ltb-false, lt-ltb, le-ltb}
 use Rattle.bits.specs.declared.Field.{Field}
 use Rattle.bits.specs.declared.Field.the-variants.{Holds, Unfit}
 use Rattle.bits.specs.Signed.{signedOf, quotientOf, complement, bitsOf, plainBitsOf}
-use Rattle.bits.proofs.Choices.{picked}
+use Rattle.bits.proofs.Choices.{picked, pick-by}
 
 pub unfit : {q : ℕ} → ¬ (Unfit ≡ Holds q)
 unfit e = let z : _≡_ {A = ℕ} 0 1 = cc in omega arith
@@ -89,6 +89,19 @@ signed-back half scale b (negsuc n) h =
     let p = quotient-pos n scale (c .0) (f .whole) in
     let e : 2 * half - b ≡ c .0 = omega (arith, c .2, f .below) in
     (omega (arith, c .2, f .below), simp (le-ltb b half (omega (arith, c .2, f .below)), e, f .whole))
+
+-- ---- how far an offset reaches
+
+abs-minus : (n : ℕ) → natAbs (negℤ (pos n)) ≡ n
+abs-minus zero = refl
+abs-minus (suc n) = refl
+
+pub signed-most : (half scale b : ℕ) → b < 2 * half → natAbs (signedOf half scale b) ≤ half * scale
+unfolding signedOf
+signed-most half scale b h =
+    pick-by (λ (z : ℤ). natAbs z ≤ half * scale) (ltb b half)
+    (λ e. let l = ltb-true b half e in mul-le-mul (omega arith) (le-refl scale))
+    (λ e. let l = ltb-false b half e in rw (abs-minus ((2 * half - b) * scale)) (mul-le-mul (omega arith) (le-refl scale)))
 
 -- ---- without a sign
 

@@ -1,4 +1,5 @@
 pub mod Rows
 pub mod Codes
+pub mod Bounds
 pub mod Sorts
 pub mod Examples

@@ -7,3 +7,4 @@ pub mod Operations
 pub mod Instructions
 pub mod Decoding
 pub mod Encoding
+pub mod route

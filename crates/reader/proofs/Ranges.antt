@@ -1,40 +1,26 @@
 -- The operands of an allocated word are in the ranges that a line can show. Assumes nothing.
-use Prim.Native.Nat.{ℕ, zero, suc, _+_, _-_, _*_, _≤_, _<_}
+use Prim.Native.Nat.{ℕ, _+_, _*_, _<_}
 use mathlib.Core.Path.{_≡_, refl, ap, sym, _∙_}
 use mathlib.Core.Bool.{Bool, true, false}
 use mathlib.Core.List.{[], _∷_}
-use native.Mathlib.Nat.{mul-le-mul, le-refl, pos-of-ne-zero}
+use native.Mathlib.Nat.{pos-of-ne-zero}
 use native.Mathlib.Omega.{arith}
-use lib.Dec.{ltb, eqb}
-use lib.IntN.{ℤ, pos, negℤ, natAbs}
-use borrow.Author.Tests.{eqb-true, eqb-false, ltb-true, ltb-false}
+use lib.Dec.{eqb}
+use borrow.Author.Tests.{eqb-true, eqb-false}
 use Rattle.bits.specs.Choice.{pick}
 use Rattle.bits.specs.Fields.{part, field}
-use Rattle.bits.specs.Signed.{signedOf}
-use Rattle.bits.proofs.Choices.{pick-by, neither, tested}
+use Rattle.bits.proofs.Choices.{neither, tested}
 use Rattle.bits.proofs.Parts.{part-lt, cut}
 use Rattle.instruction.specs.declared.row.Row.{Row}
 use Rattle.instruction.specs.declared.row.Row.the-variants.{NoRow, LiteralRow, PairRow, OrderedRow, UnscaledRow, PostRow, PreRow, RegisterRow, UnsignedRow}
 use Rattle.instruction.specs.Table.{isRow}
 use Rattle.instruction.specs.Undefined.{sizeOpc, undefinedSize, undefinedPrefetch, undefinedOption, undefinedPair, undefinedIn}
-use Rattle.instruction.specs.Operations.{sizedBytes, pairAt, pairOpc, pairBytes, modeAt, modeCode}
+use Rattle.instruction.specs.Operations.{pairAt, pairOpc, modeAt, modeCode}
 use Rattle.instruction.specs.Instructions.{sizedIn, literalIn, pairOpIn, pairIn, signedIn, indexIn, unsignedIn, familyIn}
-use Rattle.instruction.proofs.Codes.{sized, paired, sized-code, mode-code}
+use Rattle.instruction.proofs.Codes.{sized-code, mode-code}
+use Rattle.instruction.proofs.Bounds.{literal-bounds, pair-bounds, signed-bounds, index-bounds, unsigned-bounds}
 use Rattle.reader.specs.Types.{Prefetch, LoadSignedWords, NoAllocate}
 use Rattle.reader.proofs.Families.{OffsetRange, IndexRange, LiteralRange, PairRange, InRange}
-
--- ---- offsets
-
-neg-abs : (m : ℕ) → natAbs (negℤ (pos m)) ≡ m
-neg-abs zero = refl
-neg-abs (suc m) = refl
-
-signed-small : (half scale b : ℕ) → b < 2 * half → natAbs (signedOf half scale b) ≤ half * scale
-unfolding signedOf
-signed-small half scale b h =
-    pick-by (λ (z : ℤ). natAbs z ≤ half * scale) (ltb b half)
-    (λ e. let l = ltb-true b half e in mul-le-mul (omega arith) (le-refl scale))
-    (λ e. let l = ltb-false b half e in rw (neg-abs ((2 * half - b) * scale)) (mul-le-mul (omega arith) (le-refl scale)))
 
 -- ---- operations
 
@@ -73,27 +59,19 @@ module _ (w : ℕ) where
   -- ---- operands
 
   literal-range : LiteralRange (literalIn w)
-  unfolding literalIn
-  literal-range = record { target = part-lt 0 5 w; offset = omega (arith, signed-small 262144 4 (part 5 19 w) (part-lt 5 19 w)) }
+  literal-range = let b = literal-bounds w in record { target = b .target; offset = omega (arith, b .offset) }
 
   signed-range : OffsetRange (signedIn w)
-  unfolding signedIn
-  signed-range =
-      record { target = part-lt 0 5 w; base = part-lt 5 5 w; offset = omega (arith, signed-small 256 1 (part 12 9 w) (part-lt 12 9 w)) }
+  signed-range = let b = signed-bounds w in record { target = b .target; base = b .base; offset = omega (arith, b .offset) }
 
   unsigned-range : OffsetRange (unsignedIn (sizedIn w) w)
-  unfolding unsignedIn
-  unsigned-range =
-      let b : part 10 12 w ≤ 4096 = omega (arith, part-lt 10 12 w) in
-      let m : part 10 12 w * sizedBytes (sizedIn w) ≤ 4096 * 8 = mul-le-mul b (sized (sizedIn w) .most) in
-      record { target = part-lt 0 5 w; base = part-lt 5 5 w; offset = omega arith }
+  unsigned-range = let b = unsigned-bounds w (sizedIn w) in record { target = b .target; base = b .base; offset = omega (arith, b .offset) }
 
   pair-range : undefinedPair w ≡ false → PairRange (pairOpIn w) (pairIn (pairOpIn w) w)
   unfolding pairIn
   pair-range u =
-      let s = signed-small 64 (pairBytes (pairOpIn w)) (part 15 7 w) (part-lt 15 7 w) in
-      let m : 64 * pairBytes (pairOpIn w) ≤ 64 * 8 = mul-le-mul (le-refl 64) (paired (pairOpIn w) .most) in
-      record { first = part-lt 0 5 w; second = part-lt 10 5 w; base = part-lt 5 5 w; offset = omega arith; defined = pair-mode u }
+      let b = pair-bounds w in
+      record { first = b .first; second = b .second; base = b .base; offset = omega (arith, b .offset); defined = pair-mode u }
 
   -- option bit 1 is 1
   index-range : undefinedOption w ≡ false → IndexRange (indexIn w)
@@ -102,12 +80,13 @@ module _ (w : ℕ) where
       let n = pos-of-ne-zero (eqb-false (part 14 1 w) 0 u) in
       let c : part 13 3 w ≡ part 13 1 w + (part 14 1 w + part 15 1 w * 2) * 2 = omega (arith, cut (3 ∷ []) 13 w, cut (1 ∷ 1 ∷ 1 ∷ []) 13 w) in
       let m : part 13 3 w ≡ part 13 1 w + (1 + part 15 1 w * 2) * 2 = omega (arith, part-lt 14 1 w) in
+      let b = index-bounds w in
       record {
-        target = part-lt 0 5 w;
-        base = part-lt 5 5 w;
-        index = part-lt 16 5 w;
+        target = b .target;
+        base = b .base;
+        index = b .index;
         option = one-of-four (part 13 3 w) (part 13 1 w) (part 15 1 w) m (part-lt 13 1 w) (part-lt 15 1 w);
-        scaled = part-lt 12 1 w;
+        scaled = b .scaled;
       }
 
   pub in-range : (l : Row) → isRow l ≡ true → undefinedIn l w ≡ false → InRange (familyIn l w)

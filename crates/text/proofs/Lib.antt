@@ -2,7 +2,6 @@ pub mod Packing
 pub mod Numbers
 pub mod Spilling
 pub mod Forms
-pub mod Smalls
 pub mod Lengths
 pub mod Writes
 pub mod Examples

@@ -12,10 +12,11 @@ use instruction::Family;
 use store::Pieces;
 ghost use mathlib.Core.Path.{_≡_};
 ghost use Rattle.instruction.specs.Decoding.{classOf, decodeOf};
+ghost use Rattle.instruction.specs.route.Bounds.{Bounded};
 ghost use Rattle.ascii.specs.route.Puts.{Puts};
 ghost use Rattle.text.specs.Texts.{textOf, familyText};
 ghost use Rattle.text.specs.Writing.{outcome, copied, writeOf};
-ghost use Rattle.text.specs.route.Lines.{Small, Sound, whole};
+ghost use Rattle.text.specs.route.Lines.{Sound, whole};
 
 // What writing a text returns. The length is 0 where it is refused.
 pub struct Written {
@@ -51,7 +52,7 @@ pub fn put(line: &mut [u8], at: usize, word: u32) -> Shown
 }
 
 fn put_family(line: &mut [u8], at: usize, family: Family) -> usize
-    requires { ⌜ Small family ⌝ }
+    requires { ⌜ Bounded family ⌝ }
     ensures { λ r. ⌜ Puts (now (line .entry)) at (familyText family) (now (line .exit)) r ⌝ }
 {
     store::put_pieces(line, at, line::pieces_of(family))

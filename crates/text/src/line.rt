@@ -20,15 +20,16 @@ ghost use mathlib.Core.Bool.{true};
 ghost use mathlib.Core.List.{_++_};
 ghost use Prim.Native.Nat.{_<_};
 ghost use lib.IntN.{natAbs};
+ghost use Rattle.instruction.specs.route.Bounds.{LiteralBounds, PairBounds, OffsetBounds, IndexBounds, Bounded};
 ghost use Rattle.ascii.specs.Ascii.{asc};
 ghost use Rattle.mnemonic.specs.Mnemonics.{plainName, sizedName};
 ghost use Rattle.mnemonic.specs.route.Named.{known};
 ghost use Rattle.text.specs.Texts.{baseText, offsetTail, preTail, postTail, pairTail, indexTail, literalText, pairText, sizedText, familyText};
 ghost use Rattle.text.specs.route.Pieces.{textIn, Fit};
-ghost use Rattle.text.specs.route.Lines.{Made, frontIn, SmallOffset, Small};
+ghost use Rattle.text.specs.route.Lines.{Made, frontIn};
 
 pub fn pieces_of(family: Family) -> Pieces
-    requires { ⌜ Small family ⌝ }
+    requires { ⌜ Bounded family ⌝ }
     ensures { λ r. ⌜ Made (familyText family) r ⌝ }
 {
     match family {
@@ -59,7 +60,7 @@ fn nothing() -> Pieces
 }
 
 fn literal(op: LiteralOp, o: LiteralOperands) -> Pieces
-    requires { ⌜ (o .target < 32) × (natAbs (o .offset) < 10000000) ⌝ }
+    requires { ⌜ LiteralBounds o ⌝ }
     ensures { λ r. ⌜ Made (literalText op o) r ⌝ }
 {
     let m = mnemonic::literal_name(op);
@@ -67,7 +68,7 @@ fn literal(op: LiteralOp, o: LiteralOperands) -> Pieces
 }
 
 fn pair(op: PairOp, o: PairOperands) -> Pieces
-    requires { ⌜ (o .first < 32) × (o .second < 32) × (o .base < 32) × (natAbs (o .offset) < 10000000) ⌝ }
+    requires { ⌜ PairBounds o ⌝ }
     ensures { λ r. ⌜ Made (pairText op o) r ⌝ }
 {
     let mode = o.mode;
@@ -89,7 +90,7 @@ fn in_mode(mode: PairMode, m: Mnemonic, first: u32, second: Piece, base: u32, of
 }
 
 fn offset(stem: Stem, op: SizedOp, o: OffsetOperands) -> Pieces
-    requires { ⌜ SmallOffset o ⌝ }
+    requires { ⌜ OffsetBounds 32760 o ⌝ }
     ensures { λ r. ⌜ Made (sizedText (sizedName stem op) op (o .target) (o .base) (offsetTail (o .offset))) r ⌝ }
 {
     let m = mnemonic::sized_name(stem, op);
@@ -97,7 +98,7 @@ fn offset(stem: Stem, op: SizedOp, o: OffsetOperands) -> Pieces
 }
 
 fn pre(op: SizedOp, o: OffsetOperands) -> Pieces
-    requires { ⌜ SmallOffset o ⌝ }
+    requires { ⌜ OffsetBounds 256 o ⌝ }
     ensures { λ r. ⌜ Made (sizedText (plainName op) op (o .target) (o .base) (preTail (o .offset))) r ⌝ }
 {
     let m = mnemonic::sized_name(Stem::Plain, op);
@@ -105,7 +106,7 @@ fn pre(op: SizedOp, o: OffsetOperands) -> Pieces
 }
 
 fn post(op: SizedOp, o: OffsetOperands) -> Pieces
-    requires { ⌜ SmallOffset o ⌝ }
+    requires { ⌜ OffsetBounds 256 o ⌝ }
     ensures { λ r. ⌜ Made (sizedText (plainName op) op (o .target) (o .base) (postTail (o .offset))) r ⌝ }
 {
     let m = mnemonic::sized_name(Stem::Plain, op);
@@ -113,7 +114,7 @@ fn post(op: SizedOp, o: OffsetOperands) -> Pieces
 }
 
 fn indexed(op: SizedOp, o: IndexOperands) -> Pieces
-    requires { ⌜ (o .target < 32) × (o .base < 32) × (o .index < 32) ⌝ }
+    requires { ⌜ IndexBounds o ⌝ }
     ensures { λ r. ⌜ Made (sizedText (plainName op) op (o .target) (o .base) (indexTail op o)) r ⌝ }
 {
     let m = mnemonic::sized_name(Stem::Plain, op);

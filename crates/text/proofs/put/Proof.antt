@@ -4,7 +4,7 @@ use native.Mathlib.Omega.{arith}
 use Rattle.instruction.specs.Answers.{answerNumber}
 use Rattle.ascii.proofs.Pieces.{nothing}
 use Rattle.text.specs.Texts.{textOf}
-use Rattle.text.proofs.Smalls.{decoded-small}
+use Rattle.instruction.proofs.Bounds.{decoded-bounded}
 use Rattle.text.proofs.Writes.{no-text}
 use borrow.Author.Needs.{needs}
 use Rattle.text.proofs.put.Statement.{statement}
@@ -19,6 +19,6 @@ put-spec =
     (λ c κs. search needs)
     (λ c. (c .before .before .before .examine .ensures .0, rw (no-text (c .before .before .before .before .before .args .word) 0 (c .before .answer-number .ensures .0 ∙ ap answerNumber (c .before .before .before .examine .ensures .0)) (c .if1 .taken) (omega arith)) (nothing _ _)))
     (λ c. (c .before .before .before .before .examine .ensures .0, rw (no-text (c .before .before .before .before .before .before .args .word) 1 (c .before .before .answer-number .ensures .0 ∙ ap answerNumber (c .before .before .before .before .examine .ensures .0)) (c .if2 .taken) (omega arith)) (nothing _ _)))
-    (λ c κs. rw (c .before .before .before .before .before .examine .ensures .1) (decoded-small _))
+    (λ c κs. rw (c .before .before .before .before .before .examine .ensures .1) (decoded-bounded _))
     (λ c. search needs)
     (λ c. (c .before .before .before .before .before .before .before .before .examine .ensures .0, rw (← (c .before .before .before .before .before .before .before .before .examine .ensures .1)) (c .before .before .put-family .ensures))))

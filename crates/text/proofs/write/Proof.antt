@@ -1,5 +1,5 @@
 -- `text::write` meets its contract. Assumes nothing.
-use Rattle.text.proofs.Smalls.{decoded-small}
+use Rattle.instruction.proofs.Bounds.{decoded-bounded}
 use Rattle.text.proofs.Writes.{write-refused, write-done}
 use borrow.Author.Needs.{needs}
 use Rattle.text.proofs.write.Statement.{statement}
@@ -12,7 +12,7 @@ write-spec =
     (λ c κs. search needs)
     (λ c κs. search needs)
     (λ c. write-refused _ _ (c .before .before .before .decode .ensures) (c .before .answer-number .ensures .0) (c .if1 .taken))
-    (λ c κs. rw (c .before .before .before .decode .ensures) (decoded-small _))
+    (λ c κs. rw (c .before .before .before .decode .ensures) (decoded-bounded _))
     (λ c κs. search needs)
     (λ c. search needs)
     (λ c. write-done _ _ (c .before .before .before .before .before .before .before .before .decode .ensures) (c .before .before .before .before .before .before .answer-number .ensures .0) (c .before .before .before .before .before .if1 .left) (c .before .before .before .before .pieces-of .ensures .text) (c .before .before .write-pieces .ensures)))

@@ -1,15 +1,11 @@
 -- A line of text in six pieces: the route of the code to the texts of Texts.
-use Prim.Native.Nat.{ℕ, _+_, _<_}
+use Prim.Native.Nat.{ℕ, _+_}
 use mathlib.Core.Path.{_≡_}
 use mathlib.Core.List.{List, [], _∷_, _++_}
 use lib.Dec.{eqb}
-use lib.IntN.{natAbs}
 use Rattle.bits.specs.Choice.{pick}
 use Rattle.ascii.specs.Ascii.{asc, dec}
 use Rattle.text.specs.Texts.{registerText, extendName, amountText}
-use Rattle.instruction.specs.declared.family.OffsetOperands.{OffsetOperands}
-use Rattle.instruction.specs.declared.family.Family.{Family}
-use Rattle.instruction.specs.declared.family.Family.the-variants.{Empty, Literal, Pair, Ordered, Unscaled, PostIndex, PreIndex, Register, Unsigned}
 use Rattle.mnemonic.specs.declared.Mnemonic.{Mnemonic}
 use Rattle.mnemonic.specs.route.Named.{known}
 use Rattle.text.specs.declared.store.Pieces.{Pieces}
@@ -40,21 +36,6 @@ letterText letter r = pick (eqb letter 35) (35 ∷ dec r) (registerText letter r
 -- a mnemonic and the first operand
 unfoldable pub frontIn : Mnemonic → ℕ → List ℕ
 frontIn m r = known m .letters ++ asc " " ++ letterText (known m .letter) r ++ asc ", "
-
--- the numbers of an instruction that a word holds: registers, and offsets of at most seven digits
-abbrev pub SmallOffset : OffsetOperands → Type 0
-SmallOffset o = (o .target < 32) × (o .base < 32) × (natAbs (o .offset) < 10000000)
-
-abbrev pub Small : Family → Type 0
-Small Empty = Unit {0}
-Small (Literal op o) = (o .target < 32) × (natAbs (o .offset) < 10000000)
-Small (Pair op o) = (o .first < 32) × (o .second < 32) × (o .base < 32) × (natAbs (o .offset) < 10000000)
-Small (Ordered op o) = SmallOffset o
-Small (Unscaled op o) = SmallOffset o
-Small (PostIndex op o) = SmallOffset o
-Small (PreIndex op o) = SmallOffset o
-Small (Register op o) = (o .target < 32) × (o .base < 32) × (o .index < 32)
-Small (Unsigned op o) = SmallOffset o
 
 -- the extension of an index, and its amount with the bracket
 unfoldable pub extendPart : ℕ → ℕ → List ℕ

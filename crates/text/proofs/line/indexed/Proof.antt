@@ -13,5 +13,5 @@ indexed-spec =
     (tie.spec
     (λ c κs. search needs)
     (λ c κs. search needs)
-    (λ c κs. (fits _ _ (sizedOperand (c .before .before .args .op)) (c .before .sized-name .ensures), c .before .before .pre .0, c .before .before .pre .1, c .before .before .pre .2, c .scale .ensures .1))
+    (λ c κs. (fits _ _ (sizedOperand (c .before .before .args .op)) (c .before .sized-name .ensures), c .before .before .pre .target, c .before .before .pre .base, c .before .before .pre .index, c .scale .ensures .1))
     (λ c. rw (front-is _ _ (sizedOperand (c .before .before .before .args .op)) _ (c .before .before .sized-name .ensures), c .before .scale .ensures .0) at (c .indexed .ensures)))

@@ -22,7 +22,7 @@ pair-spec =
     (λ c κs.
     let f : SFits w64 (c .before .before .before .before .args .o .offset) = search needs in
     let operand = c .before .operand .ensures in
-    (fits _ _ (pairOperand (c .before .before .before .before .args .op)) (c .before .before .before .pair-name .ensures), c .before .before .before .before .pre .0, record { short = omega (arith, operand .1); low = operand .0 .low }, c .before .before .before .before .pre .2, rw (toZ-ofZ f) (c .before .before .before .before .pre .3)))
+    (fits _ _ (pairOperand (c .before .before .before .before .args .op)) (c .before .before .before .pair-name .ensures), c .before .before .before .before .pre .first, record { short = omega (arith, operand .1); low = operand .0 .low }, c .before .before .before .before .pre .base, rw (toZ-ofZ f) (omega (arith, c .before .before .before .before .pre .offset))))
     (λ c.
     let f : SFits w64 (c .before .before .before .before .before .args .o .offset) = search needs in
     let e = c .before .before .before .before .pair-name .ensures in

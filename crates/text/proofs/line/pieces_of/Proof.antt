@@ -1,6 +1,7 @@
 -- `text::line::pieces_of` meets its contract. Assumes nothing.
 use mathlib.Core.Path.{subst}
-use Rattle.text.specs.route.Lines.{Small}
+use Rattle.instruction.specs.route.Bounds.{Bounded}
+use Rattle.instruction.proofs.Bounds.{wider}
 use borrow.Author.Needs.{needs}
 use Rattle.text.proofs.line.pieces_of.Statement.{statement}
 use Rattle.text.proofs.line.pieces_of.Tie as tie
@@ -12,21 +13,21 @@ pieces-of-spec =
     (λ c. search needs)
     (λ c κs. search needs)
     (λ c. search needs)
-    (λ c κs. subst Small (c .before .family .given .1) (c .before .before .before .pre))
+    (λ c κs. subst Bounded (c .before .family .given .1) (c .before .before .before .pre))
     (λ c. search needs)
-    (λ c κs. subst Small (c .before .family2 .given .1) (c .before .before .before .pre))
+    (λ c κs. subst Bounded (c .before .family2 .given .1) (c .before .before .before .pre))
     (λ c. search needs)
-    (λ c κs. subst Small (c .before .family3 .given .1) (c .before .before .before .pre))
+    (λ c κs. wider (subst Bounded (c .before .family3 .given .1) (c .before .before .before .pre)))
     (λ c. search needs)
-    (λ c κs. subst Small (c .before .family4 .given .1) (c .before .before .before .pre))
+    (λ c κs. wider (subst Bounded (c .before .family4 .given .1) (c .before .before .before .pre)))
     (λ c. search needs)
-    (λ c κs. subst Small (c .before .family5 .given .1) (c .before .before .before .pre))
+    (λ c κs. subst Bounded (c .before .family5 .given .1) (c .before .before .before .pre))
     (λ c. search needs)
-    (λ c κs. subst Small (c .before .family6 .given .1) (c .before .before .before .pre))
+    (λ c κs. subst Bounded (c .before .family6 .given .1) (c .before .before .before .pre))
     (λ c. search needs)
-    (λ c κs. subst Small (c .before .family7 .given .1) (c .before .before .before .pre))
+    (λ c κs. subst Bounded (c .before .family7 .given .1) (c .before .before .before .pre))
     (λ c. search needs)
-    (λ c κs. subst Small (c .before .family8 .given .1) (c .before .before .before .pre))
+    (λ c κs. subst Bounded (c .before .family8 .given .1) (c .before .before .before .pre))
     (λ c. rw (c .before .enum-told .given .1) (c .nothing .ensures))
     (λ c. rw (c .before .before .family .given .1) (c .literal .ensures))
     (λ c. rw (c .before .before .family2 .given .1) (c .pair .ensures))

@@ -6,6 +6,7 @@ use mathlib.Core.List.{append-nil}
 use Rattle.mnemonic.specs.Operands.{sizedOperand}
 use Rattle.text.specs.Texts.{sizedText}
 use Rattle.text.proofs.Forms.{front-is, fits}
+use native.Mathlib.Omega.{arith}
 use borrow.Author.Needs.{needs}
 use Rattle.text.proofs.line.post.Statement.{statement}
 use Rattle.text.proofs.line.post.Tie as tie
@@ -19,7 +20,7 @@ post-spec =
     (λ c κs. search needs)
     (λ c κs.
     let f : SFits w64 (c .before .before .before .args .o .offset) = search needs in
-    (fits _ _ (sizedOperand (c .before .before .before .args .op)) (c .before .before .sized-name .ensures), c .before .before .before .pre .0, c .before .none .ensures .fit, c .before .before .before .pre .1, rw (toZ-ofZ f) (c .before .before .before .pre .2)))
+    (fits _ _ (sizedOperand (c .before .before .before .args .op)) (c .before .before .sized-name .ensures), c .before .before .before .pre .target, c .before .none .ensures .fit, c .before .before .before .pre .base, rw (toZ-ofZ f) (omega (arith, c .before .before .before .pre .offset))))
     (λ c.
     let f : SFits w64 (c .before .before .before .before .args .o .offset) = search needs in
     rw (front-is _ _ (sizedOperand (c .before .before .before .before .args .op)) _ (c .before .before .before .sized-name .ensures), c .before .before .none .ensures .text, append-nil, toZ-ofZ f) at (c .post .ensures)))

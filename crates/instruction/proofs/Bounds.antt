@@ -1,0 +1,69 @@
+-- The numbers of an instruction that a word stands for are within its family's bounds. Assumes nothing.
+use Prim.Native.Nat.{ℕ, _*_, _≤_}
+use mathlib.Core.Bool.{Bool, true, false}
+use native.Mathlib.Nat.{mul-le-mul, mul-le-mul-left}
+use native.Mathlib.Omega.{arith}
+use Rattle.bits.specs.Choice.{pick}
+use Rattle.bits.specs.Fields.{field}
+use Rattle.bits.proofs.Parts.{part-lt}
+use Rattle.bits.proofs.Offsets.{signed-most}
+use Rattle.instruction.specs.Types.{Row, NoRow, LiteralRow, PairRow, OrderedRow, UnscaledRow, PostRow, PreRow, RegisterRow, UnsignedRow, SizedOp, OffsetOperands}
+use Rattle.instruction.specs.Operations.{sizedBytes, pairBytes}
+use Rattle.instruction.specs.Table.{rowOf}
+use Rattle.instruction.specs.Undefined.{allocated}
+use Rattle.instruction.specs.Instructions.{sizedIn, literalIn, pairOpIn, pairIn, signedIn, indexIn, unsignedIn, familyIn, instructionOf}
+use Rattle.instruction.specs.Decoding.{decodeOf, empty}
+use Rattle.instruction.specs.route.Bounds.{LiteralBounds, PairBounds, OffsetBounds, IndexBounds, Bounded}
+use Rattle.instruction.proofs.Codes.{sized, paired}
+
+-- the bound of imm9 is within that of imm12
+pub wider : {o : OffsetOperands} → OffsetBounds 256 o → OffsetBounds 32760 o
+wider b = record { target = b .target; base = b .base; offset = omega (arith, b .offset) }
+
+module _ (w : ℕ) where
+  pub literal-bounds : LiteralBounds (literalIn w)
+  unfolding literalIn
+  literal-bounds = record { target = part-lt 0 5 w; offset = signed-most 262144 4 (field 23 5 w) (part-lt 5 19 w) }
+
+  pub pair-bounds : PairBounds (pairIn (pairOpIn w) w)
+  unfolding pairIn
+  pair-bounds =
+      let op = pairOpIn w in
+      let most = signed-most 64 (pairBytes op) (field 21 15 w) (part-lt 15 7 w) in
+      let eight : 64 * pairBytes op ≤ 64 * 8 = mul-le-mul-left 64 (paired op .most) in
+      record { first = part-lt 0 5 w; second = part-lt 10 5 w; base = part-lt 5 5 w; offset = omega arith }
+
+  pub signed-bounds : OffsetBounds 256 (signedIn w)
+  unfolding signedIn
+  signed-bounds = record { target = part-lt 0 5 w; base = part-lt 5 5 w; offset = signed-most 256 1 (field 20 12 w) (part-lt 12 9 w) }
+
+  pub index-bounds : IndexBounds (indexIn w)
+  unfolding indexIn
+  index-bounds = record { target = part-lt 0 5 w; base = part-lt 5 5 w; index = part-lt 16 5 w; scaled = part-lt 12 1 w }
+
+  pub unsigned-bounds : (op : SizedOp) → OffsetBounds 32760 (unsignedIn op w)
+  unfolding unsignedIn
+  unsigned-bounds op =
+      let below : field 21 10 w ≤ 4095 = omega (arith, part-lt 10 12 w) in
+      let most : field 21 10 w * sizedBytes op ≤ 4095 * 8 = mul-le-mul below (sized op .most) in
+      record { target = part-lt 0 5 w; base = part-lt 5 5 w; offset = omega arith }
+
+  bounded-in : (r : Row) → Bounded (familyIn r w)
+  bounded-in NoRow = tt
+  bounded-in LiteralRow = literal-bounds
+  bounded-in PairRow = pair-bounds
+  bounded-in OrderedRow = signed-bounds
+  bounded-in UnscaledRow = signed-bounds
+  bounded-in PostRow = signed-bounds
+  bounded-in PreRow = signed-bounds
+  bounded-in RegisterRow = index-bounds
+  bounded-in UnsignedRow = unsigned-bounds (sizedIn w)
+
+  by-allocated : (b : Bool) (r : Row) → Bounded (pick b (record { family = familyIn r w }) empty .family)
+  by-allocated true r = bounded-in r
+  by-allocated false r = tt
+
+  -- an instruction that is decoded
+  pub decoded-bounded : Bounded (decodeOf w .instruction .family)
+  unfolding decodeOf instructionOf
+  decoded-bounded = by-allocated (allocated w) (rowOf w)

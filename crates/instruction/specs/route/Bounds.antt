@@ -1,0 +1,39 @@
+-- How large the numbers of an instruction are that a word stands for: registers, and the offset of each family.
+use Prim.Native.Nat.{ℕ, _≤_, _<_}
+use lib.IntN.{natAbs}
+use Rattle.instruction.specs.Types.{Family, Empty, Literal, Pair, Ordered, Unscaled, PostIndex, PreIndex, Register, Unsigned, LiteralOperands, PairOperands, OffsetOperands, IndexOperands}
+
+-- imm19, times 4
+pub record LiteralBounds (o : LiteralOperands) : Type 0 where
+  pub target : o .target < 32
+  pub offset : natAbs (o .offset) ≤ 1048576
+
+-- imm7, times 4 or 8
+pub record PairBounds (o : PairOperands) : Type 0 where
+  pub first : o .first < 32
+  pub second : o .second < 32
+  pub base : o .base < 32
+  pub offset : natAbs (o .offset) ≤ 512
+
+-- imm9, with most 256; or imm12, times up to 8, with most 32760
+pub record OffsetBounds (most : ℕ) (o : OffsetOperands) : Type 0 where
+  pub target : o .target < 32
+  pub base : o .base < 32
+  pub offset : natAbs (o .offset) ≤ most
+
+pub record IndexBounds (o : IndexOperands) : Type 0 where
+  pub target : o .target < 32
+  pub base : o .base < 32
+  pub index : o .index < 32
+  pub scaled : o .scaled < 2
+
+abbrev pub Bounded : Family → Type 0
+Bounded Empty = Unit {0}
+Bounded (Literal op o) = LiteralBounds o
+Bounded (Pair op o) = PairBounds o
+Bounded (Ordered op o) = OffsetBounds 256 o
+Bounded (Unscaled op o) = OffsetBounds 256 o
+Bounded (PostIndex op o) = OffsetBounds 256 o
+Bounded (PreIndex op o) = OffsetBounds 256 o
+Bounded (Register op o) = IndexBounds o
+Bounded (Unsigned op o) = OffsetBounds 32760 o
