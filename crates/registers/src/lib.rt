@@ -4,7 +4,6 @@
 mod lent;
 
 pub use lent::is_tainted_in;
-pub use lent::set_in;
 pub use lent::value_in;
 ghost use mathlib.Core.Path.{_≡_};
 ghost use Rattle.registers.specs.File.{zeroSlot, valueAt, taintAt, setAt};

@@ -1,6 +1,5 @@
 -- `registers::lent::is_tainted_in` meets its contract. Assumes nothing.
 use Prim.Native.Nat.{_≤_}
-use mathlib.Core.Path.{_≡_}
 use lib.ListN.{length, List·getD-eq-default}
 use native.Mathlib.Omega.{arith}
 use borrow.Author.Needs.{needs}
@@ -13,9 +12,7 @@ is-tainted-in-spec =
     (tie.spec
     (λ c. search needs)
     (λ c. search needs)
-    (λ c κs. search needs)
     (λ c.
-    let a = c .before .before .before .args in
-    let all : length (a .taint .now) ≡ 32 = c .all-taints .ensures in
-    let out : length (a .taint .now) ≤ a .n = omega (arith, c .before .before .if1 .left) in
+    let a = c .before .args in
+    let out : length (a .taint .now) ≤ a .n = omega (arith, c .if1 .left) in
     rw List·getD-eq-default))

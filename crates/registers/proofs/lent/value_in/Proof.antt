@@ -1,6 +1,5 @@
 -- `registers::lent::value_in` meets its contract. Assumes nothing.
 use Prim.Native.Nat.{_≤_}
-use mathlib.Core.Path.{_≡_}
 use lib.ListN.{length, List·getD-eq-default}
 use native.Mathlib.Omega.{arith}
 use borrow.Author.Needs.{needs}
@@ -14,9 +13,7 @@ value-in-spec =
     (λ c. search needs)
     (λ c. search needs)
     (λ c. search needs)
-    (λ c κs. search needs)
     (λ c.
-    let a = c .before .before .before .args in
-    let all : length (a .value .now) ≡ 32 = c .all-values .ensures in
-    let out : length (a .value .now) ≤ a .n = omega (arith, c .before .before .if1 .left) in
+    let a = c .before .args in
+    let out : length (a .value .now) ≤ a .n = omega (arith, c .if1 .left) in
     rw List·getD-eq-default))
