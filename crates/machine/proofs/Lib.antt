@@ -1,3 +1,4 @@
 pub mod Answers
 pub mod Extensions
 pub mod Taints
+pub mod Writing

@@ -20,13 +20,10 @@ pub record Machine : Type 0 where
   pub memory : List ℕ
   pub taints : Taints
 
--- the machine of the values, taints and program counter of a register file, and of the lent memory and taint bytes
-abbrev pub machineWith : List ℕ → List Bool → ℕ → List ℕ → List ℕ → Machine
-machineWith values tainted pc memory taint =
-    record { values = values; pc = pc; memory = memory; taints = record { registers = tainted; bytes = taint } }
-
+-- the machine of a state, and of the lent memory and taint bytes
 abbrev pub machineOf : State → List ℕ → List ℕ → Machine
-machineOf s memory taint = machineWith (s .registers .value) (s .registers .taint) (s .pc) memory taint
+machineOf s memory taint =
+    record { values = s .registers .value; pc = s .pc; memory = memory; taints = record { registers = s .registers .taint; bytes = taint } }
 
 -- what an access reads to form its address
 abbrev pub operandsIn : Addressing → List ℕ → List Bool → ℕ → Operands

@@ -20,8 +20,7 @@ use Rattle.plan.specs.Window.{badWindow}
 use Rattle.plan.specs.Admission.{admitOf}
 use Rattle.plan.specs.Plans.{planOf}
 use Rattle.machine.specs.Rule.{wordAccess}
-use Rattle.machine.specs.Machine.{Machine, machineWith, machineOf, operandsOf, passedOver, effectOf, codeOf}
-use Rattle.machine.specs.declared.Advanced.{Advanced}
+use Rattle.machine.specs.Machine.{Machine, machineOf, operandsOf, passedOver, effectOf, codeOf}
 use Rattle.machine.specs.declared.Stepped.{Stepped}
 
 -- a step stops with an answer and an address, or moves to a machine with a code and an address
@@ -61,9 +60,10 @@ pub record Outcome (A : Type 0) : Type 0 where
 abbrev pub outcome : Stepped → List ℕ → List ℕ → Outcome Machine
 outcome r memory taint = record { machine = machineOf (r .state) memory taint; answer = r .answer; code = r .code; address = r .address }
 
-abbrev pub outcomeWith : Advanced → List ℕ → List Bool → List ℕ → List ℕ → Outcome Machine
-outcomeWith r values tainted memory taint = record { machine = machineWith values tainted (r .pc) memory taint; answer = r .answer; code = r .code; address = r .address }
-
 abbrev pub performed : {A : Type 0} → A → Step A → Outcome A
 performed m (stopped answer address) = record { machine = m; answer = answer; code = 0; address = address }
 performed m (moved n code address) = record { machine = n; answer = Done; code = code; address = address }
+
+-- what a machine comes to by a step
+abbrev pub leaves : {A : Type 0} → (A → Step A) → A → Outcome A
+leaves f m = performed m (f m)

@@ -1,17 +1,33 @@
-// What an access leaves: registers, bytes and taints. The tests are passed by now.
+// What an access leaves: the bytes and taints of memory at once, and what it sets in the register file as a small
+// struct, for the second half of a step. The tests are passed by now.
 use crate::extend;
 use access::Transfer;
 ghost use mathlib.Core.Path.{_≡_};
-ghost use mathlib.Core.Bool.{false};
-ghost use Prim.Native.Nat.{ℕ, _+_, _≤_};
-ghost use lib.ListN.{length, getD, set, replicate};
+ghost use mathlib.Core.Bool.{false, _||_};
+ghost use Prim.Native.Nat.{_+_, _≤_};
+ghost use lib.Dec.{ltb};
+ghost use lib.ListN.{length, getD, replicate};
 ghost use lib.Seq.{sets};
 ghost use Rattle.bits.specs.Bytes.{bytesOf, joined, spanOf};
 ghost use Rattle.memory.specs.Extension.{extendedOf};
 ghost use Rattle.memory.specs.Taints.{anyTainted, taintByte};
 ghost use Rattle.plan.specs.Admission.{totalOf};
-ghost use Rattle.machine.specs.Rule.{loadedTaints, storedTaints};
-ghost use Rattle.machine.specs.Machine.{machineWith, nextPc, loadedValues, storedBytes, effectOf, codeOf};
+ghost use Rattle.machine.specs.Rule.{storedTaints};
+ghost use Rattle.machine.specs.Machine.{storedBytes, codeOf};
+ghost use Rattle.machine.specs.Writing.{basedOf, loadsOf};
+
+// What a step sets in the register file, in this order: the base that is written back, which is then untainted, and
+// the two registers that are loaded. A number above 31 sets nothing.
+pub struct Writes {
+    pub base: u32,
+    pub next: u64,
+    pub first: u32,
+    pub value: u64,
+    pub taint: bool,
+    pub second: u32,
+    pub value2: u64,
+    pub taint2: bool,
+}
 
 pub fn code(t: Transfer) -> u64
     ensures { λ r. ⌜ r ≡ codeOf t ⌝ }
@@ -23,92 +39,81 @@ pub fn code(t: Transfer) -> u64
     moved
 }
 
-// The machine after an access at an index, but for its program counter, and with what is written back.
-pub fn touched(
-    t: Transfer,
-    written: u32,
-    at: usize,
-    next: u64,
-    value: &mut [u64; 32],
-    tainted: &mut [bool; 32],
-    bytes: &mut [u8],
-    taints: &mut [u8],
-)
-    requires { ⌜ (t .bytes ≤ t .extent) × (t .more ≤ t .extent) × (t .extent ≤ 8) × (at + totalOf t ≤ length (now bytes)) × (length (now taints) ≡ length (now bytes)) ⌝ }
-    ensures { λ _. ⌜ ((pc : ℕ) → machineWith (now (value .exit)) (now (tainted .exit)) (nextPc pc) (now (bytes .exit)) (now (taints .exit)) ≡ effectOf t written at next (machineWith (now (value .entry)) (now (tainted .entry)) pc (now (bytes .entry)) (now (taints .entry)))) ⌝ }
+// Whether a file that is lent has a register of this number: setting any other changes nothing.
+pub fn is_register(value: &[u64], tainted: &[bool], slot: u32) -> bool
+    ensures { λ r. ⌜ r ≡ (ltb slot (length (now (value .entry))) || ltb slot (length (now (tainted .entry)))) ⌝ }
 {
-    if t.store {
-        stored(t, value, tainted, bytes, taints, at);
-        registers::set_in(value, tainted, written, next, false);
-        return;
+    if (slot as usize) < value.len() {
+        return true;
     }
-    registers::set_in(value, tainted, written, next, false);
-    loaded(t, value, tainted, bytes, taints, at);
+    (slot as usize) < tainted.len()
 }
 
-// The file after a load at an index.
-fn loaded(
-    t: Transfer,
-    value: &mut [u64; 32],
-    tainted: &mut [bool; 32],
-    bytes: &[u8],
-    taints: &[u8],
-    at: usize,
-)
-    requires { ⌜ (t .bytes ≤ t .extent) × (t .more ≤ t .extent) × (t .extent ≤ 8) × (at + totalOf t ≤ length (now bytes)) × (length (now taints) ≡ length (now bytes)) ⌝ }
-    ensures { λ _. ⌜ (now (value .exit) ≡ loadedValues t at (now (value .entry)) (now (bytes .entry))) × (now (tainted .exit) ≡ loadedTaints t at (now (tainted .entry)) (now (taints .entry))) ⌝ }
+// The base alone: setting it again changes nothing.
+pub fn written_back(base: u32, next: u64) -> Writes
+    ensures { λ r. ⌜ r ≡ basedOf base next ⌝ }
 {
-    loaded_one(
-        value,
-        tainted,
-        t.target,
-        t.bytes,
-        t.extent,
-        bytes,
-        taints,
-        at,
-    );
-    loaded_one(
-        value,
-        tainted,
-        t.second,
-        t.more,
-        t.extent,
-        bytes,
-        taints,
-        at + t.bytes as usize,
-    );
+    Writes {
+        base,
+        next,
+        first: base,
+        value: next,
+        taint: false,
+        second: base,
+        value2: next,
+        taint2: false,
+    }
 }
 
-// The file after a load of n bytes into one slot. A single access has no second register, and no bytes for it.
-fn loaded_one(
-    value: &mut [u64; 32],
-    tainted: &mut [bool; 32],
-    slot: u32,
-    n: u32,
-    extent: u32,
-    bytes: &[u8],
-    taints: &[u8],
-    at: usize,
-)
+// What a load at an index sets.
+pub fn loads(t: Transfer, base: u32, next: u64, bytes: &[u8], taints: &[u8], at: usize) -> Writes
+    requires { ⌜ (t .bytes ≤ t .extent) × (t .more ≤ t .extent) × (t .extent ≤ 8) × (at + totalOf t ≤ length (now bytes)) × (length (now taints) ≡ length (now bytes)) ⌝ }
+    ensures { λ r. ⌜ r ≡ loadsOf t base next at (now (bytes .entry)) (now (taints .entry)) ⌝ }
+{
+    let first = loaded_one(t.bytes, t.extent, bytes, taints, at);
+    let second = loaded_one(t.more, t.extent, bytes, taints, at + t.bytes as usize);
+    Writes {
+        base,
+        next,
+        first: t.target,
+        value: first.value,
+        taint: first.taint,
+        second: t.second,
+        value2: second.value,
+        taint2: second.taint,
+    }
+}
+
+// A loaded number, extended, and whether a byte of it was tainted.
+struct Loaded {
+    value: u64,
+    taint: bool,
+}
+
+// A load of n bytes. A single access has no second register, and no bytes for it.
+fn loaded_one(n: u32, extent: u32, bytes: &[u8], taints: &[u8], at: usize) -> Loaded
     requires { ⌜ (n ≤ extent) × (extent ≤ 8) × (at + n ≤ length (now bytes)) × (length (now taints) ≡ length (now bytes)) ⌝ }
-    ensures { λ _. ⌜ (now (value .exit) ≡ set (now (value .entry)) slot (extendedOf n extent (joined (spanOf (now (bytes .entry)) at n)))) × (now (tainted .exit) ≡ set (now (tainted .entry)) slot (anyTainted (spanOf (now (taints .entry)) at n))) ⌝ }
+    ensures { λ r. ⌜ r ≡ record { value = extendedOf n extent (joined (spanOf (now (bytes .entry)) at n)); taint = anyTainted (spanOf (now (taints .entry)) at n) } ⌝ }
 {
     if n == 0 {
-        registers::set_in(value, tainted, slot, 0, false);
-        return;
+        return Loaded {
+            value: 0,
+            taint: false,
+        };
     }
     let number = memory::load(&bytes[at..], n as usize);
     let taint = memory::any_tainted(&taints[at..], n as usize);
-    let extended = extend::extended(number, n, extent);
-    registers::set_in(value, tainted, slot, extended, taint);
+    Loaded {
+        value: extend::extended(number, n, extent),
+        taint,
+    }
 }
 
 // Memory and taints after a store at an index.
-fn stored(
+pub fn stored(
     t: Transfer,
-    value: &[u64; 32],
-    tainted: &[bool; 32],
+    value: &[u64],
+    tainted: &[bool],
     bytes: &mut [u8],
     taints: &mut [u8],
     at: usize,
@@ -130,8 +135,8 @@ fn stored(
 
 // Memory and taints after a store of n bytes of one slot.
 fn stored_one(
-    value: &[u64; 32],
-    tainted: &[bool; 32],
+    value: &[u64],
+    tainted: &[bool],
     slot: u32,
     n: u32,
     bytes: &mut [u8],

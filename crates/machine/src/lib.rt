@@ -1,4 +1,5 @@
-// One step of the machine: it decodes a word, plans the access, and makes it, or refuses and changes nothing.
+// One step of the machine, in two halves: the first decodes a word, plans the access and makes it in memory, or
+// refuses and changes nothing; the second sets registers, and gives back the whole state.
 mod effect;
 mod extend;
 mod operands;
@@ -6,21 +7,38 @@ mod operands;
 use access::Access;
 use access::Addressing;
 use access::Transfer;
+pub use effect::Writes;
 use instruction::Answer;
 use plan::Plan;
 pub use plan::Window;
 use registers::Registers;
 ghost use mathlib.Core.Path.{_≡_};
+ghost use Prim.Native.Nat.{ℕ, _+_, _≤_};
 ghost use lib.ListN.{length};
 ghost use Rattle.access.proofs.Bounds.{Within, Bounded};
-ghost use Rattle.plan.specs.Admission.{admitOf};
-ghost use Rattle.machine.specs.Machine.{machineWith, machineOf, nextPc};
-ghost use Rattle.machine.specs.Step.{accessStep, wordStep, stepOf, outcome, outcomeWith, performed};
+ghost use Rattle.plan.specs.Admission.{totalOf, admitOf};
+ghost use Rattle.machine.specs.Machine.{machineOf, nextPc, effectOf};
+ghost use Rattle.machine.specs.Step.{moved, accessStep, wordStep, stepOf, outcome, leaves};
+ghost use Rattle.machine.specs.Writing.{stateOf, passedOn, settledOf, ended, ends, told};
 
 #[repr(C)]
 pub struct State {
     pub registers: Registers,
     pub pc: u64,
+}
+
+// What a done step shows.
+pub struct Shown {
+    pub code: u64,
+    pub address: u64,
+}
+
+// What the first half of a step comes to: it is refused, with an answer and an address; or the access is made, and no
+// register is to be set; or some are.
+pub enum Decision {
+    Refused(Answer, u64),
+    Passed(Shown),
+    Wrote(Shown, Writes),
 }
 
 // What a step returns: 01's answer, code and address, and the state after it.
@@ -31,87 +49,106 @@ pub struct Stepped {
     pub address: u64,
 }
 
-// The same where the register file is lent: of the state only the program counter is left to return.
-pub struct Advanced {
-    pub pc: u64,
-    pub answer: Answer,
-    pub code: u64,
-    pub address: u64,
-}
-
 pub fn step(word: u32, state: State, window: Window, memory: &mut [u8], taint: &mut [u8]) -> Stepped
-    ensures { λ r. ⌜ outcome r (now (memory .exit)) (now (taint .exit)) ≡ performed (machineOf state (now (memory .entry)) (now (taint .entry))) (stepOf window word (machineOf state (now (memory .entry)) (now (taint .entry)))) ⌝ }
+    ensures { λ r. ⌜ outcome r (now (memory .exit)) (now (taint .exit)) ≡ leaves (stepOf window word) (machineOf state (now (memory .entry)) (now (taint .entry))) ⌝ }
 {
-    let file = state.registers;
-    let mut value = file.value;
-    let mut tainted = file.taint;
-    let advanced = advance(
+    match decide(
         word,
         state.pc,
         window,
-        &mut value,
-        &mut tainted,
+        &state.registers.value,
+        &state.registers.taint,
         memory,
         taint,
-    );
-    let answer = advanced.answer;
-    Stepped {
-        state: with_file(state, value, tainted, advanced.pc),
-        answer,
-        code: advanced.code,
-        address: advanced.address,
+    ) {
+        Decision::Refused(answer, address) => Stepped {
+            state,
+            answer,
+            code: 0,
+            address,
+        },
+        Decision::Passed(shown) => Stepped {
+            state: passed_on(state),
+            answer: Answer::Done,
+            code: shown.code,
+            address: shown.address,
+        },
+        Decision::Wrote(shown, writes) => Stepped {
+            state: settled(state, writes),
+            answer: Answer::Done,
+            code: shown.code,
+            address: shown.address,
+        },
     }
 }
 
-// A state with another register file, whose arrays are handed over, and another program counter.
-pub fn with_file(state: State, value: [u64; 32], taint: [bool; 32], pc: u64) -> State
-    ensures { λ r. ⌜ (r .registers .value ≡ value) × (r .registers .taint ≡ taint) × (r .pc ≡ pc) ⌝ }
+// The second half of a step that sets registers.
+pub fn settled(state: State, writes: Writes) -> State
+    ensures { λ r. ⌜ r ≡ settledOf writes state ⌝ }
 {
-    let file = Registers { value, taint };
+    let file = state.registers;
     let mut next = state;
-    next.registers = file;
-    next.pc = pc;
+    next.registers = file.set(writes.base, writes.next, false)
+        .set(writes.first, writes.value, writes.taint)
+        .set(writes.second, writes.value2, writes.taint2);
+    next.pc = next_pc(state.pc);
     next
 }
 
-// A step over the two arrays of a register file.
-pub fn advance(
-    word: u32,
-    pc: u64,
-    window: Window,
-    value: &mut [u64; 32],
-    tainted: &mut [bool; 32],
-    memory: &mut [u8],
-    taint: &mut [u8],
-) -> Advanced
-    ensures { λ r. ⌜ outcomeWith r (now (value .exit)) (now (tainted .exit)) (now (memory .exit)) (now (taint .exit)) ≡ performed (machineWith (now (value .entry)) (now (tainted .entry)) pc (now (memory .entry)) (now (taint .entry))) (stepOf window word (machineWith (now (value .entry)) (now (tainted .entry)) pc (now (memory .entry)) (now (taint .entry)))) ⌝ }
+// The second half of a step that sets none.
+fn passed_on(state: State) -> State
+    ensures { λ r. ⌜ r ≡ passedOn state ⌝ }
 {
-    if plan::is_bad(window, memory.len() as u64, taint.len() as u64, pc) {
-        return refused(pc, Answer::BadWindow, 0);
-    }
-    step_word(word, pc, window, value, tainted, memory, taint)
+    let mut next = state;
+    next.pc = next_pc(state.pc);
+    next
 }
 
-// A step in a window that is well formed.
-fn step_word(
+// The program counter after a step that is done.
+pub fn next_pc(pc: u64) -> u64
+    ensures { λ r. ⌜ r ≡ nextPc pc ⌝ }
+{
+    std::num::wrapping_add_u64(pc, 4)
+}
+
+// The first half. The arrays of the register file are lent, so that reading a register copies nothing.
+pub fn decide<'a>(
     word: u32,
     pc: u64,
     window: Window,
-    value: &mut [u64; 32],
-    tainted: &mut [bool; 32],
+    value: &'a [u64],
+    tainted: &'a [bool],
     memory: &mut [u8],
     taint: &mut [u8],
-) -> Advanced
+) -> Decision
+    ensures { λ r. ⌜ told (stateOf (now (value .entry)) (now (tainted .entry)) pc) r (now (memory .exit)) (now (taint .exit)) ≡ ends (stepOf window word) (machineOf (stateOf (now (value .entry)) (now (tainted .entry)) pc) (now (memory .entry)) (now (taint .entry))) ⌝ }
+{
+    if plan::is_bad(window, memory.len() as u64, taint.len() as u64, pc) {
+        return Decision::Refused(Answer::BadWindow, 0);
+    }
+    decide_word(word, pc, window, value, tainted, memory, taint)
+}
+
+// In a window that is well formed.
+fn decide_word(
+    word: u32,
+    pc: u64,
+    window: Window,
+    value: &[u64],
+    tainted: &[bool],
+    memory: &mut [u8],
+    taint: &mut [u8],
+) -> Decision
     requires { ⌜ length (now taint) ≡ length (now memory) ⌝ }
-    ensures { λ r. ⌜ outcomeWith r (now (value .exit)) (now (tainted .exit)) (now (memory .exit)) (now (taint .exit)) ≡ performed (machineWith (now (value .entry)) (now (tainted .entry)) pc (now (memory .entry)) (now (taint .entry))) (wordStep (window .origin) (admitOf window (length (now (memory .entry)))) word (machineWith (now (value .entry)) (now (tainted .entry)) pc (now (memory .entry)) (now (taint .entry)))) ⌝ }
+    ensures { λ r. ⌜ told (stateOf (now (value .entry)) (now (tainted .entry)) pc) r (now (memory .exit)) (now (taint .exit)) ≡ ends (wordStep (window .origin) (admitOf window (length (now (memory .entry)))) word) (machineOf (stateOf (now (value .entry)) (now (tainted .entry)) pc) (now (memory .entry)) (now (taint .entry))) ⌝ }
 {
     let examined = decoder::examine(word);
     let answer = examined.answer;
     if instruction::answer_number(answer) != 0 {
-        return refused(pc, answer, 0);
+        return Decision::Refused(answer, 0);
     }
     let instruction = examined.instruction;
-    step_access(
+    decide_access(
         access::access_of(instruction),
         pc,
         window,
@@ -122,68 +159,83 @@ fn step_word(
     )
 }
 
-fn step_access(
+fn decide_access(
     x: Access,
     pc: u64,
     window: Window,
-    value: &mut [u64; 32],
-    tainted: &mut [bool; 32],
+    value: &[u64],
+    tainted: &[bool],
     memory: &mut [u8],
     taint: &mut [u8],
-) -> Advanced
+) -> Decision
     requires { ⌜ Within x × (length (now taint) ≡ length (now memory)) ⌝ }
-    ensures { λ r. ⌜ outcomeWith r (now (value .exit)) (now (tainted .exit)) (now (memory .exit)) (now (taint .exit)) ≡ performed (machineWith (now (value .entry)) (now (tainted .entry)) pc (now (memory .entry)) (now (taint .entry))) (accessStep (window .origin) (admitOf window (length (now (memory .entry)))) x (machineWith (now (value .entry)) (now (tainted .entry)) pc (now (memory .entry)) (now (taint .entry)))) ⌝ }
+    ensures { λ r. ⌜ told (stateOf (now (value .entry)) (now (tainted .entry)) pc) r (now (memory .exit)) (now (taint .exit)) ≡ ends (accessStep (window .origin) (admitOf window (length (now (memory .entry)))) x) (machineOf (stateOf (now (value .entry)) (now (tainted .entry)) pc) (now (memory .entry)) (now (taint .entry))) ⌝ }
 {
     match x {
         // A prefetch: the program counter goes on.
-        Access::Nothing => done(pc, 0, 0),
-        Access::Moves(t, a) => step_moves(t, a, pc, window, value, tainted, memory, taint),
+        Access::Nothing => Decision::Passed(Shown {
+            code: 0,
+            address: 0,
+        }),
+        Access::Moves(t, a) => decide_moves(t, a, pc, window, value, tainted, memory, taint),
     }
 }
 
-fn step_moves(
+fn decide_moves(
     t: Transfer,
     a: Addressing,
     pc: u64,
     window: Window,
-    value: &mut [u64; 32],
-    tainted: &mut [bool; 32],
+    value: &[u64],
+    tainted: &[bool],
     memory: &mut [u8],
     taint: &mut [u8],
-) -> Advanced
+) -> Decision
     requires { ⌜ Bounded t × (length (now taint) ≡ length (now memory)) ⌝ }
-    ensures { λ r. ⌜ outcomeWith r (now (value .exit)) (now (tainted .exit)) (now (memory .exit)) (now (taint .exit)) ≡ performed (machineWith (now (value .entry)) (now (tainted .entry)) pc (now (memory .entry)) (now (taint .entry))) (accessStep (window .origin) (admitOf window (length (now (memory .entry)))) (Access.Moves t a) (machineWith (now (value .entry)) (now (tainted .entry)) pc (now (memory .entry)) (now (taint .entry)))) ⌝ }
+    ensures { λ r. ⌜ told (stateOf (now (value .entry)) (now (tainted .entry)) pc) r (now (memory .exit)) (now (taint .exit)) ≡ ends (accessStep (window .origin) (admitOf window (length (now (memory .entry)))) (Access.Moves t a)) (machineOf (stateOf (now (value .entry)) (now (tainted .entry)) pc) (now (memory .entry)) (now (taint .entry))) ⌝ }
 {
     let operands = operands::operands(a, value, tainted, pc);
     match plan::planned(t, a, operands, window, memory.len() as u64) {
-        Plan::Refuse(answer, address) => refused(pc, answer, address),
+        Plan::Refuse(answer, address) => Decision::Refused(answer, address),
         Plan::Touch(address, next) => {
             let at = (address - window.origin) as usize;
-            effect::touched(t, a.written, at, next, value, tainted, memory, taint);
             let code = effect::code(t);
-            done(pc, code, address)
+            touched(
+                t,
+                a.written,
+                at,
+                next,
+                Shown { code, address },
+                value,
+                tainted,
+                memory,
+                taint,
+            )
         }
     }
 }
 
-fn refused(pc: u64, answer: Answer, address: u64) -> Advanced
-    ensures { λ r. ⌜ r ≡ record { pc = pc; answer = answer; code = 0; address = address } ⌝ }
+// An access at an index that passed its tests, with what it writes back and what it shows.
+fn touched(
+    t: Transfer,
+    written: u32,
+    at: usize,
+    next: u64,
+    shown: Shown,
+    value: &[u64],
+    tainted: &[bool],
+    memory: &mut [u8],
+    taint: &mut [u8],
+) -> Decision
+    requires { ⌜ Bounded t × (at + totalOf t ≤ length (now memory)) × (length (now taint) ≡ length (now memory)) ⌝ }
+    ensures { λ r. ⌜ ((pc : ℕ) → told (stateOf (now (value .entry)) (now (tainted .entry)) pc) r (now (memory .exit)) (now (taint .exit)) ≡ ends (λ m. moved (effectOf t written at next m) (shown .code) (shown .address)) (machineOf (stateOf (now (value .entry)) (now (tainted .entry)) pc) (now (memory .entry)) (now (taint .entry)))) ⌝ }
 {
-    Advanced {
-        pc,
-        answer,
-        code: 0,
-        address,
+    if t.store {
+        effect::stored(t, value, tainted, memory, taint, at);
+        if effect::is_register(value, tainted, written) {
+            return Decision::Wrote(shown, effect::written_back(written, next));
+        }
+        return Decision::Passed(shown);
     }
-}
-
-fn done(pc: u64, code: u64, address: u64) -> Advanced
-    ensures { λ r. ⌜ r ≡ record { pc = nextPc pc; answer = Answer.Done; code = code; address = address } ⌝ }
-{
-    Advanced {
-        pc: std::num::wrapping_add_u64(pc, 4),
-        answer: Answer::Done,
-        code,
-        address,
-    }
+    Decision::Wrote(shown, effect::loads(t, written, next, memory, taint, at))
 }

@@ -1,4 +1,7 @@
--- `machine::step` meets its contract. Assumes nothing.
+-- `machine::step` meets its contract. Each case of the decision shows what the definition does: `shows`. Assumes nothing.
+use Rattle.machine.specs.Machine.{machineOf}
+use Rattle.machine.specs.Step.{stepOf}
+use Rattle.machine.proofs.Writing.{shows}
 use borrow.Author.Needs.{needs}
 use Rattle.machine.proofs.step.Statement.{statement}
 use Rattle.machine.proofs.step.Tie as tie
@@ -8,7 +11,26 @@ step-spec =
     tie.close
     (tie.spec
     (λ c κs. search needs)
+    (λ c. search needs)
+    (λ c. search needs)
+    (λ c κs. search needs)
+    (λ c. search needs)
     (λ c κs. search needs)
     (λ c. search needs)
     (λ c. search needs)
-    (λ c. rw (c .with-file .ensures .0, c .with-file .ensures .1, c .with-file .ensures .2) (c .before .before .before .before .before .advance .ensures)))
+    (λ c.
+    let a = c .before .before .before .before .before .before .before .before .before .before .before .before .before .before .before .before .before .args in
+    let m = machineOf (a .t2) (a .memory .now) (a .taint .now) in
+    shows m (stepOf (a .window) (a .word) m) (rw (c .before .answer .given .1) at (c .before .before .before .before .before .before .before .decide .ensures)))
+    (λ c. search needs)
+    (λ c. search needs)
+    (λ c.
+    let a = c .before .before .before .before .before .before .before .before .before .before .before .before .before .before .before .before .before .before .args in
+    let m = machineOf (a .t2) (a .memory .now) (a .taint .now) in
+    rw (c .passed-on .ensures) (shows m (stepOf (a .window) (a .word) m) (rw (c .before .before .shown .given .1) at (c .before .before .before .before .before .before .before .before .decide .ensures))))
+    (λ c. search needs)
+    (λ c. search needs)
+    (λ c.
+    let a = c .before .before .before .before .before .before .before .before .before .before .before .before .before .before .before .before .before .before .args in
+    let m = machineOf (a .t2) (a .memory .now) (a .taint .now) in
+    rw (c .settled .ensures) (shows m (stepOf (a .window) (a .word) m) (rw (c .before .before .shown2 .given .1) at (c .before .before .before .before .before .before .before .before .decide .ensures)))))

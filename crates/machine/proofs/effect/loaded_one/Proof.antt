@@ -15,8 +15,7 @@ unfolding extendedOf largest joined spanOf anyTainted
 loaded-one-spec =
     tie.close
     (tie.spec
-    (λ c κs. search needs)
-    (λ c. rw (c .before .before .before .if1 .taken) (c .set-in .ensures))
+    (λ c. rw (c .if1 .taken))
     (λ c. search needs)
     (λ c. search needs)
     (λ c. search needs)
@@ -29,8 +28,7 @@ loaded-one-spec =
     let a = c .before .before .before .before .before .before .before .args in
     let e : min (a .n) 8 ≡ a .n = omega arith in
     (rw (← e) (c .before .before .load .ensures .1), c .before .before .before .before .before .before .before .pre .0, c .before .before .before .before .before .before .before .pre .1))
-    (λ c κs. search needs)
     (λ c.
-    let a = c .before .before .before .before .before .before .before .before .before .before .before .args in
+    let a = c .before .before .before .before .before .before .before .before .args in
     let e : min (a .n) 8 ≡ a .n = omega arith in
-    rw (← span-back (a .bytes .now) (a .at) (a .n), ← span-back (a .taints .now) (a .at) (a .n), ← c .before .before .before .before .any-tainted .ensures, ← (rw e at (c .before .before .before .before .before .before .load .ensures .0)), ← c .before .before .before .extended .ensures) (c .set-in2 .ensures)))
+    rw (← span-back (a .bytes .now) (a .at) (a .n), ← span-back (a .taints .now) (a .at) (a .n), ← c .before .any-tainted .ensures, ← (rw e at (c .before .before .before .load .ensures .0)), ← c .extended .ensures)))

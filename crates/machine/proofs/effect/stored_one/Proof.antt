@@ -26,7 +26,7 @@ stored-one-spec =
     (λ c. search needs)
     (λ c. search needs)
     (λ c.
-    let a = c .before .before .before .before .before .before .before .before .before .before .before .before .before .args in
+    let a = c .before .before .before .before .before .before .before .before .before .before .before .before .before .before .before .args in
     let number = c .before .before .before .before .before .before .before .before .before .value-in in
     let taint = c .before .before .before .before .before .before .before .before .is-tainted-in in (
       rw (← number .ensures) (put-back (a .bytes .now) _ (bytesOf (a .n) (number .result)) (a .at) (c .before .before .before .before .before .before .store .ensures)),

@@ -1,0 +1,20 @@
+-- `machine::decide_access` meets its contract. Assumes nothing.
+use mathlib.Core.Path.{subst}
+use Rattle.access.proofs.Bounds.{Within}
+use borrow.Author.Needs.{needs}
+use Rattle.machine.proofs.decide_access.Statement.{statement}
+use Rattle.machine.proofs.decide_access.Tie as tie
+
+pub decide-access-spec : {M : Type 1} → statement M
+decide-access-spec =
+    tie.close
+    (tie.spec
+    (λ c. search needs)
+    (λ c. search needs)
+    (λ c κs.
+    let start = c .before .before .before .before .before .before .before .before .before in
+    (subst Within (c .before .before .before .x .given .1) (start .pre .0), start .pre .1))
+    (λ c. rw (c .enum-told .given .1))
+    (λ c. search needs)
+    (λ c. search needs)
+    (λ c. rw (c .before .before .before .before .before .before .before .before .x .given .1) (c .before .before .before .before .decide-moves .ensures)))

@@ -1,0 +1,77 @@
+-- A step in two halves: what the first decides, and what the second sets of it. What a step does is said in Step.antt;
+-- this is how the two halves come to it.
+use Prim.Native.Nat.{ℕ, _+_}
+use mathlib.Core.Bool.{Bool, false}
+use mathlib.Core.List.{List}
+use Rattle.bits.specs.Bytes.{joined, spanOf}
+use Rattle.memory.specs.Extension.{extendedOf}
+use Rattle.memory.specs.Taints.{anyTainted}
+use Rattle.registers.specs.declared.Registers.{Registers}
+use Rattle.registers.specs.File.{setAt}
+use Rattle.access.specs.declared.transfer.Transfer.{Transfer}
+use Rattle.machine.specs.Machine.{Machine, machineOf, nextPc}
+use Rattle.machine.specs.Step.{Step, stopped, moved}
+use Rattle.machine.specs.declared.State.{State}
+use Rattle.machine.specs.declared.Shown.{Shown}
+use Rattle.machine.specs.declared.Decision.{Decision}
+use Rattle.machine.specs.declared.Decision.the-variants.{Refused, Passed, Wrote}
+use Rattle.machine.specs.declared.effect.Writes.{Writes}
+
+-- the state whose register file is lent as two arrays
+abbrev pub stateOf : List ℕ → List Bool → ℕ → State
+stateOf values tainted pc = record { registers = record { value = values; taint = tainted }; pc = pc }
+
+-- ---- what is set
+
+abbrev pub writtenOf : Writes → Registers → Registers
+writtenOf w file = setAt (setAt (setAt file (w .base) (w .next) false) (w .first) (w .value) (w .taint)) (w .second) (w .value2) (w .taint2)
+
+-- the base alone: setting it again changes nothing
+abbrev pub basedOf : ℕ → ℕ → Writes
+basedOf base next = record { base = base; next = next; first = base; value = next; taint = false; second = base; value2 = next; taint2 = false }
+
+-- a load at an index
+abbrev pub loadsOf : Transfer → ℕ → ℕ → ℕ → List ℕ → List ℕ → Writes
+loadsOf t base next at m k =
+    record {
+      base = base;
+      next = next;
+      first = t .target;
+      value = extendedOf (t .bytes) (t .extent) (joined (spanOf m at (t .bytes)));
+      taint = anyTainted (spanOf k at (t .bytes));
+      second = t .second;
+      value2 = extendedOf (t .more) (t .extent) (joined (spanOf m (at + t .bytes) (t .more)));
+      taint2 = anyTainted (spanOf k (at + t .bytes) (t .more));
+    }
+
+-- ---- the state after the second half
+
+-- no register is set
+abbrev pub passedOn : State → State
+passedOn s = record { registers = s .registers; pc = nextPc (s .pc) }
+
+abbrev pub settledOf : Writes → State → State
+settledOf w s = record { registers = writtenOf w (s .registers); pc = nextPc (s .pc) }
+
+-- ---- both halves
+
+-- a step, and the machine after it
+pub record Ended : Type 0 where
+  pub step : Step Machine
+  pub machine : Machine
+
+abbrev pub ended : Machine → Step Machine → Ended
+ended m (stopped answer address) = record { step = stopped answer address; machine = m }
+ended m (moved n code address) = record { step = moved n code address; machine = n }
+
+abbrev pub ends : (Machine → Step Machine) → Machine → Ended
+ends f m = ended m (f m)
+
+abbrev pub movedTo : State → Shown → List ℕ → List ℕ → Ended
+movedTo s shown memory taint = record { step = moved (machineOf s memory taint) (shown .code) (shown .address); machine = machineOf s memory taint }
+
+-- what a decision comes to with the second half, and with the memory and the taint bytes that the first has left
+abbrev pub told : State → Decision → List ℕ → List ℕ → Ended
+told s (Refused answer address) memory taint = record { step = stopped answer address; machine = machineOf s memory taint }
+told s (Passed shown) memory taint = movedTo (passedOn s) shown memory taint
+told s (Wrote shown w) memory taint = movedTo (settledOf w s) shown memory taint
