@@ -11,6 +11,7 @@ use lib.Dec.{ltb}
 use lib.ListN.{length, take, drop, getD, set, drop-of-length-le}
 use lib.Seq.{sets, take-length, drop-cons, getD-take}
 use Rattle.bits.proofs.Lists.{sets-front}
+use Rattle.instruction.specs.declared.answer.Answer.{Answer}
 use Rattle.instruction.specs.declared.answer.Answer.the-variants.{Done, BadWindow, NoRoom}
 use Rattle.instruction.specs.Answers.{answerNumber}
 use Rattle.machine.specs.Step.{Step, stopped, moved, Outcome, performed}
@@ -23,37 +24,24 @@ use Rattle.execution.specs.Secrecy.{ShowsRun}
 
 -- ---- the loop
 
-module _ {A : Type 0} (m : A) (rest : A → ℕ → ℕ → Walked A) where
-  more-at : (s : Step A) → Refuses s → answerNumber (performed m s .answer) ≡ 0
-      → goOn m rest s ≡ ahead (performed m s .code) (performed m s .address) (rest (performed m s .machine) (performed m s .code) (performed m s .address))
-  more-at (stopped answer address) r e = absurd (r e)
-  more-at (moved n code address) r e = refl
-
-  stop-at : (s : Step A) → ¬ (answerNumber (performed m s .answer) ≡ 0) → goOn m rest s ≡ halted (performed m s .machine) (performed m s .answer) (performed m s .code) (performed m s .address)
-  stop-at (stopped answer address) h = refl
-  stop-at (moved n code address) h = absurd (h refl)
-
-module _ {A : Type 0} (f : ℕ → A → Step A) (ws : List ℕ) (i : ℕ) (m : A) (trace : List ℕ) (c a : ℕ) (o : Outcome A) (below : i < length ws) (step : o ≡ performed m (f (getD ws i 0) m)) where
+module _ {A : Type 0} (f : ℕ → A → Step A) (ws : List ℕ) (i : ℕ) (m : A) (trace : List ℕ) (c a : ℕ) (below : i < length ws) where
   -- a step done
-  pub walk-more : Refuses (f (getD ws i 0) m) → answerNumber (o .answer) ≡ 0
-      → glue i trace (walkOf f (drop i ws) m c a) ≡ glue (i + 1) (set (set trace (i * 2) (o .code)) (i * 2 + 1) (o .address)) (walkOf f (drop (i + 1) ws) (o .machine) (o .code) (o .address))
+  pub walk-more : {n : A} {code address : ℕ} → f (getD ws i 0) m ≡ moved n code address
+      → glue i trace (walkOf f (drop i ws) m c a) ≡ glue (i + 1) (set (set trace (i * 2) code) (i * 2 + 1) address) (walkOf f (drop (i + 1) ws) n code address)
   unfolding walkOf
-  walk-more r e =
-      let t : Walked A = walkOf f (drop (suc i) ws) (o .machine) (o .code) (o .address) in
+  walk-more {n} {code} {address} e =
+      let t : Walked A = walkOf f (drop (suc i) ws) n code address in
       let p : (i + 1) * 2 ≡ suc (suc (i * 2)) = omega arith in
       let q : i * 2 + 1 ≡ suc (i * 2) = omega arith in
       let g : i + 1 ≡ suc i = omega arith in
-      let n : i + suc (t .steps) ≡ suc i + t .steps = omega arith in
-      let d : answerNumber (performed m (f (getD ws i 0) m) .answer) ≡ 0 = rw step at e in
-      rw (p, q, g, drop-cons ws i 0, more-at m (walkOf f (drop (suc i) ws)) (f (getD ws i 0) m) r d, ← step, n)
+      let k : i + suc (t .steps) ≡ suc i + t .steps = omega arith in
+      rw (p, q, g, drop-cons ws i 0, e, k)
 
   -- a step refused
-  pub walk-stop : ¬ (answerNumber (o .answer) ≡ 0)
-      → record { machine = o .machine; trace = trace; steps = i; answer = o .answer; code = o .code; address = o .address } ≡ glue i trace (walkOf f (drop i ws) m c a)
+  pub walk-stop : {answer : Answer} {address : ℕ} → f (getD ws i 0) m ≡ stopped answer address
+      → record { machine = m; trace = trace; steps = i; answer = answer; code = 0; address = address } ≡ glue i trace (walkOf f (drop i ws) m c a)
   unfolding walkOf
-  walk-stop h =
-      let d : ¬ (answerNumber (performed m (f (getD ws i 0) m) .answer) ≡ 0) = rw step at h in
-      rw (drop-cons ws i 0, stop-at m (walkOf f (drop (suc i) ws)) (f (getD ws i 0) m) d, ← step, add-zero)
+  walk-stop e = rw (drop-cons ws i 0, e, add-zero)
 
 -- no word left
 pub walk-end : {A : Type 0} (f : ℕ → A → Step A) (ws : List ℕ) (i : ℕ) (m : A) (trace : List ℕ) (c a : ℕ) → length ws ≤ i

@@ -7,7 +7,7 @@ use lib.ListN.{length, take, getD}
 use lib.Seq.{sets}
 use Rattle.instruction.specs.declared.answer.Answer.the-variants.{Done}
 use Rattle.instruction.specs.Answers.{answerNumber}
-use Rattle.machine.specs.Step.{Step, Outcome, performed}
+use Rattle.machine.specs.Step.{Step, Outcome, leaves}
 use Rattle.execution.specs.Walk.{Walked, walkOf, Result}
 
 -- the first i words, run alone
@@ -23,7 +23,7 @@ pub record Kept {A : Type 0} (f : ℕ → A → Step A) (ws : List ℕ) (m : A) 
 
 -- the step of the word at i, from the machine as the steps before left it
 abbrev pub stepAt : {A : Type 0} → (ℕ → A → Step A) → List ℕ → A → ℕ → Outcome A
-stepAt f ws m i = performed (alone f ws m i .machine) (f (getD ws i 0) (alone f ws m i .machine))
+stepAt f ws m i = leaves (f (getD ws i 0)) (alone f ws m i .machine)
 
 -- the last step tried is that of the word at i, and what is returned and left of it is this
 abbrev pub Tried : {A : Type 0} → (ℕ → A → Step A) → List ℕ → A → ℕ → Outcome A → Type 0

@@ -1,13 +1,11 @@
 -- The machine's run.
 use Prim.Native.Nat.{ℕ}
-use mathlib.Core.Bool.{Bool}
 use mathlib.Core.List.{List}
 use Rattle.plan.specs.declared.window.Window.{Window}
-use Rattle.machine.specs.Machine.{Machine, machineWith, machineOf}
+use Rattle.machine.specs.Machine.{Machine, machineOf}
 use Rattle.machine.specs.Step.{bad, stepOf}
 use Rattle.execution.specs.Walk.{Result, runOf}
 use Rattle.execution.specs.declared.Ran.{Ran}
-use Rattle.execution.specs.declared.RanIn.{RanIn}
 
 abbrev pub machineRun : Window → List ℕ → Machine → List ℕ → Result Machine
 machineRun w words m trace = runOf (bad w) (stepOf w) words m trace
@@ -16,8 +14,3 @@ machineRun w words m trace = runOf (bad w) (stepOf w) words m trace
 abbrev pub result : Ran → List ℕ → List ℕ → List ℕ → Result Machine
 result r memory taint trace =
     record { machine = machineOf (r .state) memory taint; trace = trace; steps = r .steps; answer = r .answer; code = r .code; address = r .address }
-
--- and where the register file is lent
-abbrev pub resultWith : RanIn → List ℕ → List Bool → List ℕ → List ℕ → List ℕ → Result Machine
-resultWith r values tainted memory taint trace =
-    record { machine = machineWith values tainted (r .pc) memory taint; trace = trace; steps = r .steps; answer = r .answer; code = r .code; address = r .address }

@@ -1,32 +1,24 @@
 // A run: a step for each word of a list, up to the first refusal, with a trace of the steps done.
 use instruction::Answer;
+use machine::Decision;
+use machine::Shown;
 use machine::State;
 use plan::Window;
 ghost use mathlib.Core.Path.{_≡_};
-ghost use mathlib.Core.Bool.{Bool};
 ghost use mathlib.Core.List.{List};
-ghost use Prim.Native.Nat.{ℕ, _*_, _≤_};
-ghost use lib.ListN.{length};
+ghost use Prim.Native.Nat.{ℕ, _+_, _*_, _≤_};
+ghost use lib.ListN.{length, set};
 ghost use Rattle.machine.specs.Rule.{wordRule};
-ghost use Rattle.machine.specs.Machine.{Machine, machineWith, machineOf};
+ghost use Rattle.machine.specs.Machine.{Machine, machineOf};
 ghost use Rattle.machine.specs.Step.{stepOf};
 ghost use Rattle.execution.specs.Walk.{walkOf, glue, notBegun, afterSteps};
-ghost use Rattle.execution.specs.Run.{machineRun, result, resultWith};
+ghost use Rattle.execution.specs.Run.{machineRun, result};
 ghost use Rattle.execution.specs.Secrecy.{Same, ShowsRun};
 
 // What a run returns: how many steps were done, the answer, code and address of the last step tried, and the
 // state after the steps done.
 pub struct Ran {
     pub state: State,
-    pub steps: usize,
-    pub answer: Answer,
-    pub code: u64,
-    pub address: u64,
-}
-
-// The same where the register file is lent: of the state only the program counter is left to return.
-pub struct RanIn {
-    pub pc: u64,
     pub steps: usize,
     pub answer: Answer,
     pub code: u64,
@@ -49,56 +41,20 @@ pub fn run(
     ensures secret { λ r. ⌜ ((other : Machine) (trail : List ℕ) → Same (machineOf state (now (memory .entry)) (now (taint .entry))) other → length (now (trace .entry)) ≡ length trail
         → ShowsRun Same (result r (now (memory .exit)) (now (taint .exit)) (now (trace .exit))) (machineRun window (now (words .entry)) other trail)) ⌝ }
 {
-    let file = state.registers;
-    let mut value = file.value;
-    let mut tainted = file.taint;
-    let ran = run_in(
-        words,
-        state.pc,
-        window,
-        &mut value,
-        &mut tainted,
-        memory,
-        taint,
-        trace,
-    );
-    let answer = ran.answer;
-    Ran {
-        state: machine::with_file(state, value, tainted, ran.pc),
-        steps: ran.steps,
-        answer,
-        code: ran.code,
-        address: ran.address,
-    }
-}
-
-// A run over the two arrays of a register file.
-pub fn run_in(
-    words: &[u32],
-    pc: u64,
-    window: Window,
-    value: &mut [u64; 32],
-    tainted: &mut [bool; 32],
-    memory: &mut [u8],
-    taint: &mut [u8],
-    trace: &mut [u64],
-) -> RanIn
-    ensures { λ r. ⌜ resultWith r (now (value .exit)) (now (tainted .exit)) (now (memory .exit)) (now (taint .exit)) (now (trace .exit)) ≡ machineRun window (now (words .entry)) (machineWith (now (value .entry)) (now (tainted .entry)) pc (now (memory .entry)) (now (taint .entry))) (now (trace .entry)) ⌝ }
-{
-    if plan::is_bad(window, memory.len() as u64, taint.len() as u64, pc) {
-        return not_begun(pc, Answer::BadWindow);
+    if plan::is_bad(window, memory.len() as u64, taint.len() as u64, state.pc) {
+        return not_begun(state, Answer::BadWindow);
     }
     if trace.len() / 2 < words.len() {
-        return not_begun(pc, Answer::NoRoom);
+        return not_begun(state, Answer::NoRoom);
     }
-    walk(words, pc, window, value, tainted, memory, taint, trace)
+    walk(words, state, window, memory, taint, trace)
 }
 
-fn not_begun(pc: u64, answer: Answer) -> RanIn
-    ensures { λ r. ⌜ ((v : List ℕ) (u : List Bool) (m k t : List ℕ) → resultWith r v u m k t ≡ notBegun answer (machineWith v u pc m k) t) ⌝ }
+fn not_begun(state: State, answer: Answer) -> Ran
+    ensures { λ r. ⌜ ((m k t : List ℕ) → result r m k t ≡ notBegun answer (machineOf state m k) t) ⌝ }
 {
-    RanIn {
-        pc,
+    Ran {
+        state,
         steps: 0,
         answer,
         code: 0,
@@ -106,48 +62,73 @@ fn not_begun(pc: u64, answer: Answer) -> RanIn
     }
 }
 
-// The steps of a run whose window and trace were tested.
+// The steps of a run whose window and trace were tested. Both halves of a step stand in the loop, so that a step that
+// sets no register copies none.
 fn walk(
     words: &[u32],
-    start: u64,
+    start: State,
     window: Window,
-    value: &mut [u64; 32],
-    tainted: &mut [bool; 32],
     memory: &mut [u8],
     taint: &mut [u8],
     trace: &mut [u64],
-) -> RanIn
+) -> Ran
     requires { ⌜ length (now words) * 2 ≤ length (now trace) ⌝ }
-    ensures { λ r. ⌜ resultWith r (now (value .exit)) (now (tainted .exit)) (now (memory .exit)) (now (taint .exit)) (now (trace .exit)) ≡ glue 0 (now (trace .entry)) (walkOf (stepOf window) (now (words .entry)) (machineWith (now (value .entry)) (now (tainted .entry)) start (now (memory .entry)) (now (taint .entry))) 0 0) ⌝ }
+    ensures { λ r. ⌜ result r (now (memory .exit)) (now (taint .exit)) (now (trace .exit)) ≡ glue 0 (now (trace .entry)) (walkOf (stepOf window) (now (words .entry)) (machineOf start (now (memory .entry)) (now (taint .entry))) 0 0) ⌝ }
 {
-    let mut pc = start;
-    let mut code = 0;
-    let mut address = 0;
+    let mut state = start;
+    let mut last = Shown {
+        code: 0,
+        address: 0,
+    };
     let mut i = 0;
     while i < words.len() {
-        let advanced = machine::advance(words[i], pc, window, value, tainted, memory, taint);
-        let answer = advanced.answer;
-        pc = advanced.pc;
-        code = advanced.code;
-        address = advanced.address;
-        if instruction::answer_number(answer) != 0 {
-            return RanIn {
-                pc,
-                steps: i,
-                answer,
-                code,
-                address,
-            };
+        match machine::decide(
+            words[i],
+            state.pc,
+            window,
+            &state.registers.value,
+            &state.registers.taint,
+            memory,
+            taint,
+        ) {
+            Decision::Refused(answer, address) => {
+                return Ran {
+                    state,
+                    steps: i,
+                    answer,
+                    code: 0,
+                    address,
+                };
+            }
+            Decision::Passed(shown) => {
+                noted(trace, i, shown);
+                last = shown;
+                i += 1;
+                state.pc = machine::next_pc(state.pc);
+            }
+            Decision::Wrote(shown, writes) => {
+                noted(trace, i, shown);
+                last = shown;
+                i += 1;
+                let next = machine::settled(state, writes);
+                state = next;
+            }
         }
-        trace[i * 2] = code;
-        trace[i * 2 + 1] = address;
-        i += 1;
     }
-    RanIn {
-        pc,
+    Ran {
+        state,
         steps: i,
         answer: Answer::Done,
-        code,
-        address,
+        code: last.code,
+        address: last.address,
     }
+}
+
+// The two numbers of a step in the trace.
+fn noted(trace: &mut [u64], i: usize, shown: Shown)
+    requires { ⌜ i * 2 + 2 ≤ length (now trace) ⌝ }
+    ensures { λ _. ⌜ now (trace .exit) ≡ set (set (now (trace .entry)) (i * 2) (shown .code)) (i * 2 + 1) (shown .address) ⌝ }
+{
+    trace[i * 2] = shown.code;
+    trace[i * 2 + 1] = shown.address;
 }

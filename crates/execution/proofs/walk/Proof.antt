@@ -1,12 +1,12 @@
 -- `execution::walk` meets its contract. The loop's invariant: what is done, with what is still to do from here, is
--- the whole. Assumes nothing.
+-- the whole; a decision tells the step that the definition makes (`steps`). Assumes nothing.
 use Prim.Native.Nat.{_*_, _-_, _≤_}
 use mathlib.Core.Path.{_≡_, sym, _∙_}
 use native.Mathlib.Omega.{arith}
-use lib.ListN.{length, drop, getD, length-set}
-use Rattle.machine.specs.Machine.{Machine, machineWith}
-use Rattle.machine.specs.Step.{Outcome, outcomeWith, stepOf}
-use Rattle.machine.proofs.Answers.{step-refuses}
+use lib.ListN.{length, drop, getD}
+use Rattle.machine.specs.Machine.{machineOf}
+use Rattle.machine.specs.Step.{stepOf}
+use Rattle.machine.proofs.Writing.{steps, kept}
 use Rattle.execution.specs.Walk.{walkOf, glue}
 use Rattle.execution.proofs.Walks.{walk-more, walk-stop, walk-end}
 use borrow.Author.Needs.{needs}
@@ -14,12 +14,12 @@ use Rattle.execution.proofs.walk.Statement.{statement}
 use Rattle.execution.proofs.walk.Tie as tie
 
 abbrev Inv-loop : tie.InvT-loop
-Inv-loop words start window value₀ tainted₀ memory₀ taint₀ trace₀ pc₀ code₀ address₀ i₀ value tainted memory taint trace pc code address i =
+Inv-loop words window memory₀ taint₀ trace₀ state₀ last₀ i₀ memory taint trace state last i =
     (i ≤ length words) × (length memory ≡ length memory₀) × (length taint ≡ length taint₀) × (length trace ≡ length trace₀) × (length words * 2 ≤ length trace)
-    × (glue i trace (walkOf (stepOf window) (drop i words) (machineWith value tainted pc memory taint) code address) ≡ glue 0 trace₀ (walkOf (stepOf window) words (machineWith value₀ tainted₀ start memory₀ taint₀) 0 0))
+    × (glue i trace (walkOf (stepOf window) (drop i words) (machineOf state memory taint) (last .code) (last .address)) ≡ glue 0 trace₀ (walkOf (stepOf window) words (machineOf state₀ memory₀ taint₀) 0 0))
 
 abbrev μ-loop : tie.MeasureT-loop
-μ-loop words start window value₀ tainted₀ memory₀ taint₀ trace₀ pc₀ code₀ address₀ i₀ value tainted memory taint trace pc code address i = length words - i
+μ-loop words window memory₀ taint₀ trace₀ state₀ last₀ i₀ memory taint trace state last i = length words - i
 
 pub walk-spec : {M : Type 1} → statement M
 walk-spec =
@@ -31,41 +31,55 @@ walk-spec =
     (λ c. search needs)
     (λ c. search needs)
     (λ c κs. search needs)
+    (λ c. search needs)
+    (λ c. search needs)
+    (λ c. search needs)
+    (λ c. search needs)
+    (λ c.
+    let a = c .before .before .before .before .before .before .before .before .before .before .before .before .before .before .before .before .before .before .before .before .before .before .args in
+    let l = c .before .before .before .before .before .before .before .before .before .before .before .before .before .before .before .before .before .loop in
+    let below = c .before .before .before .before .before .before .before .before .before .before .before .before .before .before .before .before .loop-test .taken in
+    let m = machineOf (l .state) (l .memory) (l .taint) in
+    let s = stepOf (a .window) (getD (a .words .now) (l .i) 0) m in
+    let told = rw (c .before .answer .given .1) at (c .before .before .before .before .before .before .before .decide .ensures) in
+    rw (kept m s told) (walk-stop (stepOf (a .window)) (a .words .now) (l .i) m (l .trace) (l .last .code) (l .last .address) below (sym (steps m s told))) ∙ l .inv .5)
+    (λ c. search needs)
     (λ c κs. search needs)
-    (λ c. search needs)
-    (λ c. search needs)
-    (λ c. search needs)
+    (λ c. omega (arith, c .before .before .before .before .before .before .before .before .before .before .before .before .before .before .before .before .before .before .before .before .loop-test .taken, c .before .before .before .before .before .before .before .before .before .before .before .before .before .before .before .before .before .before .before .before .before .before .before .before .before .before .good .0))
+    (λ c κs. search needs)
+    (λ c. omega (arith, c .before .before .before .before .before .before .before .before .before .before .before .before .before .before .before .before .before .before .before .before .before .loop-test .taken))
     (λ c.
-    let l = c .before .before .before .before .before .before .before .before .before .before .before .before .before .loop in
-    let a = c .before .before .before .before .before .before .before .before .before .before .before .before .before .before .before .before .before .before .args in
-    let s = c .before .before .before .before .before .before .advance in
-    let f = stepOf (a .window) in
-    let m = machineWith (l .value) (l .tainted) (l .pc) (l .memory) (l .taint) in
-    let o : Outcome Machine = outcomeWith (s .result) (s .last .1 .1 .1 .0) (s .last .1 .1 .1 .1 .0) (s .last .1 .1 .1 .1 .1 .0) (s .last .1 .1 .1 .1 .1 .1 .0) in
-    walk-stop f (a .words .now) (l .i) m (l .trace) (l .code) (l .address) o (c .before .before .before .before .before .before .before .before .before .before .before .before .loop-test .taken) (s .ensures) (λ h. c .if1 .taken (c .before .answer-number .ensures .0 ∙ h)) ∙ l .inv .5)
+    let a = c .before .before .before .before .before .before .before .before .before .before .before .before .before .before .before .before .before .before .before .before .before .before .before .before .before .before .before .args in
+    let l = c .before .before .before .before .before .before .before .before .before .before .before .before .before .before .before .before .before .before .before .before .before .before .loop in
+    let below = c .before .before .before .before .before .before .before .before .before .before .before .before .before .before .before .before .before .before .before .before .before .loop-test .taken in
+    let m = machineOf (l .state) (l .memory) (l .taint) in
+    let s = stepOf (a .window) (getD (a .words .now) (l .i) 0) m in
+    let told = rw (c .before .before .before .before .before .before .shown .given .1) at (c .before .before .before .before .before .before .before .before .before .before .before .before .decide .ensures) in (
+      omega (arith, below),
+      search needs,
+      search needs,
+      search needs,
+      search needs,
+      rw (c .next-pc .ensures, c .before .before .before .noted .ensures) (sym (walk-more (stepOf (a .window)) (a .words .now) (l .i) m (l .trace) (l .last .code) (l .last .address) below (sym (steps m s told))) ∙ l .inv .5),
+    ))
     (λ c. search needs)
-    (λ c. omega (arith, c .before .before .before .before .before .before .before .before .before .before .before .before .before .before .before .before .before .before .good .1 .1 .1 .1 .1 .1 .1))
-    (λ c. search needs)
-    (λ c. search needs)
-    (λ c. search needs)
-    (λ c. omega (arith, c .before .before .before .before .before .before .before .before .before .before .before .before .before .before .before .before .before .before .good .1 .1 .1 .1 .1 .1 .1))
-    (λ c. simp length-set (omega arith))
-    (λ c. search needs)
-    (λ c. search needs)
+    (λ c κs. search needs)
+    (λ c. omega (arith, c .before .before .before .before .before .before .before .before .before .before .before .before .before .before .before .before .before .before .before .before .loop-test .taken, c .before .before .before .before .before .before .before .before .before .before .before .before .before .before .before .before .before .before .before .before .before .before .before .before .before .before .good .0))
+    (λ c κs. search needs)
+    (λ c. omega (arith, c .before .before .before .before .before .before .before .before .before .before .before .before .before .before .before .before .before .before .before .before .before .loop-test .taken))
     (λ c.
-    let l = c .before .before .before .before .before .before .before .before .before .before .before .before .before .loop in
-    let a = c .before .before .before .before .before .before .before .before .before .before .before .before .before .before .before .before .before .before .args in
-    let s = c .before .before .before .before .before .before .advance in
-    let f = stepOf (a .window) in
-    let m = machineWith (l .value) (l .tainted) (l .pc) (l .memory) (l .taint) in
-    let o : Outcome Machine = outcomeWith (s .result) (s .last .1 .1 .1 .0) (s .last .1 .1 .1 .1 .0) (s .last .1 .1 .1 .1 .1 .0) (s .last .1 .1 .1 .1 .1 .1 .0) in
-    let done = sym (c .before .answer-number .ensures .0) ∙ c .if1 .left in (
+    let a = c .before .before .before .before .before .before .before .before .before .before .before .before .before .before .before .before .before .before .before .before .before .before .before .before .before .before .before .args in
+    let l = c .before .before .before .before .before .before .before .before .before .before .before .before .before .before .before .before .before .before .before .before .before .before .loop in
+    let below = c .before .before .before .before .before .before .before .before .before .before .before .before .before .before .before .before .before .before .before .before .before .loop-test .taken in
+    let m = machineOf (l .state) (l .memory) (l .taint) in
+    let s = stepOf (a .window) (getD (a .words .now) (l .i) 0) m in
+    let told = rw (c .before .before .before .before .before .before .shown2 .given .1) at (c .before .before .before .before .before .before .before .before .before .before .before .before .decide .ensures) in (
+      omega (arith, below),
       search needs,
       search needs,
       search needs,
       search needs,
-      search needs,
-      sym (walk-more f (a .words .now) (l .i) m (l .trace) (l .code) (l .address) o (c .before .before .before .before .before .before .before .before .before .before .before .before .loop-test .taken) (s .ensures) (step-refuses (a .window) (getD (a .words .now) (l .i) 0) m) done) ∙ l .inv .5,
+      rw (c .settled .ensures, c .before .before .before .noted2 .ensures) (sym (walk-more (stepOf (a .window)) (a .words .now) (l .i) m (l .trace) (l .last .code) (l .last .address) below (sym (steps m s told))) ∙ l .inv .5),
     ))
     (λ c. search needs)
     (λ c. search needs)
@@ -73,4 +87,4 @@ walk-spec =
     (λ c.
     let l = c .before .loop in
     let a = c .before .before .before .before .before .before .args in
-    walk-end (stepOf (a .window)) (a .words .now) (l .i) (machineWith (l .value) (l .tainted) (l .pc) (l .memory) (l .taint)) (l .trace) (l .code) (l .address) (c .loop-test .left) ∙ l .inv .5))
+    walk-end (stepOf (a .window)) (a .words .now) (l .i) (machineOf (l .state) (l .memory) (l .taint)) (l .trace) (l .last .code) (l .last .address) (c .loop-test .left) ∙ l .inv .5))
