@@ -8,7 +8,7 @@ ghost use mathlib.Core.Path.{_≡_};
 ghost use Prim.Native.Nat.{ℕ, _<_, _^_};
 ghost use lib.ListN.{getD};
 ghost use Rattle.machine.specs.Machine.{machineOf};
-ghost use Rattle.machine.specs.Step.{outcome, performed};
+ghost use Rattle.machine.specs.Step.{outcome, leaves};
 ghost use Rattle.execution.specs.Walk.{runOf};
 ghost use Rattle.execution.specs.Run.{result};
 ghost use Rattle.arm.specs.Real.{Real};
@@ -16,7 +16,7 @@ ghost use Rattle.arm.specs.Choices.{badStart, armStep};
 
 // The machine's step, with a contract in Arm's terms.
 pub fn step(word: u32, state: State, window: Window, memory: &mut [u8], taint: &mut [u8]) -> Stepped
-    ensures { λ r. ⌜ outcome r (now (memory .exit)) (now (taint .exit)) ≡ performed (machineOf state (now (memory .entry)) (now (taint .entry))) (armStep window word (machineOf state (now (memory .entry)) (now (taint .entry)))) ⌝ }
+    ensures { λ r. ⌜ outcome r (now (memory .exit)) (now (taint .exit)) ≡ leaves (armStep window word) (machineOf state (now (memory .entry)) (now (taint .entry))) ⌝ }
 {
     real(state, memory, taint);
     machine::step(word, state, window, memory, taint)
