@@ -2,19 +2,19 @@
 use Prim.Native.Nat.{ℕ, _≤_, _<_}
 use mathlib.Core.Path.{_≡_, refl, ap}
 use mathlib.Core.Bool.{Bool, true, false}
-use mathlib.Core.List.{List, map}
+use mathlib.Core.List.{List}
 use mathlib.Core.Logic.{inl, inr}
 use borrow.Author.Tests.{lt-ltb, le-ltb}
 use lib.Dec.{ltb}
-use lib.ListN.{length, take, getD}
+use lib.ListN.{length}
 use Rattle.bits.specs.Choice.{pick}
 use Rattle.instruction.specs.Answers.{answerNumber}
-use Rattle.memory.specs.Taints.{tainted}
 use Rattle.plan.specs.declared.window.Window.{Window}
-use Rattle.machine.specs.Machine.{Machine, machineWith}
-use Rattle.execution.specs.declared.RanIn.{RanIn}
+use Rattle.machine.specs.Machine.{Machine, machineOf}
+use Rattle.machine.specs.declared.State.{State}
+use Rattle.execution.specs.declared.Ran.{Ran}
 use Rattle.execution.specs.Walk.{Result, notBegun}
-use Rattle.execution.specs.Run.{machineRun, resultWith}
+use Rattle.execution.specs.Run.{machineRun, result}
 use Rattle.execution.specs.Ends.{Early}
 use Rattle.execution.proofs.Refusals.{early-unchanged}
 use Rattle.host.specs.declared.RunReply.{RunReply}
@@ -34,17 +34,17 @@ module _ (w : Window) (words registers flags memory taint trace : List ℕ) wher
   unfolding hostRun
   short-flags e l h = rw (e, le-ltb (length registers) 33 l, lt-ltb (length flags) 32 h)
 
-  -- with the file that was copied in, what the run left, and what was copied out
-  pub handed : (r : RanIn) {n : ℕ} {values vs : List ℕ} {taints us : List Bool} {xs fs ms ks ts : List ℕ} → 33 ≤ length registers → 32 ≤ length flags
-      → values ≡ take 32 registers → taints ≡ take 32 (map tainted flags)
-      → resultWith r vs us ms ks ts ≡ machineRun w words (machineWith values taints (getD registers 32 0) memory taint) trace
+  -- with the state that was copied in, what the run left, and what was copied out
+  pub handed : (r : Ran) {n : ℕ} {s : State} {xs fs ms ks ts : List ℕ} → 33 ≤ length registers → 32 ≤ length flags
+      → machineOf s memory taint ≡ machineIn registers flags memory taint
+      → result r ms ks ts ≡ machineRun w words (machineOf s memory taint) trace
       → n ≡ answerNumber (r .answer)
-      → xs ≡ pick (isBegun n) (registersOut vs (r .pc) registers) registers
-      → fs ≡ pick (isBegun n) (flagsOut us flags) flags
+      → xs ≡ pick (isBegun n) (registersOut (r .state .registers .value) (r .state .pc) registers) registers
+      → fs ≡ pick (isBegun n) (flagsOut (r .state .registers .taint) flags) flags
       → hosted (record { steps = r .steps; answer = n; code = r .code; address = r .address }) xs fs ms ks ts ≡ hostRun w words registers flags memory taint trace
   unfolding hostRun
-  handed r l h copied flagged ran number put raised =
-      rw (le-ltb (length registers) 33 l, le-ltb (length flags) 32 h, ← copied, ← flagged, ← ran, put, raised, number)
+  handed r l h copied ran number put raised =
+      rw (le-ltb (length registers) 33 l, le-ltb (length flags) 32 h, ← copied, ← ran, put, raised, number)
 
   back-unchanged : (t : Result Machine) → isBegun (answerNumber (t .answer)) ≡ false → t ≡ notBegun (t .answer) (machineIn registers flags memory taint) trace
       → handedBack t registers flags ≡ hosted (handedBack t registers flags .reply) registers flags memory taint trace

@@ -1,15 +1,30 @@
-// The register file of a run, copied in from the slices that a host lends, and back to them: the registers as
-// numbers, and a flag for each taint.
+// The state of a run, copied in from the slices that a host lends, and back to them: the registers as numbers, and a
+// flag for each taint.
+use machine::State;
+use registers::Registers;
 ghost use mathlib.Core.Path.{_≡_};
-ghost use mathlib.Core.List.{map};
-ghost use Prim.Native.Nat.{_≤_};
+ghost use mathlib.Core.List.{List, map};
+ghost use Prim.Native.Nat.{ℕ, _≤_};
 ghost use lib.ListN.{length, take};
 ghost use lib.Seq.{sets};
 ghost use Rattle.bits.specs.Choice.{pick};
 ghost use Rattle.memory.specs.Taints.{tainted, taintByte};
-ghost use Rattle.host.specs.Hosting.{isBegun, registersOut, flagsOut};
+ghost use Rattle.machine.specs.Machine.{machineOf};
+ghost use Rattle.host.specs.Hosting.{machineIn, isBegun, registersOut, flagsOut};
 
-pub fn values_in(registers: &[u64]) -> [u64; 32]
+pub fn state_in(registers: &[u64], flags: &[u8]) -> State
+    requires { ⌜ (33 ≤ length (now registers)) × (32 ≤ length (now flags)) ⌝ }
+    ensures { λ r. ⌜ ((m k : List ℕ) → machineOf r m k ≡ machineIn (now (registers .entry)) (now (flags .entry)) m k) ⌝ }
+{
+    let value = values_in(registers);
+    let taint = taints_in(flags);
+    State {
+        registers: Registers { value, taint },
+        pc: registers[32],
+    }
+}
+
+fn values_in(registers: &[u64]) -> [u64; 32]
     requires { ⌜ 32 ≤ length (now registers) ⌝ }
     ensures { λ r. ⌜ r ≡ take 32 (now (registers .entry)) ⌝ }
 {
@@ -22,7 +37,7 @@ pub fn values_in(registers: &[u64]) -> [u64; 32]
     value
 }
 
-pub fn taints_in(flags: &[u8]) -> [bool; 32]
+fn taints_in(flags: &[u8]) -> [bool; 32]
     requires { ⌜ 32 ≤ length (now flags) ⌝ }
     ensures { λ r. ⌜ r ≡ take 32 (map tainted (now (flags .entry))) ⌝ }
 {
@@ -36,30 +51,25 @@ pub fn taints_in(flags: &[u8]) -> [bool; 32]
 }
 
 // After a run with an answer of this number. Nothing is put back where the run was not begun.
-pub fn put_back(
-    number: u64,
-    value: &[u64; 32],
-    taint: &[bool; 32],
-    pc: u64,
-    registers: &mut [u64],
-    flags: &mut [u8],
-)
+pub fn put_back(number: u64, state: State, registers: &mut [u64], flags: &mut [u8])
     requires { ⌜ (33 ≤ length (now registers)) × (32 ≤ length (now flags)) ⌝ }
-    ensures { λ _. ⌜ (now (registers .exit) ≡ pick (isBegun number) (registersOut (now (value .entry)) pc (now (registers .entry))) (now (registers .entry)))
-        × (now (flags .exit) ≡ pick (isBegun number) (flagsOut (now (taint .entry)) (now (flags .entry))) (now (flags .entry))) ⌝ }
+    ensures { λ _. ⌜ (now (registers .exit) ≡ pick (isBegun number) (registersOut (state .registers .value) (state .pc) (now (registers .entry))) (now (registers .entry)))
+        × (now (flags .exit) ≡ pick (isBegun number) (flagsOut (state .registers .taint) (now (flags .entry))) (now (flags .entry))) ⌝ }
 {
     if is_begun(number) {
+        let file = state.registers;
+        let value = file.value;
+        let taint = file.taint;
         put_values(value, registers);
-        registers[32] = pc;
+        registers[32] = state.pc;
         put_flags(taint, flags);
     }
 }
 
-fn put_values(value: &[u64; 32], registers: &mut [u64])
+fn put_values(value: [u64; 32], registers: &mut [u64])
     requires { ⌜ 32 ≤ length (now registers) ⌝ }
-    ensures { λ _. ⌜ now (registers .exit) ≡ sets (now (registers .entry)) 0 (now (value .entry)) ⌝ }
+    ensures { λ _. ⌜ now (registers .exit) ≡ sets (now (registers .entry)) 0 value ⌝ }
 {
-    all_values(*value);
     let mut i = 0;
     while i < 32 {
         registers[i] = value[i];
@@ -67,27 +77,16 @@ fn put_values(value: &[u64; 32], registers: &mut [u64])
     }
 }
 
-fn put_flags(taint: &[bool; 32], flags: &mut [u8])
+fn put_flags(taint: [bool; 32], flags: &mut [u8])
     requires { ⌜ 32 ≤ length (now flags) ⌝ }
-    ensures { λ _. ⌜ now (flags .exit) ≡ sets (now (flags .entry)) 0 (map taintByte (now (taint .entry))) ⌝ }
+    ensures { λ _. ⌜ now (flags .exit) ≡ sets (now (flags .entry)) 0 (map taintByte taint) ⌝ }
 {
-    all_taints(*taint);
     let mut i = 0;
     while i < 32 {
         flags[i] = flag(taint[i]);
         i += 1;
     }
 }
-
-// An array behind a reference is not known to be full, and one that is handed over is. Nothing is copied: no code
-// is left of these calls.
-fn all_values(value: [u64; 32])
-    ensures { λ _. ⌜ length value ≡ 32 ⌝ }
-{}
-
-fn all_taints(taint: [bool; 32])
-    ensures { λ _. ⌜ length taint ≡ 32 ⌝ }
-{}
 
 fn is_tainted(flag: u8) -> bool
     ensures { λ r. ⌜ r ≡ tainted flag ⌝ }

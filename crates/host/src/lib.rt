@@ -56,21 +56,19 @@ pub extern "C" fn milestarling_run(
     if flags.len() < 32 {
         return no_room();
     }
-    let mut value = file::values_in(registers);
-    let mut tainted = file::taints_in(flags);
-    let ran = execution::run_in(
+    let start = file::state_in(registers, flags);
+    let ran = execution::run(
         words,
-        registers[32],
+        start,
         Window { origin, readonly },
-        &mut value,
-        &mut tainted,
         memory,
         taint,
         trace,
     );
     let answer = ran.answer;
     let number = answer_number(answer);
-    file::put_back(number, &value, &tainted, ran.pc, registers, flags);
+    let state = ran.state;
+    file::put_back(number, state, registers, flags);
     RunReply {
         steps: ran.steps as u64,
         answer: number,

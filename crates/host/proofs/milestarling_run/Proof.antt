@@ -19,8 +19,6 @@ milestarling-run-spec =
     short-flags _ (a .words .now) (a .registers .now) (a .flags .now) (a .memory .now) (a .taint .now) (a .trace .now) (c .no-room2 .ensures) (omega (arith, c .before .before .if1 .left)) (omega (arith, c .before .if2 .taken)))
     (λ c κs. search needs)
     (λ c κs. search needs)
-    (λ c. search needs)
-    (λ c κs. search needs)
     (λ c κs. search needs)
     (λ c κs. search needs)
     (λ c. search needs)
@@ -29,7 +27,8 @@ milestarling-run-spec =
     (λ c. search needs)
     (λ c. search needs)
     (λ c.
-    let back = c .before .before .before .before .put-back in
-    let ran = c .before .before .before .before .before .before .before .before .before .before .before .before .before .before .before .before .run-in in
-    let a = c .before .before .before .before .before .before .before .before .before .before .before .before .before .before .before .before .before .before .before .before .before .before .before .before .before .before .before .before .before .before .before .before .before .before .before .args in
-    handed _ (a .words .now) (a .registers .now) (a .flags .now) (a .memory .now) (a .taint .now) (a .trace .now) (ran .result) (omega (arith, c .before .before .before .before .before .before .before .before .before .before .before .before .before .before .before .before .before .before .before .before .before .before .before .before .before .before .before .before .if1 .left)) (omega (arith, c .before .before .before .before .before .before .before .before .before .before .before .before .before .before .before .before .before .before .before .before .before .before .before .before .before .before .before .if2 .left)) (c .before .before .before .before .before .before .before .before .before .before .before .before .before .before .before .before .before .before .before .before .before .before .before .before .before .values-in .ensures) (c .before .before .before .before .before .before .before .before .before .before .before .before .before .before .before .before .before .before .before .before .before .before .before .taints-in .ensures) (ran .ensures) (c .before .before .before .before .before .before .before .before .before .answer-number .ensures) (back .ensures .0) (back .ensures .1)))
+    let a = c .before .before .before .before .before .before .before .before .before .before .before .before .before .before .before .before .before .before .before .before .before .before .before .before .before .before .before .before .before .before .args in
+    let copied = c .before .before .before .before .before .before .before .before .before .before .before .before .before .before .before .before .before .before .before .state-in .ensures (a .memory .now) (a .taint .now) in
+    let ran = c .before .before .before .before .before .before .before .before .before .before .before .before .before .before .before .run in
+    let back = c .before .before .before .before .put-back .ensures in
+    handed _ (a .words .now) (a .registers .now) (a .flags .now) (a .memory .now) (a .taint .now) (a .trace .now) (ran .result) (omega (arith, c .before .before .before .before .before .before .before .before .before .before .before .before .before .before .before .before .before .before .before .before .before .before .before .if1 .left)) (omega (arith, c .before .before .before .before .before .before .before .before .before .before .before .before .before .before .before .before .before .before .before .before .before .before .if2 .left)) copied (ran .ensures .0) (c .before .before .before .before .before .before .before .before .answer-number .ensures) (back .0) (back .1)))

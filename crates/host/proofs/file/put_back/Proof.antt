@@ -17,7 +17,7 @@ put-back-spec =
     (λ c. search needs)
     (λ c. search needs)
     (λ c.
-    let begun : isBegun (c .before .before .before .before .before .before .before .before .before .before .before .before .args .number) ≡ true = sym (c .before .before .before .before .before .before .before .before .before .is-begun .ensures) ∙ c .before .before .before .before .before .before .before .before .if1 .taken in
+    let begun : isBegun (c .before .before .before .before .before .before .before .before .before .before .before .before .before .before .before .args .number) ≡ true = sym (c .before .before .before .before .before .before .before .before .before .before .before .before .is-begun .ensures) ∙ c .before .before .before .before .before .before .before .before .before .before .before .if1 .taken in
     (rw (begun, c .before .before .before .before .before .before .put-values .ensures), rw (begun, c .before .before .put-flags .ensures)))
     (λ c.
     let unbegun : isBegun (c .before .before .before .before .args .number) ≡ false = sym (c .before .is-begun .ensures) ∙ c .if1 .left in

@@ -12,10 +12,10 @@ use Rattle.host.proofs.file.put_flags.Statement.{statement}
 use Rattle.host.proofs.file.put_flags.Tie as tie
 
 abbrev Inv-loop : tie.InvT-loop
-Inv-loop taint flags₀ i₀ flags i = (i ≤ 32) × (length flags ≡ length flags₀) × (sets flags i (drop i (map taintByte taint)) ≡ sets flags₀ 0 (map taintByte taint))
+Inv-loop flags₀ taint i₀ flags i = (i ≤ 32) × (length flags ≡ length flags₀) × (sets flags i (drop i (map taintByte taint)) ≡ sets flags₀ 0 (map taintByte taint))
 
 abbrev μ-loop : tie.MeasureT-loop
-μ-loop taint flags₀ i₀ flags i = 32 - i
+μ-loop flags₀ taint i₀ flags i = 32 - i
 
 pub put-flags-spec : {M : Type 1} → statement M
 put-flags-spec =
@@ -23,7 +23,6 @@ put-flags-spec =
     (tie.spec
     Inv-loop
     μ-loop
-    (λ c κs. search needs)
     (λ c. (omega arith, refl, refl))
     (λ c. search needs)
     (λ c κs. search needs)
@@ -31,10 +30,13 @@ put-flags-spec =
     (λ c. search needs)
     (λ c. search needs)
     (λ c.
-    let l = c .before .before .before .loop in
-    let taint = c .before .before .before .before .before .before .before .args .taint .now in
-    (omega arith, simp length-set (l .inv .1), out-more (l .flags) (map taintByte taint) (l .i) 0 (byte-of taint (l .i) (c .flag .ensures)) (rw length-map (omega (arith, c .before .before .before .before .all-taints .ensures))) ∙ l .inv .2))
+    let l = c .before .before .loop in
+    let taint = c .before .before .before .before .args .t1 in
+    let all : length taint ≡ 32 = search needs in
+    (omega arith, simp length-set (l .inv .1), out-more (l .flags) (map taintByte taint) (l .i) 0 (byte-of taint (l .i) (c .flag .ensures)) (rw length-map (omega arith)) ∙ l .inv .2))
     (λ c. search needs)
     (λ c.
     let l = c .before .loop in
-    out-all (l .flags) (map taintByte (c .before .before .before .before .before .args .taint .now)) (l .i) (rw length-map (omega (arith, c .before .before .all-taints .ensures))) ∙ l .inv .2))
+    let taint = c .before .before .before .args .t1 in
+    let all : length taint ≡ 32 = search needs in
+    out-all (l .flags) (map taintByte taint) (l .i) (rw length-map (omega arith)) ∙ l .inv .2))

@@ -10,10 +10,10 @@ use Rattle.host.proofs.file.put_values.Statement.{statement}
 use Rattle.host.proofs.file.put_values.Tie as tie
 
 abbrev Inv-loop : tie.InvT-loop
-Inv-loop value registers₀ i₀ registers i = (i ≤ 32) × (length registers ≡ length registers₀) × (sets registers i (drop i value) ≡ sets registers₀ 0 value)
+Inv-loop registers₀ value i₀ registers i = (i ≤ 32) × (length registers ≡ length registers₀) × (sets registers i (drop i value) ≡ sets registers₀ 0 value)
 
 abbrev μ-loop : tie.MeasureT-loop
-μ-loop value registers₀ i₀ registers i = 32 - i
+μ-loop registers₀ value i₀ registers i = 32 - i
 
 pub put-values-spec : {M : Type 1} → statement M
 put-values-spec =
@@ -21,7 +21,6 @@ put-values-spec =
     (tie.spec
     Inv-loop
     μ-loop
-    (λ c κs. search needs)
     (λ c. (omega arith, refl, refl))
     (λ c. search needs)
     (λ c. search needs)
@@ -30,10 +29,13 @@ put-values-spec =
     (λ c. search needs)
     (λ c. search needs)
     (λ c.
-    let l = c .before .before .loop in
-    let a = c .before .before .before .before .before .before .args in
-    (omega arith, simp length-set (l .inv .1), out-more (l .registers) (a .value .now) (l .i) 0 refl (omega (arith, c .before .before .before .all-values .ensures)) ∙ l .inv .2))
+    let l = c .before .loop in
+    let value = c .before .before .args .t1 in
+    let all : length value ≡ 32 = search needs in
+    (omega arith, simp length-set (l .inv .1), out-more (l .registers) value (l .i) 0 refl (omega arith) ∙ l .inv .2))
     (λ c. search needs)
     (λ c.
     let l = c .before .loop in
-    out-all (l .registers) (c .before .before .before .before .before .args .value .now) (l .i) (omega (arith, c .before .before .all-values .ensures)) ∙ l .inv .2))
+    let value = c .before .before .args .t1 in
+    let all : length value ≡ 32 = search needs in
+    out-all (l .registers) value (l .i) (omega arith) ∙ l .inv .2))
