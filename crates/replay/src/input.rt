@@ -31,15 +31,18 @@ fn word(bytes: &[u8], at: usize) -> u32 {
 
 // The registers: 32 numbers, and behind them a byte of taint for each.
 pub fn registers(bytes: &[u8]) -> Registers {
-    let mut value = [0u64; 32];
-    let mut taint = [false; 32];
-    let mut i = 0;
-    while i < 32 {
-        value[i] = number(bytes, 8 * i);
-        taint[i] = is_tainted(bytes, 256 + i);
-        i += 1;
+    let mut file = Registers {
+        value: [0; 32],
+        taint: [false; 32],
+    };
+    let mut n = 0;
+    while n < 32 {
+        let i = n as usize;
+        let next = file.set(n, number(bytes, 8 * i), is_tainted(bytes, 256 + i));
+        file = next;
+        n += 1;
     }
-    Registers { value, taint }
+    file
 }
 
 fn is_tainted(bytes: &[u8], at: usize) -> bool {

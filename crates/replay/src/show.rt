@@ -56,10 +56,10 @@ fn put_field(output: &mut [u8], at: usize, number: u64) -> usize {
 
 fn put_registers(output: &mut [u8], at: usize, file: Registers) -> usize {
     let mut end = ascii::put_text(output, at, b"registers");
-    let mut i = 0;
-    while i < 32 {
-        end = put_register(output, end, file.value[i], file.taint[i]);
-        i += 1;
+    let mut n = 0;
+    while n < 32 {
+        end = put_register(output, end, file.get(n), file.is_tainted(n));
+        n += 1;
     }
     ascii::put_byte(output, end, b'\n')
 }

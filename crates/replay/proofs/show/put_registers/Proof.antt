@@ -7,10 +7,10 @@ use Rattle.replay.proofs.show.put_registers.Statement.{statement}
 use Rattle.replay.proofs.show.put_registers.Tie as tie
 
 abbrev Inv-loop : tie.InvT-loop
-Inv-loop output₀ at file end₀ i₀ output end i = (i ≤ 32) × (length output ≡ length output₀)
+Inv-loop output₀ at file end₀ n₀ output end n = (n ≤ 32) × (length output ≡ length output₀)
 
 abbrev μ-loop : tie.MeasureT-loop
-μ-loop output₀ at file end₀ i₀ output end i = 32 - i
+μ-loop output₀ at file end₀ n₀ output end n = 32 - n
 
 pub put-registers-spec : {M : Type 1} → statement M
 put-registers-spec =
@@ -21,9 +21,8 @@ put-registers-spec =
     (λ c. search needs)
     (λ c κs. search needs)
     (λ c. search needs)
-    (λ c. search needs)
-    (λ c. search needs)
-    (λ c. search needs)
+    (λ c κs. search needs)
+    (λ c κs. search needs)
     (λ c κs. search needs)
     (λ c. search needs)
     (λ c. search needs)
