@@ -13,7 +13,7 @@ use Rattle.access.specs.declared.transfer.Transfer.{Transfer}
 use Rattle.machine.specs.Rule.{moveRule, storedTaints}
 use Rattle.machine.specs.Machine.{Machine, machineOf, storedBytes, effectOf}
 use Rattle.machine.specs.Step.{Step, stopped, moved, Outcome, performed}
-use Rattle.machine.specs.Writing.{basedOf, loadsOf, Ended, ended, ends, told}
+use Rattle.machine.specs.route.Writing.{basedOf, loadsOf, Ended, ended, ends, told}
 use Rattle.machine.specs.declared.State.{State}
 use Rattle.machine.specs.declared.Shown.{Shown}
 use Rattle.machine.specs.declared.Decision.the-variants.{Passed, Wrote}

@@ -1,5 +1,5 @@
 pub mod Rule
 pub mod Machine
 pub mod Step
-pub mod Writing
 pub mod Tests
+pub mod route

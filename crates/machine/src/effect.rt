@@ -14,7 +14,7 @@ ghost use Rattle.memory.specs.Taints.{anyTainted, taintByte};
 ghost use Rattle.plan.specs.Admission.{totalOf};
 ghost use Rattle.machine.specs.Rule.{storedTaints};
 ghost use Rattle.machine.specs.Machine.{storedBytes, codeOf};
-ghost use Rattle.machine.specs.Writing.{basedOf, loadsOf};
+ghost use Rattle.machine.specs.route.Writing.{basedOf, loadsOf};
 
 // What a step sets in the register file, in this order: the base that is written back, which is then untainted, and
 // the two registers that are loaded. A number above 31 sets nothing.

@@ -1,6 +1,6 @@
 -- `machine::touched` meets its contract. Each way out is one law of proofs/Writing.antt. Assumes nothing.
 use mathlib.Core.Path.{sym, _∙_}
-use Rattle.machine.specs.Writing.{stateOf}
+use Rattle.machine.specs.route.Writing.{stateOf}
 use Rattle.machine.proofs.Writing.{no-register, store-writes, store-passes, load-writes}
 use borrow.Author.Needs.{needs}
 use Rattle.machine.proofs.touched.Statement.{statement}
