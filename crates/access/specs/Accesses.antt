@@ -14,6 +14,7 @@ use Rattle.instruction.specs.declared.operation.PairOp.{PairOp}
 use Rattle.instruction.specs.declared.operation.LiteralOp.{LiteralOp}
 use Rattle.instruction.specs.declared.operation.LiteralOp.the-variants.{LiteralWord, LiteralDouble, LiteralSignedWord, LiteralPrefetch}
 use Rattle.instruction.specs.Operations.{sizeOf, opcOf}
+use Rattle.instruction.specs.Decoding.{decodeOf}
 use Rattle.access.specs.declared.addressing.Addressing.{Addressing}
 use Rattle.access.specs.declared.Access.{Access}
 use Rattle.access.specs.declared.Access.the-variants.{Nothing, Moves}
@@ -52,3 +53,7 @@ familyAccess (Unsigned op o) = sizedAccess op (o .target) false (offsetMode (o .
 
 unfoldable pub accessOf : Instruction → Access
 accessOf i = familyAccess (i .family)
+
+-- the access of a word
+abbrev pub wordAccess : ℕ → Access
+wordAccess w = accessOf (decodeOf w .instruction)

@@ -17,11 +17,10 @@ use Rattle.instruction.specs.Undefined.{undefinedIn, undefined, allocated}
 use Rattle.instruction.specs.Unpredictable.{unpredictableIn, unpredictable}
 use Rattle.instruction.specs.Instructions.{familyIn, instructionOf}
 use Rattle.instruction.specs.Decoding.{decodeOf, classOf}
-use Rattle.access.specs.Accesses.{familyAccess, accessOf}
+use Rattle.access.specs.Accesses.{familyAccess, accessOf, wordAccess}
 use Rattle.plan.specs.declared.window.Window.{Window}
 use Rattle.plan.specs.Window.{badWindow}
 use Rattle.plan.specs.Admission.{admitOf}
-use Rattle.machine.specs.Rule.{wordAccess}
 use Rattle.machine.specs.Machine.{Machine}
 use Rattle.machine.specs.Step.{Step, stopped, bad, wordStep, stepOf}
 use Rattle.arm.specs.Real.{Real}

@@ -14,7 +14,7 @@ use Rattle.bits.specs.Choice.{pick}
 use Rattle.bits.specs.Fields.{part, field}
 use Rattle.bits.specs.Signed.{signedOf, twosComplement}
 use Rattle.bits.proofs.Offsets.{mul-pos}
-use Rattle.memory.specs.Extension.{largest, extendedOf}
+use Rattle.bits.specs.Extension.{largest, extendedOf}
 use Rattle.plan.specs.Address.{indexOf, shiftedOf}
 use Rattle.machine.proofs.Extensions.{two-256}
 use Rattle.arm.specs.Pseudocode.{Arm, X, ExtendReg, Replicate, Concat, SignExtend, ZeroExtend, LSL, Add}

@@ -14,7 +14,7 @@ use Rattle.bits.specs.Signed.{signedOf, twosComplement}
 use Rattle.bits.proofs.Choices.{neither}
 use Rattle.bits.proofs.Parts.{part-lt}
 use Rattle.registers.specs.File.{zeroSlot}
-use Rattle.memory.specs.Extension.{extendedOf}
+use Rattle.bits.specs.Extension.{extendedOf}
 use Rattle.instruction.specs.declared.row.Row.{Row}
 use Rattle.instruction.specs.declared.row.Row.the-variants.{LiteralRow, OrderedRow, UnscaledRow, PostRow, PreRow, RegisterRow, UnsignedRow}
 use Rattle.instruction.specs.Operations.{sizedAt, sizeOf, literalAt}
@@ -26,11 +26,10 @@ use Rattle.access.specs.declared.addressing.Addressing.{Addressing}
 use Rattle.access.specs.declared.Access.the-variants.{Moves}
 use Rattle.access.specs.Transfers.{literalTransfer}
 use Rattle.access.specs.Addressings.{based, shiftOf, indexedMode, literalMode}
-use Rattle.access.specs.Accesses.{sizedAccess, literalMoves, literalAccess, familyAccess}
+use Rattle.access.specs.Accesses.{sizedAccess, literalMoves, literalAccess, familyAccess, wordAccess}
 use Rattle.plan.specs.declared.window.Window.{Window}
 use Rattle.plan.specs.Address.{sumOf, indexOf, shiftedOf}
 use Rattle.plan.specs.Admission.{misaligned}
-use Rattle.machine.specs.Rule.{wordAccess}
 use Rattle.machine.specs.Machine.{Machine, operandsOf}
 use Rattle.arm.specs.Pseudocode.{Arm, LOAD, PREFETCH, Concat, SignExtend, ZeroExtend, LSL, Add, X, setX, base, Mem, ExtendReg, Operation, hint, loads, case}
 use Rattle.arm.specs.Unscaled.{unscaled}

@@ -16,7 +16,7 @@ use Rattle.bits.specs.Signed.{signedOf, twosComplement}
 use Rattle.bits.proofs.Choices.{neither}
 use Rattle.bits.proofs.Parts.{part-lt}
 use Rattle.registers.specs.File.{zeroSlot}
-use Rattle.memory.specs.Extension.{extendedOf}
+use Rattle.bits.specs.Extension.{extendedOf}
 use Rattle.instruction.specs.declared.row.Row.the-variants.{PairRow}
 use Rattle.instruction.specs.Operations.{pairAt, modeAt, pairBytes}
 use Rattle.instruction.specs.Undefined.{undefinedPair}
@@ -27,10 +27,9 @@ use Rattle.access.specs.declared.Access.{Access}
 use Rattle.access.specs.declared.Access.the-variants.{Moves}
 use Rattle.access.specs.Transfers.{pairTransfer}
 use Rattle.access.specs.Addressings.{based, pairedMode}
-use Rattle.access.specs.Accesses.{pairAccess, familyAccess}
+use Rattle.access.specs.Accesses.{pairAccess, familyAccess, wordAccess}
 use Rattle.plan.specs.declared.window.Window.{Window}
 use Rattle.plan.specs.Admission.{misaligned}
-use Rattle.machine.specs.Rule.{wordAccess}
 use Rattle.machine.specs.Machine.{Machine}
 use Rattle.arm.specs.Pseudocode.{Arm, LOAD, STORE, SignExtend, LSL, Add, X, setX, base, Mem, setMem, withRegisters, Operation, hint, loads, stores, case}
 use Rattle.arm.specs.Pair.{paired, pair}

@@ -9,7 +9,7 @@ use lib.ListN.{length, getD, set, replicate, length-set}
 use lib.Seq.{sets}
 use Rattle.bits.specs.Bytes.{bytesOf, joined, spanOf}
 use Rattle.bits.proofs.Choices.{pick-by}
-use Rattle.memory.specs.Extension.{largest, extendedOf}
+use Rattle.bits.specs.Extension.{largest, extendedOf}
 use Rattle.memory.proofs.Spans.{room-64}
 use Rattle.instruction.specs.declared.answer.Answer.{Answer}
 use Rattle.instruction.specs.Answers.{answerNumber}
@@ -23,7 +23,8 @@ use Rattle.plan.specs.declared.Plan.{Plan}
 use Rattle.plan.specs.Address.{sumOf, addressOf}
 use Rattle.plan.specs.Admission.{admitOf}
 use Rattle.plan.specs.Plans.{planOf}
-use Rattle.machine.specs.Rule.{moveRule, wordAccess}
+use Rattle.access.specs.Accesses.{wordAccess}
+use Rattle.machine.specs.Rule.{moveRule}
 use Rattle.machine.specs.Machine.{Machine, operandsOf, effectOf}
 use Rattle.machine.specs.Step.{Step, stopped, moved, performOf, accessStep, wordStep, bad, stepOf, performed}
 use Rattle.machine.proofs.Extensions.{room}

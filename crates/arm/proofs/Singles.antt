@@ -13,17 +13,16 @@ use Rattle.bits.specs.Choice.{pick}
 use Rattle.bits.specs.Fields.{part, field}
 use Rattle.bits.specs.Bytes.{bytesOf, joined, spanOf}
 use Rattle.registers.specs.File.{zeroSlot}
-use Rattle.memory.specs.Extension.{largest, extendedOf}
+use Rattle.bits.specs.Extension.{largest, extendedOf}
 use Rattle.instruction.specs.declared.row.Row.{Row}
 use Rattle.instruction.specs.Operations.{sizedAt}
 use Rattle.access.specs.declared.addressing.Addressing.{Addressing}
 use Rattle.access.specs.declared.Access.the-variants.{Moves}
 use Rattle.access.specs.Transfers.{extentOf, sizedTransfer}
-use Rattle.access.specs.Accesses.{isPrefetch, sizedAccess}
+use Rattle.access.specs.Accesses.{isPrefetch, sizedAccess, wordAccess}
 use Rattle.plan.specs.declared.window.Window.{Window}
 use Rattle.plan.specs.Address.{sumOf, addressOf}
 use Rattle.plan.specs.Admission.{misaligned}
-use Rattle.machine.specs.Rule.{wordAccess}
 use Rattle.machine.specs.Machine.{Machine, operandsOf}
 use Rattle.arm.specs.Pseudocode.{Arm, MemOp, LOAD, STORE, PREFETCH, Extend, X, setX, setSP, setBase, Mem, setMem, withRegisters, Operation, hint, loads, stores, case}
 use Rattle.arm.specs.Pages.{pageOf}

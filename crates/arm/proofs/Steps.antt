@@ -20,7 +20,8 @@ use Rattle.plan.specs.Address.{sumOf, addressOf}
 use Rattle.plan.specs.Admission.{totalOf, misaligned, outside, guarded, admitOf}
 use Rattle.plan.specs.Plans.{admitted, planOf}
 use Rattle.plan.proofs.Tests.{same-test}
-use Rattle.machine.specs.Rule.{moveRule, wordAccess}
+use Rattle.access.specs.Accesses.{wordAccess}
+use Rattle.machine.specs.Rule.{moveRule}
 use Rattle.machine.specs.Machine.{Machine, operandsOf, basedValues, loadedValues, storedBytes, effectOf, codeOf}
 use Rattle.machine.specs.Step.{Step, stopped, moved, performOf, accessStep}
 use Rattle.arm.specs.Pseudocode.{Arm, Operation, loads, stores}

@@ -2,3 +2,4 @@ pub mod Choice
 pub mod Fields
 pub mod Signed
 pub mod Bytes
+pub mod Extension

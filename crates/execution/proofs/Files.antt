@@ -17,7 +17,8 @@ use Rattle.plan.specs.declared.Plan.{Plan}
 use Rattle.plan.specs.declared.Plan.the-variants.{Refuse, Touch}
 use Rattle.plan.specs.Admission.{admitOf}
 use Rattle.plan.specs.Plans.{planOf}
-use Rattle.machine.specs.Rule.{moveRule, wordAccess}
+use Rattle.access.specs.Accesses.{wordAccess}
+use Rattle.machine.specs.Rule.{moveRule}
 use Rattle.machine.specs.Machine.{Machine, operandsOf, effectOf}
 use Rattle.machine.specs.Step.{Step, performOf, accessStep, wordStep, bad, stepOf}
 use Rattle.machine.proofs.Taints.{Follows}

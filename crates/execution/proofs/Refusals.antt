@@ -27,7 +27,8 @@ use Rattle.plan.specs.declared.Plan.the-variants.{Refuse, Touch}
 use Rattle.plan.specs.Window.{badWindow}
 use Rattle.plan.specs.Admission.{admitOf}
 use Rattle.plan.specs.Plans.{planOf}
-use Rattle.machine.specs.Rule.{wordAccess, moveRule, storedTaints}
+use Rattle.access.specs.Accesses.{wordAccess}
+use Rattle.machine.specs.Rule.{moveRule, storedTaints}
 use Rattle.machine.specs.Machine.{Machine, operandsOf, nextPc, storedBytes, effectOf}
 use Rattle.machine.specs.Step.{Step, stopped, moved, performOf, accessStep, wordStep, bad, stepOf, performed}
 use Rattle.machine.specs.Tests.{accessTests, lowest}

@@ -25,7 +25,7 @@ use Rattle.plan.specs.Address.{sumOf, addressOf}
 use Rattle.plan.specs.Admission.{totalOf, misaligned, outside, guarded, admitOf}
 use Rattle.plan.specs.Plans.{planOf}
 use Rattle.plan.proofs.Tests.{plan-tainted}
-use Rattle.machine.specs.Rule.{wordAccess}
+use Rattle.access.specs.Accesses.{wordAccess}
 use Rattle.machine.specs.Machine.{Machine, operandsOf}
 use Rattle.machine.specs.Step.{Step, stopped, moved, performOf, accessStep, wordStep, bad, stepOf, performed}
 use Rattle.machine.specs.Tests.{accessTests, tests, lowest}

@@ -5,7 +5,7 @@ use native.Mathlib.Nat.{pow-suc, pow-le-pow-right, mul-suc, one-mul}
 use native.Mathlib.Omega.{arith}
 use lib.Dec.{lit<}
 use lib.Pow.{pow-add, pow-pos, shl-exact}
-use Rattle.memory.specs.Extension.{largest}
+use Rattle.bits.specs.Extension.{largest}
 
 pub two-256 : (n : ℕ) → 2 ^ (8 * n) ≡ 256 ^ n
 two-256 zero = refl

@@ -22,7 +22,8 @@ use Rattle.plan.specs.declared.Plan.{Plan}
 use Rattle.plan.specs.declared.Plan.the-variants.{Refuse, Touch}
 use Rattle.plan.specs.Admission.{admitOf}
 use Rattle.plan.specs.Plans.{planOf}
-use Rattle.machine.specs.Rule.{Taints, moveRule, ruleOf, wordAccess, wordRule}
+use Rattle.access.specs.Accesses.{wordAccess}
+use Rattle.machine.specs.Rule.{Taints, moveRule, ruleOf, wordRule}
 use Rattle.machine.specs.Machine.{Machine, operandsOf, effectOf}
 use Rattle.machine.specs.Step.{Step, stopped, moved, performOf, accessStep, wordStep, bad, stepOf}
 

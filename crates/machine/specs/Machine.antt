@@ -6,7 +6,7 @@ use lib.ListN.{set, getD}
 use lib.Seq.{sets}
 use Rattle.bits.specs.Choice.{pick}
 use Rattle.bits.specs.Bytes.{bytesOf, joined, spanOf}
-use Rattle.memory.specs.Extension.{extendedOf}
+use Rattle.bits.specs.Extension.{extendedOf}
 use Rattle.access.specs.declared.transfer.Transfer.{Transfer}
 use Rattle.access.specs.declared.addressing.Addressing.{Addressing}
 use Rattle.plan.specs.declared.address.Operands.{Operands}

@@ -6,13 +6,12 @@ use mathlib.Core.List.{List}
 use lib.ListN.{set, getD, replicate}
 use lib.Seq.{sets}
 use Rattle.bits.specs.Choice.{pick}
-use Rattle.instruction.specs.Decoding.{decodeOf}
 use Rattle.bits.specs.Bytes.{spanOf}
 use Rattle.memory.specs.Taints.{anyTainted, taintByte}
 use Rattle.access.specs.declared.transfer.Transfer.{Transfer}
 use Rattle.access.specs.declared.Access.{Access}
 use Rattle.access.specs.declared.Access.the-variants.{Nothing, Moves}
-use Rattle.access.specs.Accesses.{accessOf}
+use Rattle.access.specs.Accesses.{wordAccess}
 
 -- 01's marks: of X0 to X30 and SP, and of the bytes of memory
 pub record Taints : Type 0 where
@@ -43,10 +42,6 @@ moveRule t written at p =
 abbrev pub ruleOf : Access → ℕ → Taints → Taints
 ruleOf Nothing at p = p
 ruleOf (Moves t a) at p = moveRule t (a .written) at p
-
--- the access of a word
-abbrev pub wordAccess : ℕ → Access
-wordAccess w = accessOf (decodeOf w .instruction)
 
 -- the rule for a word and an address, in memory whose first byte has address origin
 abbrev pub wordRule : ℕ → ℕ → ℕ → Taints → Taints

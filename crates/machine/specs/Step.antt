@@ -19,7 +19,7 @@ use Rattle.plan.specs.declared.Plan.the-variants.{Refuse, Touch}
 use Rattle.plan.specs.Window.{badWindow}
 use Rattle.plan.specs.Admission.{admitOf}
 use Rattle.plan.specs.Plans.{planOf}
-use Rattle.machine.specs.Rule.{wordAccess}
+use Rattle.access.specs.Accesses.{wordAccess}
 use Rattle.machine.specs.Machine.{Machine, machineOf, operandsOf, passedOver, effectOf, codeOf}
 use Rattle.machine.specs.declared.Stepped.{Stepped}
 

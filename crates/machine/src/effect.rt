@@ -9,7 +9,7 @@ ghost use lib.Dec.{ltb};
 ghost use lib.ListN.{length, getD, replicate};
 ghost use lib.Seq.{sets};
 ghost use Rattle.bits.specs.Bytes.{bytesOf, joined, spanOf};
-ghost use Rattle.memory.specs.Extension.{extendedOf};
+ghost use Rattle.bits.specs.Extension.{extendedOf};
 ghost use Rattle.memory.specs.Taints.{anyTainted, taintByte};
 ghost use Rattle.plan.specs.Admission.{totalOf};
 ghost use Rattle.machine.specs.Rule.{storedTaints};

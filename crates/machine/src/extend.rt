@@ -1,7 +1,7 @@
 // Numbers extended with their sign.
 ghost use mathlib.Core.Path.{_≡_};
 ghost use Prim.Native.Nat.{_^_, _<_, _≤_};
-ghost use Rattle.memory.specs.Extension.{largest, extendedOf};
+ghost use Rattle.bits.specs.Extension.{largest, extendedOf};
 
 // The sign of a number of n bytes is copied up to the extent.
 pub fn extended(number: u64, n: u32, extent: u32) -> u64

@@ -1,2 +1,1 @@
-pub mod Extension
 pub mod Taints

@@ -2,7 +2,7 @@
 use Prim.Native.Nat.{ℕ, _+_, _*_, _%_, _^_}
 use lib.Dec.{eqb}
 use Rattle.bits.specs.Choice.{pick}
-use Rattle.memory.specs.Extension.{extendedOf}
+use Rattle.bits.specs.Extension.{extendedOf}
 use Rattle.access.specs.declared.addressing.Addressing.{Addressing}
 use Rattle.plan.specs.declared.address.Operands.{Operands}
 

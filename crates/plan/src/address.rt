@@ -3,7 +3,7 @@ use access::Addressing;
 ghost use mathlib.Core.Path.{_≡_};
 ghost use Prim.Native.Nat.{_<_, _^_};
 ghost use Rattle.bits.specs.Choice.{pick};
-ghost use Rattle.memory.specs.Extension.{extendedOf};
+ghost use Rattle.bits.specs.Extension.{extendedOf};
 ghost use Rattle.plan.specs.Address.{indexOf, shiftedOf, sumOf};
 
 // What an access reads to form its address, and whether a register of it is tainted.

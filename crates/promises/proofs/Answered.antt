@@ -20,7 +20,7 @@ use Rattle.access.specs.declared.Access.the-variants.{Nothing, Moves}
 use Rattle.plan.specs.declared.window.Window.{Window}
 use Rattle.plan.specs.Address.{addressOf}
 use Rattle.plan.specs.Admission.{totalOf, misaligned, outside, guarded}
-use Rattle.machine.specs.Rule.{wordAccess}
+use Rattle.access.specs.Accesses.{wordAccess}
 use Rattle.machine.specs.Machine.{Machine, operandsOf}
 use Rattle.machine.specs.Step.{Outcome, bad, stepOf, performed}
 use Rattle.machine.specs.Tests.{accessTests, lowest}

@@ -14,7 +14,7 @@ use Rattle.instruction.specs.declared.answer.Answer.the-variants.{BadWindow}
 use Rattle.instruction.specs.Answers.{answerNumber}
 use Rattle.instruction.specs.Decoding.{classOf}
 use Rattle.bits.specs.Bytes.{joined, spanOf}
-use Rattle.memory.specs.Extension.{extendedOf}
+use Rattle.bits.specs.Extension.{extendedOf}
 use Rattle.memory.specs.Taints.{taintByte, anyTainted}
 use Rattle.access.specs.declared.transfer.Transfer.{Transfer}
 use Rattle.access.specs.declared.addressing.Addressing.{Addressing}
@@ -26,7 +26,8 @@ use Rattle.plan.specs.declared.Plan.the-variants.{Refuse, Touch}
 use Rattle.plan.specs.Admission.{totalOf, admitOf}
 use Rattle.plan.specs.Plans.{planOf}
 use Rattle.plan.proofs.Tests.{plan-tainted, touch-admitted, same-lengths}
-use Rattle.machine.specs.Rule.{moveRule, wordAccess}
+use Rattle.access.specs.Accesses.{wordAccess}
+use Rattle.machine.specs.Rule.{moveRule}
 use Rattle.machine.specs.Machine.{Machine, operandsOf, effectOf}
 use Rattle.machine.specs.Step.{stopped, performOf, accessStep, wordStep, bad, stepOf}
 use Rattle.secrecy.specs.Agree.{Shows}

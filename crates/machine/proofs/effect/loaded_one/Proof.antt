@@ -2,7 +2,7 @@
 use Prim.Native.Nat.{min}
 use mathlib.Core.Path.{_≡_}
 use native.Mathlib.Omega.{arith}
-use Rattle.memory.specs.Extension.{largest, extendedOf}
+use Rattle.bits.specs.Extension.{largest, extendedOf}
 use Rattle.bits.specs.Bytes.{joined, spanOf}
 use Rattle.memory.specs.Taints.{anyTainted}
 use Rattle.memory.proofs.Spans.{span-back}

@@ -1,7 +1,7 @@
 -- `machine::extend::extended` meets its contract. Assumes nothing.
 use native.Mathlib.Omega.{arith}
 use borrow.Author.Tests.{lt-ltb, le-ltb}
-use Rattle.memory.specs.Extension.{extendedOf}
+use Rattle.bits.specs.Extension.{extendedOf}
 use Rattle.machine.proofs.Extensions.{room}
 use borrow.Author.Needs.{needs}
 use Rattle.machine.proofs.extend.extended.Statement.{statement}

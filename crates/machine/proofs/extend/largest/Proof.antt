@@ -1,5 +1,5 @@
 -- `machine::extend::largest` meets its contract. Assumes nothing.
-use Rattle.memory.specs.Extension.{largest}
+use Rattle.bits.specs.Extension.{largest}
 use native.Mathlib.Omega.{arith}
 use Prim.Native.Nat.{_<_}
 use Rattle.machine.proofs.Extensions.{shifted, shifted-positive}

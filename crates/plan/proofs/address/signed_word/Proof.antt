@@ -1,6 +1,6 @@
 -- `plan::address::signed_word` meets its contract. Assumes nothing.
 use borrow.Author.Tests.{lt-ltb, le-ltb}
-use Rattle.memory.specs.Extension.{largest, extendedOf}
+use Rattle.bits.specs.Extension.{largest, extendedOf}
 use borrow.Author.Needs.{needs}
 use Rattle.plan.proofs.address.signed_word.Statement.{statement}
 use Rattle.plan.proofs.address.signed_word.Tie as tie
