@@ -12,6 +12,7 @@ use Rattle.access.specs.declared.transfer.Transfer.{Transfer}
 use Rattle.machine.specs.Machine.{Machine, machineOf, nextPc}
 use Rattle.machine.specs.Step.{Step, stopped, moved}
 use Rattle.machine.specs.declared.State.{State}
+use Rattle.machine.specs.declared.Shown.{Shown}
 use Rattle.machine.specs.declared.Decision.{Decision}
 use Rattle.machine.specs.declared.Decision.the-variants.{Refused, Passed, Wrote}
 use Rattle.machine.specs.declared.effect.Writes.{Writes}
@@ -66,8 +67,11 @@ ended m (moved n code address) = record { step = moved n code address; machine =
 abbrev pub ends : (Machine → Step Machine) → Machine → Ended
 ends f m = ended m (f m)
 
+abbrev pub movedTo : State → Shown → List ℕ → List ℕ → Ended
+movedTo s shown memory taint = record { step = moved (machineOf s memory taint) (shown .code) (shown .address); machine = machineOf s memory taint }
+
 -- what a decision comes to with the second half, and with the memory and the taint bytes that the first has left
 abbrev pub told : State → Decision → List ℕ → List ℕ → Ended
 told s (Refused answer address) memory taint = record { step = stopped answer address; machine = machineOf s memory taint }
-told s (Passed shown) memory taint = record { step = moved (machineOf (passedOn s) memory taint) (shown .code) (shown .address); machine = machineOf (passedOn s) memory taint }
-told s (Wrote shown w) memory taint = record { step = moved (machineOf (settledOf w s) memory taint) (shown .code) (shown .address); machine = machineOf (settledOf w s) memory taint }
+told s (Passed shown) memory taint = movedTo (passedOn s) shown memory taint
+told s (Wrote shown w) memory taint = movedTo (settledOf w s) shown memory taint
