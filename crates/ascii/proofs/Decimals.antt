@@ -41,17 +41,25 @@ dec-four n h k =
     let f : n / 10 / 100 ≡ n / 1000 = omega arith in
     rw (dec-more n (omega arith) (omega arith), dec-three (n / 10) (omega arith) (omega arith), e, f)
 
-short-step : (f m d : ℕ) (l : List ℕ) (b : Bool) → length l ≤ f → length (pick b (m ∷ []) (l ++ (d ∷ []))) ≤ suc f
-short-step f m d l true h = omega arith
-short-step f m d l false h = omega (arith, length-append l (d ∷ []))
+-- ---- how many digits there are, by the power of ten that the number is below
 
-short : (f n : ℕ) → length (digits f n) ≤ f
-short zero n = omega arith
-short (suc f) n = short-step f (48 + n) (48 + n % 10) (digits f (n / 10)) (ltb n 10) (short f (n / 10))
+one-digit : (f n : ℕ) → n < 10 → length (digits f n) ≤ 1
+one-digit zero n h = omega arith
+one-digit (suc f) n h = simp (lt-ltb n 10 h) (omega arith)
 
-pub dec-short : (n : ℕ) → length (dec n) ≤ 20
+next-digit : (k m d : ℕ) (l : List ℕ) (b : Bool) → length l ≤ k → length (pick b (m ∷ []) (l ++ (d ∷ []))) ≤ suc k
+next-digit k m d l true h = omega arith
+next-digit k m d l false h = omega (arith, length-append l (d ∷ []))
+
+few-digits : (k f n : ℕ) → n < 10 ^ suc k → length (digits f n) ≤ suc k
+few-digits zero f n h = one-digit f n (omega arith)
+few-digits (suc k) zero n h = omega arith
+few-digits (suc k) (suc f) n h =
+    next-digit (suc k) (48 + n) (48 + n % 10) (digits f (n / 10)) (ltb n 10) (few-digits k f (n / 10) (omega (arith, pow-suc 10 (suc k))))
+
+pub dec-short : (k n : ℕ) → n < 10 ^ suc k → length (dec n) ≤ suc k
 unfolding dec
-dec-short n = short 20 n
+dec-short k n h = few-digits k 20 n h
 
 -- ---- signed numbers, by the sign; y is the number z after it was passed to a function
 

@@ -5,7 +5,7 @@ use mathlib.Core.Bool.{Bool, true, false, _&&_, not}
 use mathlib.Core.List.{List, [], _∷_, _++_, append-assoc}
 use native.Mathlib.Numerals.{add-one, add-two, add-three, add-four}
 use native.Mathlib.Omega.{arith}
-use borrow.Author.Tests.{le-ltb, le-leb, lt-leb, leb-true, leb-false}
+use borrow.Author.Tests.{ne-eqb, le-ltb, le-leb, lt-leb, leb-true, leb-false}
 use lib.Dec.{eqb, leb}
 use lib.ListN.{length, take, drop, getD, length-append, length-drop}
 use lib.Seq.{drop-cons}
@@ -19,13 +19,13 @@ use Rattle.instruction.specs.Unpredictable.{unpredictable}
 use Rattle.instruction.specs.Undefined.{undefined, allocated}
 use Rattle.instruction.specs.Instructions.{instructionOf}
 use Rattle.instruction.specs.Decoding.{decodeOf, classOf, empty}
-use Rattle.text.specs.Texts.{textOf}
+use Rattle.text.specs.Texts.{textOf, textMost}
 use Rattle.ascii.specs.Ascii.{asc}
 use Rattle.ascii.specs.route.Puts.{Puts}
 use Rattle.text.specs.Writing.{Outcome, wordText, copied}
-use Rattle.text.proofs.Lengths.{word-text-short}
+use Rattle.text.proofs.Lengths.{text-short}
 use Rattle.ascii.proofs.Pieces.{after, nothing}
-use Rattle.listing.specs.Listing.{hex4, hex8, contentText, answerText, lineText, shortText, wordOf, listingOf, listOf}
+use Rattle.listing.specs.Listing.{hex4, hex8, contentText, answerText, lineText, shortText, lineMost, Within, wordOf, listingOf, listOf}
 use Rattle.listing.specs.route.Words.{wordAt}
 
 -- ---- the next word
@@ -92,42 +92,63 @@ ends {p = p} {a = a} {d = d} {e = e} h k = rw (append-assoc p (a ∷ []) (d ∷ 
 
 -- ---- lengths
 
-content-short : (b : Bool) (t : List ℕ) → length t ≤ 106 → length (pick b t (asc "-")) ≤ 106
-content-short true t h = h
-content-short false t h = omega arith
+content-short : (w : ℕ) → (b : Bool) → allocated w ≡ b → length (pick b (wordText w) (asc "-")) ≤ textMost
+content-short w true e = text-short w e
+content-short w false e = omega arith
 
-pub line-short : (w : ℕ) → length (lineText w) ≤ 128
+-- the line of a word
+pub line-within : (w : ℕ) → Within lineMost (lineText w)
 unfolding lineText hex8 hex4 contentText answerText
-line-short w =
-    omega (
-      arith,
-      content-short (allocated w) (wordText w) (word-text-short w),
-      length-append (hex8 w ++ (9 ∷ []) ++ contentText w) (9 ∷ []),
-      length-append (hex8 w ++ (9 ∷ [])) (contentText w),
-      length-append (hex8 w ++ (9 ∷ []) ++ contentText w ++ (9 ∷ [])) (answerText w),
-    )
+line-within w =
+    let front = hex8 w ++ (9 ∷ []) in
+    let fields = front ++ contentText w ++ (9 ∷ []) in
+    let digit = (48 + answerNumber (classOf w)) ∷ [] in
+    record {
+      line = fields ++ digit;
+      ended = sym (append-assoc fields digit (10 ∷ []));
+      short =
+          omega (
+            arith,
+            content-short w (allocated w) refl,
+            length-append front (contentText w),
+            length-append (front ++ contentText w) (9 ∷ []),
+            length-append fields digit,
+          );
+    }
 
-short-most : (n : ℕ) (b : Bool) → length (pick b [] (asc "short" ++ (9 ∷ 45 ∷ 9 ∷ []) ++ ((48 + n) ∷ 10 ∷ []))) ≤ 128
-short-most n true = omega arith
-short-most n false = omega arith
-
-short-short : (n : ℕ) → length (shortText n) ≤ 128
+-- the line of bytes that are left over
+pub short-within : (n : ℕ) → Within lineMost (shortText (suc n))
 unfolding shortText
-short-short n = short-most n (eqb n 0)
+short-within n =
+    record { line = asc "short" ++ (9 ∷ 45 ∷ 9 ∷ []) ++ ((48 + suc n) ∷ []); ended = simp (ne-eqb (suc n) 0 (λ e. omega (arith, e))); short = omega arith }
 
-listing-most : (bs : List ℕ) → length (listingOf bs) ≤ (length bs / 4 + 1) * 128
-listing-most [] = omega (arith, short-short 0)
-listing-most (a ∷ []) = omega (arith, short-short 1)
-listing-most (a ∷ b ∷ []) = omega (arith, short-short 2)
-listing-most (a ∷ b ∷ c ∷ []) = omega (arith, short-short 3)
+pub line-short : (w : ℕ) → length (lineText w) ≤ suc lineMost
+line-short w =
+    let l = line-within w in
+    omega (arith, ap length (l .ended), length-append (l .line) (10 ∷ []), l .short)
+
+short-by : (n : ℕ) (b : Bool) → length (pick b [] (asc "short" ++ (9 ∷ 45 ∷ 9 ∷ []) ++ ((48 + n) ∷ 10 ∷ []))) ≤ 10
+short-by n true = omega arith
+short-by n false = omega arith
+
+short-most : (n : ℕ) → length (shortText n) ≤ 10
+unfolding shortText
+short-most n = short-by n (eqb n 0)
+
+-- the longest line for each word, and the `short` line
+pub listing-most : (bs : List ℕ) → length (listingOf bs) ≤ length bs / 4 * suc lineMost + 10
+listing-most [] = omega (arith, short-most 0)
+listing-most (a ∷ []) = omega (arith, short-most 1)
+listing-most (a ∷ b ∷ []) = omega (arith, short-most 2)
+listing-most (a ∷ b ∷ c ∷ []) = omega (arith, short-most 3)
 listing-most (a ∷ b ∷ c ∷ d ∷ rest) =
     omega (arith, listing-most rest, line-short (wordOf a b c d), length-append (lineText (wordOf a b c d)) (listingOf rest))
 
-pub enough : (bs : List ℕ) (room : ℕ) → length bs / 4 < room / 128 → leb (length (listingOf bs)) room ≡ true
-enough bs room h = le-leb (length (listingOf bs)) room (omega (arith, listing-most bs))
+pub enough : (bs : List ℕ) (room : ℕ) → 10 ≤ room → length bs / 4 ≤ (room - 10) / suc lineMost → leb (length (listingOf bs)) room ≡ true
+enough bs room h k = le-leb (length (listingOf bs)) room (omega (arith, listing-most bs))
 
--- what is listed where there is room for the longest line for each word, and for one more
-pub room-listed : (bs output : List ℕ) {r : Outcome} → r ≡ listOf bs output → length bs / 4 < length output / 128 → (answerNumber (r .answer) ≡ 0) × (take (r .length) (r .buffer) ≡ listingOf bs)
+-- what is listed where there is room for as much
+pub room-listed : (bs output : List ℕ) {r : Outcome} → r ≡ listOf bs output → length bs / 4 * suc lineMost + 10 ≤ length output → (answerNumber (r .answer) ≡ 0) × (take (r .length) (r .buffer) ≡ listingOf bs)
 unfolding listOf copied
 room-listed bs output e h =
     let fits : length (listingOf bs) ≤ length output = omega (arith, listing-most bs) in

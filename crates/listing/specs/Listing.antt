@@ -1,5 +1,6 @@
 -- The listing of a run of bytes: 01, "Lines of text". Fields are parted by tabs, byte 9, and lines end in a newline, byte 10.
-use Prim.Native.Nat.{ℕ, _+_, _*_, _/_, _%_}
+use Prim.Native.Nat.{ℕ, _+_, _*_, _/_, _%_, _≤_}
+use mathlib.Core.Path.{_≡_}
 use mathlib.Core.List.{List, [], _∷_, _++_}
 use lib.Dec.{eqb}
 use lib.ListN
@@ -8,6 +9,7 @@ use Rattle.instruction.specs.Answers.{answerNumber}
 use Rattle.instruction.specs.Undefined.{allocated}
 use Rattle.instruction.specs.Decoding.{classOf}
 use Rattle.ascii.specs.Ascii.{asc}
+use Rattle.text.specs.Texts.{textMost}
 use Rattle.text.specs.Writing.{wordText, Outcome, copied}
 use Rattle.listing.specs.declared.Listed.{Listed}
 
@@ -36,6 +38,16 @@ lineText w = hex8 w ++ (9 ∷ []) ++ contentText w ++ (9 ∷ []) ++ answerText w
 -- the line of n bytes that are left over, none for no bytes
 unfoldable pub shortText : ℕ → List ℕ
 shortText n = pick (eqb n 0) [] (asc "short" ++ (9 ∷ 45 ∷ 9 ∷ []) ++ ((48 + n) ∷ 10 ∷ []))
+
+-- the most bytes that a line has without its newline: eight digits, a text, an answer, and two tabs between them (02, CR 4)
+abbrev pub lineMost : ℕ
+lineMost = textMost + 11
+
+-- a line of at most so many bytes, and its newline
+pub record Within (most : ℕ) (t : List ℕ) : Type 0 where
+  pub line : List ℕ
+  pub ended : t ≡ line ++ (10 ∷ [])
+  pub short : ListN.length line ≤ most
 
 -- four bytes as a little-endian word
 unfoldable pub wordOf : ℕ → ℕ → ℕ → ℕ → ℕ

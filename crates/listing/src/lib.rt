@@ -2,6 +2,7 @@
 mod line;
 
 use instruction::Answer;
+use text::TEXT_MAX;
 ghost use mathlib.Core.Path.{_≡_};
 ghost use Prim.Native.Nat.{_<_};
 ghost use lib.Dec.{leb};
@@ -9,6 +10,12 @@ ghost use lib.ListN.{length};
 ghost use Rattle.ascii.specs.route.Puts.{Puts};
 ghost use Rattle.listing.specs.Listing.{listingOf, outcome, listOf};
 ghost use Rattle.listing.specs.route.Words.{wordAt};
+
+// The most bytes of a word's line with its newline (`lineMost`): its text, and twelve others.
+pub const LINE_MAX: usize = TEXT_MAX + 12;
+
+// The bytes of a `short` line with its newline.
+const SHORT_MAX: usize = 10;
 
 // What listing returns. The length is 0 where it is refused.
 pub struct Listed {
@@ -46,12 +53,15 @@ fn put_listing(output: &mut [u8], bytes: &[u8]) -> usize
     line::put_short(output, next, bytes.len() - at)
 }
 
-// No line is longer than 128 bytes, so that an output of that for each is large enough without a look at them.
+// An output with room for the longest line of each word, and for the line of bytes left over, is large enough
+// without a look at them.
 fn fits(bytes: &[u8], room: usize) -> bool
     ensures { λ r. ⌜ r ≡ leb (length (listingOf (now (bytes .entry)))) room ⌝ }
 {
-    if bytes.len() / 4 < room / 128 {
-        return true;
+    if room >= SHORT_MAX {
+        if bytes.len() / 4 <= (room - SHORT_MAX) / LINE_MAX {
+            return true;
+        }
     }
     measured(bytes, room)
 }

@@ -1,4 +1,5 @@
 // One line of a listing, put into an output at a position.
+use crate::LINE_MAX;
 ghost use mathlib.Core.Path.{_≡_};
 ghost use lib.ListN.{length};
 ghost use Prim.Native.Nat.{_<_, _%_, _^_};
@@ -90,7 +91,7 @@ pub fn put_short(output: &mut [u8], at: usize, count: usize) -> usize
 pub fn line_length(word: u32) -> usize
     ensures { λ r. ⌜ r ≡ length (lineText word) ⌝ }
 {
-    let mut line = [0u8; 192];
+    let mut line = [0u8; LINE_MAX];
     put_line(&mut line, 0, word)
 }
 

@@ -1,4 +1,4 @@
--- The demands hold, by the theorems of the crates below and by the cases of their tests. Assumes nothing.
+-- The demands and requests hold, by the theorems of the crates below and by the cases of their tests. Assumes nothing.
 use Prim.Native.Nat.{ℕ}
 use mathlib.Core.Path.{_≡_, refl, sym, ap, _∙_}
 use mathlib.Core.Bool.{Bool, true, false, not, _&&_}
@@ -38,8 +38,10 @@ use Rattle.arm.proofs.Reals.{step-real, cleared, cleared-real}
 use Rattle.encoder.proofs.RoundTrip.{encode-exact}
 use Rattle.text.specs.Writing.{Outcome, wordText, copied, writeOf}
 use Rattle.text.proofs.Examples.{starred-examples}
+use Rattle.text.proofs.Lengths.{text-short, text-reached}
 use Rattle.listing.specs.Listing.{listingOf, listOf}
-use Rattle.listing.proofs.Examples.{listing-example}
+use Rattle.listing.proofs.Examples.{listing-example, line-reached}
+use Rattle.listing.proofs.Steps.{line-within, short-within}
 use Rattle.reader.specs.declared.Reading.{Reading}
 use Rattle.reader.specs.Reading.{LineOf, ReadOf}
 use Rattle.reader.proofs.RoundTrip.{read-once}
@@ -49,7 +51,7 @@ use Rattle.host.specs.Hosting.{hostRun}
 use Rattle.host.proofs.Runs.{refused-unchanged as refused-calls}
 use Rattle.host.proofs.Secrecy.{hosted-taints, hosted-same}
 use Rattle.promises.specs.Answered.{oneOf}
-use Rattle.promises.specs.Demands.{Demand1, Demand2, Demand3, Library}
+use Rattle.promises.specs.Demands.{Demand1, Demand2, Demand3, Library, Requests}
 use Rattle.promises.proofs.Answered.{by-definition, lowest-of-2, lowest-of-3, first-of-3, ten-or-none, step-number, run-number, encode-number, read-answered, call-number, word-answered}
 
 decode-answer : (member wrong : Bool) → answerNumber (pick member (pick wrong Undefined Done) NotInSet) ≡ lowest 2 (not member ∷ wrong ∷ [])
@@ -220,4 +222,14 @@ library =
       early = refused-calls;
       two-calls = λ w words registers flags memory taint trace others raised bytes marks trail h many wide room. hosted-same w words registers flags memory taint trace others raised bytes marks trail h many wide room;
       marks-at-end = hosted-taints;
+    }
+
+pub requests : Requests
+requests =
+    record {
+      text-most = text-short;
+      text-reached = text-reached;
+      line-most = line-within;
+      short-most = short-within;
+      line-reached = line-reached;
     }

@@ -1,7 +1,8 @@
--- The three demands on Milestarling, each as one theorem over the definitions, sentence by sentence. A reader who
--- trusts the definitions that are named here needs no other page. The contracts of the public functions say that the
--- code returns and leaves what these definitions say, on any input: no function has a condition to meet.
-use Prim.Native.Nat.{ℕ, _*_}
+-- The three demands on Milestarling, each as one theorem over the definitions, sentence by sentence, and the requests
+-- that followed. A reader who trusts the definitions that are named here needs no other page. The contracts of the public
+-- functions say that the code returns and leaves what these definitions say, on any input: no function has a condition
+-- to meet.
+use Prim.Native.Nat.{ℕ, suc, _*_, _≤_}
 use mathlib.Core.Path.{_≡_}
 use mathlib.Core.Bool.{true, false, not}
 use mathlib.Core.List.{List, [], _∷_}
@@ -37,10 +38,10 @@ use Rattle.execution.specs.Secrecy.{Same, ShowsRun}
 use Rattle.arm.specs.Choices.{badStart, armStep}
 use Rattle.arm.specs.Real.{Real}
 use Rattle.encoder.specs.Exact.{Exact}
-use Rattle.text.specs.Texts.{textOf}
+use Rattle.text.specs.Texts.{textOf, textMost}
 use Rattle.text.specs.Writing.{wordText, writeOf}
 use Rattle.text.specs.Examples.{Holds, examples}
-use Rattle.listing.specs.Listing.{listingOf, listOf}
+use Rattle.listing.specs.Listing.{lineText, shortText, lineMost, Within, listingOf, listOf}
 use Rattle.listing.specs.Examples.{exampleBytes, exampleLines}
 use Rattle.reader.specs.declared.Reading.{Reading}
 use Rattle.reader.specs.Reading.{LineOf, ReadOf}
@@ -167,3 +168,14 @@ pub record Library : Type 0 where
   pub marks-at-end : (w : Window) (words registers flags memory taint trace : List ℕ)
       → let ran = hostRun w words registers flags memory taint trace in
       machineLeft ran .taints ≡ afterSteps (wordRule (w .origin)) words (ran .trace) (ran .reply .steps) (machineIn registers flags memory taint .taints)
+
+-- The requests of document 02, in its words
+pub record Requests : Type 0 where
+  -- CR 4: "Promise that no allocated word's text is longer than 30 bytes and show a word that reaches it"
+  pub text-most : (word : ℕ) → allocated word ≡ true → ListN.length (wordText word) ≤ textMost
+  pub text-reached : (allocated 0x38aa594a ≡ true) × (ListN.length (wordText 0x38aa594a) ≡ textMost)
+  -- "A listing line then needs at most 41 bytes without its newline": a word's, whatever its answer, and a `short` line
+  pub line-most : (word : ℕ) → Within lineMost (lineText word)
+  pub short-most : (n : ℕ) → Within lineMost (shortText (suc n))
+  -- and the line of that word needs them, with one more for its newline
+  pub line-reached : ListN.length (lineText 0x38aa594a) ≡ suc lineMost

@@ -5,10 +5,13 @@ use mathlib.Core.Bool.{Bool, true, false}
 use mathlib.Core.List.{List, foldl}
 use mathlib.Core.Logic.{inl, inr, _↔_}
 use native.Mathlib.Omega.{arith}
+use lib.ListN.{length}
 use Rattle.instruction.specs.Undefined.{allocated}
 use Rattle.instruction.specs.Encoding.{encodeOf}
 use Rattle.instruction.specs.declared.answer.Encoded.{Encoded}
+use Rattle.text.specs.Texts.{textMost}
 use Rattle.text.specs.Writing.{wordText}
+use Rattle.text.proofs.Lengths.{text-short}
 use Rattle.reader.specs.Types.{Done, NoSuchText, Scan, Instruction}
 use Rattle.reader.specs.route.Scan.{stepOf, scanStart}
 use Rattle.reader.specs.route.Build.{buildOf}
@@ -17,6 +20,10 @@ use Rattle.reader.proofs.RoundTrip.{line-encodes}
 
 never : {b : Bool} → b ≡ true → b ≡ false → ⊥
 never p q = let z : _≡_ {A = ℕ} 0 1 = cc in omega arith
+
+-- a text that is longer than any line
+pub read-long : (t : List ℕ) → textMost < length t → ReadOf t (record { answer = NoSuchText; word = 0 })
+read-long t h = inr (refl, refl, λ w l. absurd (omega (arith, h, text-short w (l .defined), ap length (l .line))))
 
 module _ (t : List ℕ) {s : Scan} {i : Instruction} {e : Encoded} (scanned : s ≡ foldl stepOf scanStart t) (built : i ≡ buildOf s) (encoded : e ≡ encodeOf i) where
   -- a word that has this line is the one that was found

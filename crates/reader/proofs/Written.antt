@@ -10,15 +10,16 @@ use lib.Seq.{sets, sets-eq, length-sets, take-at}
 use Rattle.instruction.specs.Undefined.{allocated}
 use Rattle.text.specs.Writing.{Outcome, outcome, copied, writeOf, wordText}
 use Rattle.text.specs.declared.Written.{Written}
-use Rattle.text.proofs.Lengths.{word-text-short}
+use Rattle.text.specs.Texts.{textMost}
+use Rattle.text.proofs.Lengths.{text-short}
 use Rattle.reader.specs.Types.{Answer}
 
 starts : (t xs : List ℕ) → length t ≤ length xs → take (length t) (sets xs 0 t) ≡ t
 starts t xs h = rw (sets-eq t xs 0 (omega arith)) (take-at t _ (length t) refl)
 
-module _ (w : ℕ) {r : Written} (before : List ℕ) {after : List ℕ} (a : allocated w ≡ true) (e : outcome r after ≡ writeOf w before) (h : length before ≡ 128) where
+module _ (w : ℕ) {r : Written} (before : List ℕ) {after : List ℕ} (a : allocated w ≡ true) (e : outcome r after ≡ writeOf w before) (h : textMost ≤ length before) where
   room : length (wordText w) ≤ length before
-  room = rw h (omega (arith, word-text-short w))
+  room = omega (arith, h, text-short w a)
 
   written : outcome r after ≡ record { answer = Answer.Done; length = length (wordText w); buffer = sets before 0 (wordText w) }
   unfolding writeOf copied

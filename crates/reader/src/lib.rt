@@ -7,6 +7,7 @@ mod scan;
 mod tail;
 
 use instruction::Answer;
+use text::TEXT_MAX;
 use text::write;
 ghost use mathlib.Core.Path.{_≡_};
 ghost use mathlib.Core.Bool.{true};
@@ -15,16 +16,26 @@ ghost use Rattle.instruction.specs.Undefined.{allocated};
 ghost use Rattle.text.specs.Writing.{wordText};
 ghost use Rattle.reader.specs.Reading.{ReadOf};
 
+// Room for any text, with eight bytes behind it, so that text::write stores eight at a time.
+const BUFFER: usize = TEXT_MAX + 8;
+
 // What reading a text returns. The word is 0 where the text is refused.
 pub struct Reading {
     pub answer: Answer,
     pub word: u32,
 }
 
-// The allocated word whose line a text is, or answer 9.
+// The allocated word whose line a text is, or answer 9. A text that is longer than any line is not looked at.
 pub fn read(text: &[u8]) -> Reading
     ensures { λ r. ⌜ ReadOf (now (text .entry)) r ⌝ }
 {
+    let refused = Reading {
+        answer: Answer::NoSuchText,
+        word: 0,
+    };
+    if text.len() > TEXT_MAX {
+        return refused;
+    }
     let encoded = encoder::encode(build::build(scan::scan_text(text)));
     let word = encoded.word;
     if decoder::is_allocated(word) {
@@ -35,18 +46,15 @@ pub fn read(text: &[u8]) -> Reading
             };
         }
     }
-    Reading {
-        answer: Answer::NoSuchText,
-        word: 0,
-    }
+    refused
 }
 
-// Whether a text is the line of an allocated word. No line is longer than the buffer.
+// Whether a text is the line of an allocated word.
 fn is_line(word: u32, text: &[u8]) -> bool
     requires { ⌜ allocated word ≡ true ⌝ }
     ensures { λ r. ⌜ (r ≡ true) ↔ (wordText word ≡ now (text .entry)) ⌝ }
 {
-    let mut buffer = [0u8; 128];
+    let mut buffer = [0u8; BUFFER];
     let written = write(word, &mut buffer);
     let length = written.length;
     compare::same(&buffer[..length], text)

@@ -1,5 +1,7 @@
--- How long texts can be: whatever numbers an instruction holds, its text has at most 106 bytes. Assumes nothing.
-use Prim.Native.Nat.{ℕ, _+_, _≤_}
+-- How long texts can be: none of an allocated word has more than `textMost` bytes, and one has as many. A piece that shows a
+-- number is bounded by its digits, and the numbers by their family (`Bounded`). Assumes nothing.
+use Prim.Native.Nat.{ℕ, suc, _+_, _^_, _≤_, _<_}
+use mathlib.Core.Path.{_≡_, refl}
 use mathlib.Core.Bool.{Bool, true, false}
 use mathlib.Core.List.{List, [], _∷_, _++_}
 use native.Mathlib.Omega.{arith}
@@ -7,6 +9,7 @@ use lib.Dec.{eqb, ltb}
 use lib.IntN.{ℤ, pos, negsuc, natAbs}
 use lib.ListN.{length, length-append}
 use Rattle.bits.specs.Choice.{pick}
+use Rattle.bits.specs.Fields.{part}
 use Rattle.instruction.specs.declared.operation.SizedOp.{SizedOp}
 use Rattle.instruction.specs.declared.operation.LiteralOp.{LiteralOp}
 use Rattle.instruction.specs.declared.operation.LiteralOp.the-variants.{LiteralWord, LiteralDouble, LiteralSignedWord, LiteralPrefetch}
@@ -17,12 +20,18 @@ use Rattle.instruction.specs.declared.operation.PairMode.the-variants.{NoAlloca
 use Rattle.instruction.specs.declared.family.Family.{Family}
 use Rattle.instruction.specs.declared.family.Family.the-variants.{Empty, Literal, Pair, Ordered, Unscaled, PostIndex, PreIndex, Register, Unsigned}
 use Rattle.instruction.specs.declared.family.IndexOperands.{IndexOperands}
-use Rattle.instruction.specs.Operations.{sizedCode, sizeOf, opcOf}
-use Rattle.instruction.specs.Instructions.{instructionOf}
+use Rattle.instruction.specs.Operations.{sizedCode, sizedAt, sizeOf, opcOf}
+use Rattle.instruction.specs.Table.{rowOf, inSet}
+use Rattle.instruction.specs.Undefined.{undefined, undefinedSize, undefinedOption, allocated}
+use Rattle.instruction.specs.Instructions.{sizedIn, indexIn, instructionOf}
+use Rattle.instruction.specs.Decoding.{decodeOf}
+use Rattle.instruction.specs.route.Bounds.{Bounded}
+use Rattle.instruction.proofs.Codes.{sized}
+use Rattle.instruction.proofs.Bounds.{decoded-bounded}
 use Rattle.ascii.specs.Ascii.{asc, dec, signedDec}
 use Rattle.mnemonic.specs.Operands.{Operand, Narrow, Wide, Hint, sizedOperand, pairOperand}
 use Rattle.mnemonic.specs.Mnemonics.{sizeLetter, suffix, stemmed, noAllocateName, allocateName, plainName, unscaledName, orderedName, literalName, pairName}
-use Rattle.text.specs.Texts.{registerText, baseText, operandText, offsetTail, preTail, postTail, pairTail, extendName, amountText, extendText, indexTail, frontText, literalText, pairText, sizedText, familyText, textOf}
+use Rattle.text.specs.Texts.{registerText, baseText, operandText, offsetTail, preTail, postTail, pairTail, extendName, amountText, extendText, indexTail, frontText, literalText, pairText, sizedText, familyText, textOf, textMost}
 use Rattle.text.specs.Writing.{wordText}
 use Rattle.ascii.proofs.Decimals.{dec-short}
 
@@ -49,66 +58,71 @@ lead m p h k = joined (within p h) k
 trail : {p : List ℕ} {m : ℕ} (n : ℕ) (q : List ℕ) → length q ≤ n → Short m p → Short (m + n) (p ++ q)
 trail n q h k = joined k (within q h)
 
-number : (n : ℕ) → Short 20 (dec n)
-number n = record { most = dec-short n }
+number : (k : ℕ) {n : ℕ} → n < 10 ^ suc k → Short (suc k) (dec n)
+number k {n} h = within (dec n) (dec-short k n h)
 
-signed : (z : ℤ) → Short 21 (signedDec z)
+-- one byte more for the sign
+signed : (k : ℕ) (z : ℤ) → natAbs z < 10 ^ suc k → Short (k + 2) (signedDec z)
 unfolding signedDec
-signed (pos n) = wider (number n) (omega arith)
-signed (negsuc n) = lead 1 (asc "-") (omega arith) (number _)
+signed k (pos n) h = wider (number k h) (omega arith)
+signed k (negsuc n) h = wider (lead 1 (asc "-") (omega arith) (number k h)) (omega arith)
 
-register : (letter r : ℕ) → Short 21 (registerText letter r)
+-- ---- operands
+
+register : (letter : ℕ) {r : ℕ} → r < 32 → Short 3 (registerText letter r)
 unfolding registerText
-register letter r = lead 1 (letter ∷ []) (omega arith) (either (eqb r 31) (within (asc "zr") (omega arith)) (number r))
+register letter {r} h = lead 1 (letter ∷ []) (omega arith) (either (eqb r 31) (within (asc "zr") (omega arith)) (number 1 (omega arith)))
 
-base : (r : ℕ) → Short 21 (baseText r)
+base : {r : ℕ} → r < 32 → Short 3 (baseText r)
 unfolding baseText
-base r = either (eqb r 31) (within (asc "sp") (omega arith)) (lead 1 (asc "x") (omega arith) (number r))
+base {r} h = either (eqb r 31) (within (asc "sp") (omega arith)) (lead 1 (asc "x") (omega arith) (number 1 (omega arith)))
 
-operand : (o : Operand) (r : ℕ) → Short 21 (operandText o r)
-operand Narrow r = register 119 r
-operand Wide r = register 120 r
-operand Hint r = lead 1 (asc "#") (omega arith) (number r)
+operand : (o : Operand) {r : ℕ} → r < 32 → Short 3 (operandText o r)
+operand Narrow h = register 119 h
+operand Wide h = register 120 h
+operand Hint h = lead 1 (asc "#") (omega arith) (number 1 (omega arith))
 
--- ---- tails
+-- ---- tails, by the digits of the offset
 
-pre : (z : ℤ) → Short 26 (preTail z)
-unfolding preTail
-pre z = trail 2 (asc "]!") (omega arith) (lead 3 (asc ", #") (omega arith) (signed z))
+module _ (k : ℕ) (z : ℤ) (h : natAbs z < 10 ^ suc k) where
+  pre : Short (k + 7) (preTail z)
+  unfolding preTail
+  pre = wider (trail 2 (asc "]!") (omega arith) (lead 3 (asc ", #") (omega arith) (signed k z h))) (omega arith)
 
-post : (z : ℤ) → Short 26 (postTail z)
-unfolding postTail
-post z = lead 5 (asc "], #") (omega arith) (signed z)
+  post : Short (k + 7) (postTail z)
+  unfolding postTail
+  post = wider (lead 4 (asc "], #") (omega arith) (signed k z h)) (omega arith)
 
-offset : (z : ℤ) → Short 26 (offsetTail z)
-unfolding offsetTail
-offset z =
-    either (eqb (natAbs z) 0) (within (asc "]") (omega arith)) (trail 2 (asc "]") (omega arith) (lead 3 (asc ", #") (omega arith) (signed z)))
+  offset : Short (k + 7) (offsetTail z)
+  unfolding offsetTail
+  offset =
+      either (eqb (natAbs z) 0) (within (asc "]") (omega arith))
+      (wider (trail 1 (asc "]") (omega arith) (lead 3 (asc ", #") (omega arith) (signed k z h))) (omega arith))
 
-pair-tail : (m : PairMode) (z : ℤ) → Short 26 (pairTail m z)
-pair-tail NoAllocate z = offset z
-pair-tail Post z = post z
-pair-tail Offset z = offset z
-pair-tail Pre z = pre z
+  pair-tail : (m : PairMode) → Short (k + 7) (pairTail m z)
+  pair-tail NoAllocate = offset
+  pair-tail Post = post
+  pair-tail Offset = offset
+  pair-tail Pre = pre
 
-amount : (s n : ℕ) → Short 22 (amountText s n)
+amount : (s : ℕ) {n : ℕ} → n < 10 → Short 3 (amountText s n)
 unfolding amountText
-amount s n = either (eqb s 1) (lead 2 (asc " #") (omega arith) (number n)) (within [] (omega arith))
+amount s h = either (eqb s 1) (lead 2 (asc " #") (omega arith) (number 0 (omega arith))) (within [] (omega arith))
 
 extend-name : (o : ℕ) → Short 4 (extendName o)
 unfolding extendName
 extend-name o =
     either (eqb o 2) (within (asc "uxtw") (omega arith)) (either (eqb o 6) (within (asc "sxtw") (omega arith)) (within (asc "sxtx") (omega arith)))
 
-extend : (o s n : ℕ) → Short 28 (extendText o s n)
+extend : (o s : ℕ) {n : ℕ} → n < 10 → Short 9 (extendText o s n)
 unfolding extendText
-extend o s n =
-    either (eqb o 3) (either (eqb s 1) (lead 6 (asc ", lsl") (omega arith) (amount s n)) (within [] (omega arith)))
-    (joined (lead 2 (asc ", ") (omega arith) (extend-name o)) (amount s n))
+extend o s h =
+    either (eqb o 3) (either (eqb s 1) (wider (lead 5 (asc ", lsl") (omega arith) (amount s h)) (omega arith)) (within [] (omega arith)))
+    (joined (lead 2 (asc ", ") (omega arith) (extend-name o)) (amount s h))
 
-index : (op : SizedOp) (o : IndexOperands) → Short 52 (indexTail op o)
+index : (op : SizedOp) (o : IndexOperands) → o .index < 32 → Short 15 (indexTail op o)
 unfolding indexTail
-index op o = trail 1 (asc "]") (omega arith) (joined (lead 2 (asc ", ") (omega arith) (register _ _)) (extend _ _ _))
+index op o h = trail 1 (asc "]") (omega arith) (joined (lead 2 (asc ", ") (omega arith) (register _ h)) (extend _ _ (omega (arith, sized op .size))))
 
 -- ---- mnemonics
 
@@ -121,39 +135,39 @@ letter size signed =
 behind : (size : ℕ) (signed : Bool) → Short 2 (suffix size signed)
 behind size signed = joined {m = 1} (either signed (within (asc "s") (omega arith)) (within [] (omega arith))) (letter size signed)
 
-stem : {store load hint : List ℕ} → Short 6 store → Short 6 load → Short 8 hint → (op : SizedOp) → Short 8 (stemmed store load hint op)
-stem s l h op = either (eqb (sizedCode op) 0b11_10) h (joined (either (eqb (opcOf op) 0b00) s l) (behind (sizeOf op) (ltb 0b01 (opcOf op))))
+stem : (n : ℕ) {store load hint : List ℕ} → Short n store → Short n load → Short (n + 2) hint → (op : SizedOp) → Short (n + 2) (stemmed store load hint op)
+stem n s l h op = either (eqb (sizedCode op) 0b11_10) h (joined (either (eqb (opcOf op) 0b00) s l) (behind (sizeOf op) (ltb 0b01 (opcOf op))))
 
-plain : (op : SizedOp) → Short 8 (plainName op)
-plain op = stem (within (asc "str") (omega arith)) (within (asc "ldr") (omega arith)) (within (asc "prfm") (omega arith)) op
+plain : (op : SizedOp) → Short 5 (plainName op)
+plain op = stem 3 (within (asc "str") (omega arith)) (within (asc "ldr") (omega arith)) (within (asc "prfm") (omega arith)) op
 
-unscaled : (op : SizedOp) → Short 8 (unscaledName op)
-unscaled op = stem (within (asc "stur") (omega arith)) (within (asc "ldur") (omega arith)) (within (asc "prfum") (omega arith)) op
+unscaled : (op : SizedOp) → Short 6 (unscaledName op)
+unscaled op = stem 4 (within (asc "stur") (omega arith)) (within (asc "ldur") (omega arith)) (within (asc "prfum") (omega arith)) op
 
 ordered : (op : SizedOp) → Short 8 (orderedName op)
-ordered op = stem (within (asc "stlur") (omega arith)) (within (asc "ldapur") (omega arith)) (within (asc "prfum") (omega arith)) op
+ordered op = stem 6 (within (asc "stlur") (omega arith)) (within (asc "ldapur") (omega arith)) (within (asc "prfum") (omega arith)) op
 
-literal : (op : LiteralOp) → Short 8 (literalName op)
+literal : (op : LiteralOp) → Short 5 (literalName op)
 literal LiteralWord = omega arith
 literal LiteralDouble = omega arith
 literal LiteralSignedWord = omega arith
 literal LiteralPrefetch = omega arith
 
-no-allocate : (op : PairOp) → Short 8 (noAllocateName op)
+no-allocate : (op : PairOp) → Short 5 (noAllocateName op)
 no-allocate StoreWords = omega arith
 no-allocate LoadWords = omega arith
 no-allocate LoadSignedWords = omega arith
 no-allocate StoreDoubles = omega arith
 no-allocate LoadDoubles = omega arith
 
-allocate : (op : PairOp) → Short 8 (allocateName op)
+allocate : (op : PairOp) → Short 5 (allocateName op)
 allocate StoreWords = omega arith
 allocate LoadWords = omega arith
 allocate LoadSignedWords = omega arith
 allocate StoreDoubles = omega arith
 allocate LoadDoubles = omega arith
 
-pair : (m : PairMode) (op : PairOp) → Short 8 (pairName m op)
+pair : (m : PairMode) (op : PairOp) → Short 5 (pairName m op)
 pair NoAllocate op = no-allocate op
 pair Post op = allocate op
 pair Offset op = allocate op
@@ -161,32 +175,41 @@ pair Pre op = allocate op
 
 -- ---- lines
 
-front : {name : List ℕ} (o : Operand) (r : ℕ) → Short 8 name → Short 32 (frontText name o r)
+front : (n : ℕ) {name : List ℕ} (o : Operand) {r : ℕ} → r < 32 → Short n name → Short (n + 6) (frontText name o r)
 unfolding frontText
-front o r h = trail 2 (asc ", ") (omega arith) (joined (trail 1 (asc " ") (omega arith) h) (operand o r))
+front n o h s = wider (trail 2 (asc ", ") (omega arith) (joined (trail 1 (asc " ") (omega arith) s) (operand o h))) (omega arith)
 
-sized : {name tail : List ℕ} (op : SizedOp) (t b : ℕ) → Short 8 name → Short 52 tail → Short 106 (sizedText name op t b tail)
+-- ten bytes beside the name and the tail
+line : (n k : ℕ) {name tail : List ℕ} (op : SizedOp) {t b : ℕ} → t < 32 → b < 32 → Short n name → Short k tail → n + k + 10 ≤ textMost
+    → Short textMost (sizedText name op t b tail)
 unfolding sizedText
-sized op t b h k = joined (joined (trail 1 (asc "[") (omega arith) (front (sizedOperand op) t h)) (base b)) k
+line n k op g h s q m = wider (joined (joined (trail 1 (asc "[") (omega arith) (front n (sizedOperand op) g s)) (base h)) q) (omega arith)
 
-family : (f : Family) → Short 106 (familyText f)
+family : (f : Family) → Bounded f → Short textMost (familyText f)
 unfolding literalText pairText
-family Empty = within [] (omega arith)
-family (Literal op o) = wider (joined (trail 1 (asc "#") (omega arith) (front _ _ (literal op))) (signed (o .offset))) (omega arith)
-family (Pair op o) =
+family Empty b = within [] (omega arith)
+family (Literal op o) b =
+    wider (joined (trail 1 (asc "#") (omega arith) (front 5 _ (b .target) (literal op))) (signed 6 (o .offset) (omega (arith, b .offset)))) (omega arith)
+family (Pair op o) b =
     wider
-    (joined (joined (trail 3 (asc ", [") (omega arith) (joined (front _ _ (pair (o .mode) op)) (operand (pairOperand op) (o .second)))) (base (o .base)))
-    (pair-tail (o .mode) (o .offset))) (omega arith)
-family (Ordered op o) = sized op _ _ (ordered op) (wider (offset (o .offset)) (omega arith))
-family (Unscaled op o) = sized op _ _ (unscaled op) (wider (offset (o .offset)) (omega arith))
-family (PostIndex op o) = sized op _ _ (plain op) (wider (post (o .offset)) (omega arith))
-family (PreIndex op o) = sized op _ _ (plain op) (wider (pre (o .offset)) (omega arith))
-family (Register op o) = sized op _ _ (plain op) (index op o)
-family (Unsigned op o) = sized op _ _ (plain op) (wider (offset (o .offset)) (omega arith))
+    (joined (joined (trail 3 (asc ", [") (omega arith) (joined (front 5 _ (b .first) (pair (o .mode) op)) (operand (pairOperand op) (b .second)))) (base (b .base)))
+    (pair-tail 2 (o .offset) (omega (arith, b .offset)) (o .mode))) (omega arith)
+family (Ordered op o) b = line 8 9 op (b .target) (b .base) (ordered op) (offset 2 (o .offset) (omega (arith, b .offset))) (omega arith)
+family (Unscaled op o) b = line 6 9 op (b .target) (b .base) (unscaled op) (offset 2 (o .offset) (omega (arith, b .offset))) (omega arith)
+family (PostIndex op o) b = line 5 9 op (b .target) (b .base) (plain op) (post 2 (o .offset) (omega (arith, b .offset))) (omega arith)
+family (PreIndex op o) b = line 5 9 op (b .target) (b .base) (plain op) (pre 2 (o .offset) (omega (arith, b .offset))) (omega arith)
+family (Register op o) b = line 5 15 op (b .target) (b .base) (plain op) (index op o (b .index)) (omega arith)
+family (Unsigned op o) b = line 5 11 op (b .target) (b .base) (plain op) (offset 4 (o .offset) (omega (arith, b .offset))) (omega arith)
 
-pub family-text-short : (f : Family) → length (familyText f) ≤ 106
-family-text-short f = family f .most
+allocated-bounded : (w : ℕ) → allocated w ≡ true → Bounded (instructionOf w .family)
+unfolding decodeOf
+allocated-bounded w a = rw a at (decoded-bounded w)
 
-pub word-text-short : (w : ℕ) → length (wordText w) ≤ 106
+pub text-short : (w : ℕ) → allocated w ≡ true → length (wordText w) ≤ textMost
 unfolding wordText textOf
-word-text-short w = family-text-short (instructionOf w .family)
+text-short w a = family (instructionOf w .family) (allocated-bounded w a) .most
+
+-- ldrsb x10, [x10, w10, uxtw #0]
+pub text-reached : (allocated 0x38aa594a ≡ true) × (length (wordText 0x38aa594a) ≡ textMost)
+unfolding wordText textOf registerText baseText extendName amountText extendText indexTail frontText sizedText dec instructionOf rowOf part sizedAt sizedIn indexIn inSet allocated undefined undefinedSize undefinedOption
+text-reached = (refl, refl)

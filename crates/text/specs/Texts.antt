@@ -102,3 +102,7 @@ familyText (Unsigned op o) = sizedText (plainName op) op (o .target) (o .base) (
 
 unfoldable pub textOf : Instruction → List ℕ
 textOf i = familyText (i .family)
+
+-- the most bytes that the text of an allocated word has: 02, CR 4
+abbrev pub textMost : ℕ
+textMost = 30

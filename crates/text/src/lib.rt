@@ -18,6 +18,9 @@ ghost use Rattle.text.specs.Texts.{textOf, familyText};
 ghost use Rattle.text.specs.Writing.{outcome, copied, writeOf};
 ghost use Rattle.text.specs.route.Lines.{Sound, whole};
 
+// The most bytes that the text of an allocated word has (`textMost`).
+pub const TEXT_MAX: usize = 30;
+
 // What writing a text returns. The length is 0 where it is refused.
 pub struct Written {
     pub answer: Answer,

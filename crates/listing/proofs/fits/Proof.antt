@@ -9,6 +9,6 @@ pub fits-spec : {M : Type 1} → statement M
 fits-spec =
     tie.close
     (tie.spec
-    (λ c. sym (enough (c .before .before .args .bytes .now) (c .before .before .args .room) (c .if1 .taken)))
+    (λ c. sym (enough (c .before .before .before .args .bytes .now) (c .before .before .before .args .room) (c .before .if1 .taken) (c .if2 .taken)))
     (λ c κs. search needs)
     (λ c. c .measured .ensures))
