@@ -3,12 +3,17 @@
 use libc::STDIN_FILENO;
 use libc::STDOUT_FILENO;
 use reader::Reading;
+use text::TEXT_MAX;
 ghost use mathlib.Core.Path.{_≡_};
 ghost use Prim.Native.Nat.{_≤_, _+_, _*_};
 ghost use lib.Dec.{eqb};
 ghost use lib.ListN.{length};
 ghost use Rattle.bits.specs.Choice.{pick};
 ghost use Rattle.assemble.specs.Lines.{newlines};
+
+// One byte more than the longest text has. Of a longer line only so many are kept, and what is kept is answered
+// as the whole line is, with 9: no text has as many bytes.
+const LINE: usize = TEXT_MAX + 1;
 
 // How far the input is read: whether to go on, and how many bytes of a line that is not yet ended are kept.
 struct Kept {
@@ -22,11 +27,10 @@ struct Progress {
     end: usize,
 }
 
-// Of a line that is longer than any text only the start is kept: no text is as long as that either.
 // A proved loop has to end, and nothing says that the input does. So the loop counts its turns down, from a
 // number that no run uses up.
 fn main() {
-    let mut line = [0u8; 256];
+    let mut line = [0u8; LINE];
     let mut kept = Kept {
         going: true,
         count: 0,

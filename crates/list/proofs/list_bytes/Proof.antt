@@ -1,4 +1,4 @@
--- `list::list_bytes` is safe, ends, and meets what `list_part` asks: a part has at most 8,184 bytes. The measure is what is
+-- `list::list_bytes` is safe, ends, and meets what `list_part` asks: a part has at most 16,384 bytes. The measure is what is
 -- left of the bytes. Assumes nothing.
 use Prim.Native.Nat.{_≤_, _-_}
 use mathlib.Core.Path.{_≡_}

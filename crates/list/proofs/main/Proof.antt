@@ -1,12 +1,14 @@
 -- `list::main` is safe and ends. The measure is the number of turns that are left. Assumes nothing.
+use Prim.Native.Nat.{suc, _+_, _*_}
 use mathlib.Core.Path.{_≡_}
 use lib.ListN.{length}
+use Rattle.listing.specs.Listing.{lineMost}
 use borrow.Author.Needs.{needs}
 use Rattle.list.proofs.main.Statement.{statement}
 use Rattle.list.proofs.main.Tie as tie
 
 abbrev Inv-loop : tie.InvT-loop
-Inv-loop output₀ turns₀ output turns = length output ≡ 262144
+Inv-loop output₀ turns₀ output turns = length output ≡ 4096 * suc lineMost + 10
 
 abbrev μ-loop : tie.MeasureT-loop
 μ-loop output₀ turns₀ output turns = turns
