@@ -38,7 +38,7 @@ int main(void)
             bytes[4 * i + k] = (uint8_t)(words[i] >> (8 * k));
     }
 
-    uint8_t output[1024];
+    uint8_t output[COUNT * MILESTARLING_LINE_MAX];
     struct milestarling_text_reply listed = milestarling_list(bytes, sizeof bytes, output, sizeof output);
     print(output, listed.length);
 
@@ -61,9 +61,10 @@ int main(void)
     printf("steps %" PRIu64 ", answer %" PRIu64 ", pc 0x%" PRIx64 "\n", ran.steps, ran.answer, registers[32]);
     printf("w1 is %" PRIu64 ", taint %d; the byte at 48 is %d, taint %d\n", registers[1], register_taints[1], memory[48], taint[48]);
     if (ran.answer == MILESTARLING_TAINTED_ADDRESS) {
-        struct milestarling_text_reply written = milestarling_text(words[ran.steps], output, sizeof output);
+        uint8_t text[MILESTARLING_TEXT_MAX];
+        struct milestarling_text_reply written = milestarling_text(words[ran.steps], text, sizeof text);
         printf("refused: ");
-        print(output, written.length);
+        print(text, written.length);
         printf("\n");
     }
     return 0;

@@ -18,6 +18,10 @@
 #include <stddef.h>
 #include <stdint.h>
 
+/* The most bytes that the text of a word has, and a line of a listing with its newline. Both are reached, by 38aa594a. */
+#define MILESTARLING_TEXT_MAX 30
+#define MILESTARLING_LINE_MAX 42
+
 /* What a call answers. Of those that apply to a step, the lowest is given. */
 enum milestarling_answer {
     MILESTARLING_DONE = 0,
@@ -91,7 +95,7 @@ struct milestarling_run_reply milestarling_run(
 
 /*
  * Writes the line of text of a word to the start of a buffer, without a zero at its end. Answers 0, 2, 3 or 10;
- * the buffer changes only with 0. A buffer of 128 bytes suffices for every line.
+ * the buffer changes only with 0. A buffer of MILESTARLING_TEXT_MAX bytes suffices for every line.
  */
 struct milestarling_text_reply milestarling_text(uint32_t word, uint8_t *buffer, size_t buffer_length);
 
@@ -101,7 +105,8 @@ struct milestarling_word_reply milestarling_word(const uint8_t *text, size_t tex
 /*
  * Writes the listing of little-endian words to the start of an output: a line for each with the word, its text and
  * its answer 0, 2, 3 or 4, and a line for bytes that are left over. Answers 0 or 10; the output changes only with 0.
- * 128 bytes for each word, and 128 more, always suffice; a shorter output is measured first.
+ * MILESTARLING_LINE_MAX bytes for each word, and 10 for bytes left over, always suffice; a shorter output is measured
+ * first.
  */
 struct milestarling_text_reply milestarling_list(
     const uint8_t *bytes, size_t bytes_length, uint8_t *output, size_t output_length);

@@ -10,7 +10,7 @@ mod reference;
 #[path = "../tests/support/mod.rs"]
 mod support;
 
-use milestarling::{list, raw, Machine, Register};
+use milestarling::{list, raw, Machine, Register, LINE_MAX};
 use reference::decoding::{decode, Family, Operation};
 use reference::running::{self, State, Window};
 use std::collections::BTreeMap;
@@ -251,7 +251,7 @@ fn main() {
 
     let mut rates = Rates::default();
     let mut taken = BTreeMap::new();
-    let mut listing = vec![0; (TEXTS + 1) * 128];
+    let mut listing = vec![0; TEXTS * LINE_MAX + 10];
     for round in 0..ROUNDS {
         for (name, load) in &loads {
             let (mut ours, mut theirs) = (load.clone(), load.clone());

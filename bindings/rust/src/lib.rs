@@ -48,4 +48,4 @@ mod text;
 pub use answer::{Answer, Refusal, UnknownAnswer};
 pub use machine::{Access, Machine, Run, Window};
 pub use registers::{Register, Registers};
-pub use text::{list, listing, Instruction};
+pub use text::{list, listing, Instruction, LINE_MAX};

@@ -2,11 +2,19 @@ use crate::{ffi, Answer, Refusal};
 use std::fmt;
 use std::str::FromStr;
 
-/// Room for any word's line: none is proved to be longer than 106 bytes.
-const LINE: usize = 106;
-
-/// Room for a line of a listing: eight digits, a tab, the text, a tab, a digit and a newline.
-const LISTED: usize = 8 + 1 + LINE + 1 + 1 + 1;
+/// The most bytes that a line of a listing has, its newline included: eight digits, a tab, the text, a tab, a digit and a
+/// newline.
+///
+/// So many for each word, and 10 for bytes left over, are room for any listing.
+///
+/// ```
+/// use milestarling::{list, LINE_MAX};
+///
+/// let mut output = [0; LINE_MAX];
+/// assert_eq!(list(&0x38aa594a_u32.to_le_bytes(), &mut output), Ok(LINE_MAX));
+/// assert_eq!(&output[..], b"38aa594a\tldrsb x10, [x10, w10, uxtw #0]\t0\n");
+/// ```
+pub const LINE_MAX: usize = 8 + 1 + Instruction::TEXT_MAX + 1 + 1 + 1;
 
 /// Words that are listed at once. Enough for a call to cost nothing, and small enough for a cache.
 const BATCH: usize = 256;
@@ -36,6 +44,18 @@ const BATCH: usize = 256;
 pub struct Instruction(u32);
 
 impl Instruction {
+    /// The most bytes that a text has. No word's is proved to be longer, and that of 38aa594a is as long.
+    ///
+    /// ```
+    /// use milestarling::Instruction;
+    ///
+    /// # fn main() -> Result<(), milestarling::Refusal> {
+    /// assert_eq!(Instruction::new(0x38aa594a)?.to_string().len(), Instruction::TEXT_MAX);
+    /// # Ok(())
+    /// # }
+    /// ```
+    pub const TEXT_MAX: usize = 30;
+
     /// The instruction of a word.
     ///
     /// # Errors
@@ -103,7 +123,7 @@ fn shown(bytes: &[u8]) -> &str {
 
 impl fmt::Display for Instruction {
     fn fmt(&self, f: &mut fmt::Formatter<'_>) -> fmt::Result {
-        let mut line = [0; LINE];
+        let mut line = [0; Instruction::TEXT_MAX];
         let length = self.write(&mut line).expect("an allocated word has a line of bounded length");
         f.pad(shown(&line[..length]))
     }
@@ -149,7 +169,8 @@ impl From<Instruction> for u32 {
 /// ```
 pub fn listing(bytes: &[u8]) -> String {
     let mut whole = String::new();
-    let mut output = [0; BATCH * LISTED];
+    // An output that has room for any batch isn't measured.
+    let mut output = [0; BATCH * LINE_MAX + 10];
     // A batch ends between two words, so that only the last one can have bytes over.
     for batch in bytes.chunks(BATCH * 4) {
         let length = list(batch, &mut output).expect("a batch's listing has a bounded length");

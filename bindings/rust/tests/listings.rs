@@ -3,7 +3,7 @@
 mod reference;
 mod support;
 
-use milestarling::{list, listing, raw};
+use milestarling::{list, listing, raw, LINE_MAX};
 use reference::{DONE, NO_ROOM};
 use support::{any_word, distinct, Random};
 
@@ -45,6 +45,20 @@ fn random_bytes_and_rooms() {
     }
     println!("listings by answer: {counts:?}");
     assert!(counts[DONE as usize] > 10_000 && counts[NO_ROOM as usize] > 10_000);
+}
+
+/// The longest lines, and a `short` one behind them.
+#[test]
+fn room_for_the_longest_lines() {
+    for words in [0, 1, 2, 255, 256, 257, 4096] {
+        let mut bytes = 0x38aa_594a_u32.to_le_bytes().repeat(words);
+        assert_eq!(list(&bytes, &mut vec![0; words * LINE_MAX]), Ok(words * LINE_MAX));
+        bytes.extend([0xff; 3]);
+        let room = words * LINE_MAX + 10;
+        assert_eq!(list(&bytes, &mut vec![0; room]), Ok(room));
+        assert_eq!(compare(&bytes, room), DONE);
+        assert_eq!(compare(&bytes, room - 1), NO_ROOM);
+    }
 }
 
 #[test]

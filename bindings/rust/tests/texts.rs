@@ -3,7 +3,7 @@
 mod reference;
 mod support;
 
-use milestarling::raw;
+use milestarling::{raw, Instruction, LINE_MAX};
 use reference::{reading, writing, DONE, NOT_IN_SET, NO_ROOM, NO_SUCH_TEXT, UNDEFINED};
 use support::{allocated_word, any_word, Random};
 
@@ -94,6 +94,28 @@ fn buffers_of_every_length() {
     }
     println!("lines by answer: {counts:?}");
     assert!(counts[NO_ROOM as usize] > 50_000 && counts[DONE as usize] > 50_000);
+}
+
+/// A word whose text is as long as any.
+const LONGEST: u32 = 0x38aa_594a;
+
+#[test]
+fn the_longest_text() {
+    let most = Instruction::TEXT_MAX;
+    assert_eq!(compare_line(LONGEST, most), DONE);
+    assert_eq!(compare_line(LONGEST, most - 1), NO_ROOM);
+    let mut random = Random::new(7);
+    for _ in 0..500_000 {
+        assert_eq!(compare_line(allocated_word(&mut random), most), DONE);
+    }
+}
+
+#[test]
+fn the_header_has_the_same_bounds() {
+    let header = include_str!("../../../include/milestarling.h");
+    for (name, most) in [("TEXT", Instruction::TEXT_MAX), ("LINE", LINE_MAX)] {
+        assert!(header.contains(&format!("#define MILESTARLING_{name}_MAX {most}\n")), "{name}");
+    }
 }
 
 /// All 2^32 words: some minutes. `cargo test --release -- --ignored`.
@@ -312,7 +334,7 @@ fn noise() {
 #[test]
 fn long_texts() {
     let mut random = Random::new(6);
-    for length in [100, 255, 256, 257, 4096, 65_535, 65_536, 1 << 20] {
+    for length in [29, 30, 31, 32, 100, 106, 107, 255, 256, 257, 4096, 65_535, 65_536, 1 << 20] {
         for head in ["", "ldr x0, [x1, #", "ldr x0, #-", "ldr x", "prfm #", "ldr x0, [x1, x2, lsl #", "stp x0, x1, "] {
             for filling in [b"0", b"1", b"9", b" ", b"["] {
                 let mut text = head.as_bytes().to_vec();
