@@ -14,11 +14,11 @@ use Rattle.bits.proofs.Lists.{sets-front}
 use Rattle.instruction.specs.declared.answer.Answer.{Answer}
 use Rattle.instruction.specs.declared.answer.Answer.the-variants.{Done, BadWindow, NoRoom}
 use Rattle.instruction.specs.Answers.{answerNumber}
-use Rattle.machine.specs.Step.{Step, stopped, moved, Outcome, performed}
+use Rattle.machine.specs.Step.{Step, stopped, moved, Outcome}
 use Rattle.machine.proofs.Answers.{Refuses}
 use Rattle.machine.proofs.Taints.{Follows}
 use Rattle.secrecy.specs.Agree.{Shows}
-use Rattle.execution.specs.Walk.{Walked, halted, ahead, goOn, walkOf, Result, glue, notBegun, runOf, afterSteps}
+use Rattle.execution.specs.Walk.{Walked, ahead, goOn, walkOf, Result, glue, notBegun, runOf, afterSteps}
 use Rattle.execution.specs.Ends.{alone, Kept, Tried, Ends, lastOf}
 use Rattle.execution.specs.Secrecy.{ShowsRun}
 

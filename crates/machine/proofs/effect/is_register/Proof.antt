@@ -1,6 +1,5 @@
 -- `machine::effect::is_register` meets its contract. Assumes nothing.
 use borrow.Author.Tests.{lt-ltb, le-ltb}
-use borrow.Author.Needs.{needs}
 use Rattle.machine.proofs.effect.is_register.Statement.{statement}
 use Rattle.machine.proofs.effect.is_register.Tie as tie
 
