@@ -27,7 +27,7 @@ use Rattle.machine.specs.Step.{Step, stopped, moved, performOf, accessStep}
 use Rattle.arm.specs.Pseudocode.{Arm, Operation, loads, stores}
 use Rattle.arm.specs.Marks.{marksOf}
 use Rattle.arm.specs.Pages.{pageOf}
-use Rattle.arm.specs.Choices.{marked, crosses, outOf, shut, leaves, chosen}
+use Rattle.arm.specs.Choices.{marked, crosses, outOf, shut, afterPage, chosen}
 use Rattle.arm.specs.Real.{Real}
 
 -- a machine that there is, in a window that answer 1 passes
@@ -127,7 +127,7 @@ module _ (w : Window) (m : Machine) (top : w .origin + length (m .memory) ≤ 2 
   o = outOf w m address size
 
   abbrev left : Machine
-  left = leaves w word m (pageOf l word) (t .store) address size after
+  left = afterPage w word m (pageOf l word) (t .store) address size after
 
   effect : o ≡ false → effectOf t (a .written) (address - w .origin) (sumOf a (operandsOf a m)) m ≡ left
   unfolding effectOf

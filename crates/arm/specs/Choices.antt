@@ -48,8 +48,8 @@ abbrev pub after : ℕ → ℕ
 after pc = (pc + 4) % 2 ^ 64
 
 -- what a page leaves, with the marks of 01's rule
-abbrev pub leaves : Window → ℕ → Machine → Page → Bool → ℕ → ℕ → Arm → Machine
-leaves w word m page store address size s =
+abbrev pub afterPage : Window → ℕ → Machine → Page → Bool → ℕ → ℕ → Arm → Machine
+afterPage w word m page store address size s =
     record {
       values = s .registers;
       pc = after (m .pc);
@@ -66,7 +66,7 @@ chosen w word m page (access store address size s) =
     (pick (crosses page address size) (stopped Misaligned address)
     (pick (outOf w m address size) (stopped OutOfWindow address)
     (pick (shut w store address) (stopped ReadOnly address)
-    (moved (leaves w word m page store address size s) (size + pick store 64 0) address))))
+    (moved (afterPage w word m page store address size s) (size + pick store 64 0) address))))
 
 abbrev pub armOf : Window → Machine → Arm
 armOf w m = record { registers = m .values; pc = m .pc; origin = w .origin; memory = m .memory }

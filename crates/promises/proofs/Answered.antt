@@ -5,6 +5,7 @@ use mathlib.Core.Bool.{Bool, true, false, not}
 use mathlib.Core.List.{List, [], _∷_, _++_}
 use mathlib.Core.Logic.{inl, inr}
 use native.Mathlib.Omega.{arith}
+use borrow.Author.Tests.{eq-eqb}
 use lib.Dec.{ltb, eqb}
 use lib.ListN.{length, getD}
 use Rattle.bits.specs.Choice.{pick}
@@ -44,57 +45,50 @@ pub by-definition : {R : Type 0} (x : R) {number : R → ℕ} {numbers : List �
 by-definition x {number} {numbers} h =
     record { some = (x, refl); one = λ r s e g. e ∙ sym g; answer = λ r e. ap (λ y. oneOf numbers (number y)) e ∙ h }
 
--- ---- numbers that the lowest of some tests can be
+-- ---- the number of the first test that holds is among the tests' numbers, and 0 where none does
 
-pub lowest-of-2 : (a b : Bool) → oneOf (0 ∷ 2 ∷ 3 ∷ []) (lowest 2 (a ∷ b ∷ [])) ≡ true
-lowest-of-2 true b = refl
-lowest-of-2 false true = refl
-lowest-of-2 false false = refl
+abbrev pub firstNumber : List (Bool × ℕ) → ℕ
+firstNumber [] = 0
+firstNumber (e ∷ es) = pick (e .0) (e .1) (firstNumber es)
 
-pub lowest-of-3 : (a b c : Bool) → oneOf (0 ∷ 2 ∷ 3 ∷ 4 ∷ []) (lowest 2 (a ∷ b ∷ c ∷ [])) ≡ true
-lowest-of-3 true b c = refl
-lowest-of-3 false true c = refl
-lowest-of-3 false false true = refl
-lowest-of-3 false false false = refl
-
-pub first-of-3 : (a b c : Bool) → oneOf (0 ∷ 2 ∷ 3 ∷ 10 ∷ []) (pick a 2 (pick b 3 (pick c 10 0))) ≡ true
-first-of-3 true b c = refl
-first-of-3 false true c = refl
-first-of-3 false false true = refl
-first-of-3 false false false = refl
-
-pub ten-or-none : (a : Bool) → oneOf (0 ∷ 10 ∷ []) (pick a 10 0) ≡ true
-ten-or-none true = refl
-ten-or-none false = refl
-
-abbrev pub stepNumbers : List ℕ
-stepNumbers = 0 ∷ 1 ∷ 2 ∷ 3 ∷ 4 ∷ 5 ∷ 6 ∷ 7 ∷ 8 ∷ []
-
-lowest-of-4 : (a b c d : Bool) → oneOf stepNumbers (lowest 5 (a ∷ b ∷ c ∷ d ∷ [])) ≡ true
-lowest-of-4 true b c d = refl
-lowest-of-4 false true c d = refl
-lowest-of-4 false false true d = refl
-lowest-of-4 false false false true = refl
-lowest-of-4 false false false false = refl
-
-lowest-of-8 : (w : Window) (x : Access) (m : Machine) (a b c d : Bool) → oneOf stepNumbers (lowest 1 (a ∷ b ∷ c ∷ d ∷ accessTests w x m)) ≡ true
-lowest-of-8 w x m true b c d = refl
-lowest-of-8 w x m false true c d = refl
-lowest-of-8 w x m false false true d = refl
-lowest-of-8 w x m false false false true = refl
-lowest-of-8 w Nothing m false false false false = refl
-lowest-of-8 w (Moves t a) m false false false false =
-    let x = addressOf a (operandsOf a m) in
-    lowest-of-4 (operandsOf a m .tainted) (misaligned (t .ordered) (totalOf t) x) (outside (totalOf t) x (w .origin) (length (m .memory))) (guarded (t .store) x w)
-
--- ---- steps and runs
-
-pub step-number : (w : Window) (word : ℕ) (m : Machine) → oneOf stepNumbers (answerNumber (performed m (stepOf w word m) .answer)) ≡ true
-step-number w word m = rw (answers-exact w word m) (lowest-of-8 w (wordAccess word) m (bad w m) (not (inSet word)) (undefined word) (unpredictable word))
+abbrev pub numbersOf : List (Bool × ℕ) → List ℕ
+numbersOf [] = []
+numbersOf (e ∷ es) = e .1 ∷ numbersOf es
 
 either-way : (z a b : Bool) → (a ≡ true → b ≡ true) → pick z true a ≡ true → pick z true b ≡ true
 either-way true a b h e = refl
 either-way false a b h e = h e
+
+or-else : (z a : Bool) → a ≡ true → pick z true a ≡ true
+or-else true a h = refl
+or-else false a h = h
+
+first-from : (z : Bool) (k n : ℕ) (ks : List ℕ) → oneOf (0 ∷ ks) n ≡ true → oneOf (0 ∷ k ∷ ks) (pick z k n) ≡ true
+first-from true k n ks h = or-else (eqb k 0) _ (rw (eq-eqb k k refl))
+first-from false k n ks h = either-way (eqb n 0) (oneOf ks n) (oneOf (k ∷ ks) n) (or-else (eqb n k) (oneOf ks n)) h
+
+pub first-one : (es : List (Bool × ℕ)) → oneOf (0 ∷ numbersOf es) (firstNumber es) ≡ true
+first-one [] = refl
+first-one (e ∷ es) = first-from (e .0) (e .1) (firstNumber es) (numbersOf es) (first-one es)
+
+-- ---- steps and runs
+
+abbrev pub stepNumbers : List ℕ
+stepNumbers = 0 ∷ 1 ∷ 2 ∷ 3 ∷ 4 ∷ 5 ∷ 6 ∷ 7 ∷ 8 ∷ []
+
+-- a prefetch passes 5 to 8
+lowest-one : (w : Window) (x : Access) (m : Machine) (a b c d : Bool) → oneOf stepNumbers (lowest 1 (a ∷ b ∷ c ∷ d ∷ accessTests w x m)) ≡ true
+lowest-one w Nothing m a b c d = first-one ((a, 1) ∷ (b, 2) ∷ (c, 3) ∷ (d, 4) ∷ (false, 5) ∷ (false, 6) ∷ (false, 7) ∷ (false, 8) ∷ [])
+lowest-one w (Moves t x) m a b c d =
+    let at = addressOf x (operandsOf x m) in
+    let tainted = operandsOf x m .tainted in
+    let unaligned = misaligned (t .ordered) (totalOf t) at in
+    let far = outside (totalOf t) at (w .origin) (length (m .memory)) in
+    let shut = guarded (t .store) at w in
+    first-one ((a, 1) ∷ (b, 2) ∷ (c, 3) ∷ (d, 4) ∷ (tainted, 5) ∷ (unaligned, 6) ∷ (far, 7) ∷ (shut, 8) ∷ [])
+
+pub step-number : (w : Window) (word : ℕ) (m : Machine) → oneOf stepNumbers (answerNumber (performed m (stepOf w word m) .answer)) ≡ true
+step-number w word m = rw (answers-exact w word m) (lowest-one w (wordAccess word) m (bad w m) (not (inSet word)) (undefined word) (unpredictable word))
 
 with-more : (ks : List ℕ) (k n : ℕ) → oneOf ks n ≡ true → oneOf (ks ++ (k ∷ [])) n ≡ true
 with-more [] k n h = absurd (let z : _≡_ {A = ℕ} 0 1 = cc in omega arith)

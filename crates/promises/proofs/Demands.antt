@@ -52,7 +52,7 @@ use Rattle.host.proofs.Runs.{refused-unchanged as refused-calls}
 use Rattle.host.proofs.Secrecy.{hosted-taints, hosted-same}
 use Rattle.promises.specs.Answered.{oneOf}
 use Rattle.promises.specs.Demands.{Demand1, Demand2, Demand3, Library, Requests}
-use Rattle.promises.proofs.Answered.{by-definition, lowest-of-2, lowest-of-3, first-of-3, ten-or-none, step-number, run-number, encode-number, read-answered, call-number, word-answered}
+use Rattle.promises.proofs.Answered.{by-definition, first-one, step-number, run-number, encode-number, read-answered, call-number, word-answered}
 
 decode-answer : (member wrong : Bool) → answerNumber (pick member (pick wrong Undefined Done) NotInSet) ≡ lowest 2 (not member ∷ wrong ∷ [])
 decode-answer true true = refl
@@ -130,13 +130,13 @@ list-answer false = refl
 
 written-number : (word : ℕ) (buffer : List ℕ) → oneOf (0 ∷ 2 ∷ 3 ∷ 10 ∷ []) (answerNumber (writeOf word buffer .answer)) ≡ true
 written-number word buffer =
-    ap (oneOf (0 ∷ 2 ∷ 3 ∷ 10 ∷ [])) (write-number word buffer) ∙ first-of-3 (not (inSet word)) (undefined word) (ltb (length buffer) (length (wordText word)))
+    ap (oneOf (0 ∷ 2 ∷ 3 ∷ 10 ∷ [])) (write-number word buffer) ∙ first-one ((not (inSet word), 2) ∷ (undefined word, 3) ∷ (ltb (length buffer) (length (wordText word)), 10) ∷ [])
 
 listed-number : (bytes output : List ℕ) → oneOf (0 ∷ 10 ∷ []) (answerNumber (listOf bytes output .answer)) ≡ true
 unfolding listOf copied
 listed-number bytes output =
     let short = ltb (length output) (length (listingOf bytes)) in
-    ap (oneOf (0 ∷ 10 ∷ [])) (list-answer short) ∙ ten-or-none short
+    ap (oneOf (0 ∷ 10 ∷ [])) (list-answer short) ∙ first-one ((short, 10) ∷ [])
 
 -- ---- steps
 
@@ -154,10 +154,10 @@ pub demand-1 : Demand1
 unfolding decodeOf classOf listOf copied runOf
 demand-1 =
     record {
-      decoded = λ word. by-definition (decodeOf word) (ap (oneOf (0 ∷ 2 ∷ 3 ∷ [])) (decode-answer (inSet word) (undefined word)) ∙ lowest-of-2 (not (inSet word)) (undefined word));
+      decoded = λ word. by-definition (decodeOf word) (ap (oneOf (0 ∷ 2 ∷ 3 ∷ [])) (decode-answer (inSet word) (undefined word)) ∙ first-one ((not (inSet word), 2) ∷ (undefined word, 3) ∷ []));
       classified =
           λ word. by-definition (classOf word)
-          (ap (oneOf (0 ∷ 2 ∷ 3 ∷ 4 ∷ [])) (class-answer (inSet word) (undefined word) (unpredictable word)) ∙ lowest-of-3 (not (inSet word)) (undefined word) (unpredictable word));
+          (ap (oneOf (0 ∷ 2 ∷ 3 ∷ 4 ∷ [])) (class-answer (inSet word) (undefined word) (unpredictable word)) ∙ first-one ((not (inSet word), 2) ∷ (undefined word, 3) ∷ (unpredictable word, 4) ∷ []));
       encoded = λ i. by-definition (encodeOf i) (encode-number i);
       written = λ word buffer. by-definition (writeOf word buffer) (written-number word buffer);
       read = read-answered;
