@@ -5,18 +5,18 @@ use mathlib.Core.Path.{_≡_, refl, ap, _∙_}
 use mathlib.Core.Bool.{Bool, true, false, not, _||_}
 use lib.Dec.{ltb, eqb}
 use lib.ListN.{length}
+use native.Mathlib.Omega.{arith}
 use borrow.Author.Tests.{ltb-false}
 use Rattle.bits.specs.Choice.{pick}
 use Rattle.bits.proofs.Choices.{neither}
+use Rattle.bits.proofs.Parts.{Has}
 use Rattle.instruction.specs.declared.answer.Answer.the-variants.{Done, BadWindow, NotInSet, Undefined, Unpredictable}
 use Rattle.instruction.specs.declared.row.Row.{Row}
 use Rattle.instruction.specs.declared.row.Row.the-variants.{NoRow, LiteralRow, PairRow, OrderedRow, UnscaledRow, PostRow, PreRow, RegisterRow, UnsignedRow}
 use Rattle.instruction.specs.Answers.{answerNumber}
-use Rattle.instruction.specs.Table.{isRow, rowOf, inSet}
-use Rattle.instruction.specs.Undefined.{undefinedIn, undefined, allocated}
-use Rattle.instruction.specs.Unpredictable.{unpredictableIn, unpredictable}
-use Rattle.instruction.specs.Instructions.{familyIn, instructionOf}
+use Rattle.instruction.specs.Table.{columnsOf, inSet, rowOf, undefined, allocated, unpredictable, instructionOf}
 use Rattle.instruction.specs.Decoding.{decodeOf, classOf}
+use Rattle.instruction.proofs.Rows.{row-has}
 use Rattle.access.specs.Accesses.{familyAccess, accessOf, wordAccess}
 use Rattle.plan.specs.declared.window.Window.{Window}
 use Rattle.plan.specs.Window.{badWindow}
@@ -27,32 +27,33 @@ use Rattle.arm.specs.Real.{Real}
 use Rattle.arm.specs.Pages.{pageOf}
 use Rattle.arm.specs.Choices.{badStart, armOf, armStep}
 use Rattle.arm.proofs.Steps.{Ready, Steps}
-use Rattle.arm.proofs.Families.{never, unscaled-step, ordered-step, post-step, pre-step, unsigned-step, indexed-step, literal-step}
+use Rattle.arm.proofs.Families.{unscaled-step, ordered-step, post-step, pre-step, unsigned-step, indexed-step, literal-step}
 use Rattle.arm.proofs.Pairs.{pair-step}
 
 -- ---- the page of a word
 
 module _ (w : Window) (m : Machine) (r : Ready w m) (word : ℕ) where
-  row-step : (l : Row) → isRow l ≡ true → undefinedIn l word ≡ false → unpredictableIn l word ≡ false → wordAccess word ≡ familyAccess (familyIn l word)
+  row-step : (l : Row) → Has word (columnsOf l .fixed) → columnsOf l .undefined word ≡ false → columnsOf l .unpredictable word ≡ false
+      → wordAccess word ≡ familyAccess (columnsOf l .family word)
       → Steps w m l word (pageOf l word .operation word (armOf w m))
-  row-step NoRow t u v e = absurd (never t)
-  row-step LiteralRow t u v e = literal-step w m r word e
-  row-step PairRow t u v e = pair-step w m r word u v e
-  row-step OrderedRow t u v e = ordered-step w m r word u e
-  row-step UnscaledRow t u v e = unscaled-step w m r word u e
-  row-step PostRow t u v e = post-step w m r word u v e
-  row-step PreRow t u v e = pre-step w m r word u v e
-  row-step RegisterRow t u v e = indexed-step w m r word u e
-  row-step UnsignedRow t u v e = unsigned-step w m r word u e
+  row-step NoRow h u v e = absurd (omega arith)
+  row-step LiteralRow h u v e = literal-step w m r word e
+  row-step PairRow h u v e = pair-step w m r word u v e
+  row-step OrderedRow h u v e = ordered-step w m r word u e
+  row-step UnscaledRow h u v e = unscaled-step w m r word u e
+  row-step PostRow h u v e = post-step w m r word u v e
+  row-step PreRow h u v e = pre-step w m r word u v e
+  row-step RegisterRow h u v e = indexed-step w m r word u e
+  row-step UnsignedRow h u v e = unsigned-step w m r word u e
 
-  access-of : inSet word ≡ true → undefined word ≡ false → wordAccess word ≡ familyAccess (familyIn (rowOf word) word)
+  access-of : inSet word ≡ true → undefined word ≡ false → wordAccess word ≡ familyAccess (columnsOf (rowOf word) .family word)
   unfolding decodeOf accessOf allocated instructionOf
   access-of t u = rw (t, u)
 
   page-step : inSet word ≡ true → undefined word ≡ false → unpredictable word ≡ false
       → Steps w m (rowOf word) word (pageOf (rowOf word) word .operation word (armOf w m))
-  unfolding inSet undefined unpredictable
-  page-step t u v = row-step (rowOf word) t u v (access-of t u)
+  unfolding undefined unpredictable
+  page-step t u v = row-step (rowOf word) (row-has word t) u v (access-of t u)
 
 -- ---- answer 1
 

@@ -6,9 +6,9 @@ use mathlib.Core.List.{[], _∷_, _++_, map}
 use lib.ListN.{getD, replicate}
 use Rattle.bits.specs.Fields.{part}
 use Rattle.instruction.specs.Answers.{answerNumber}
-use Rattle.instruction.specs.Table.{rowOf, inSet}
-use Rattle.instruction.specs.Undefined.{undefined, undefinedSize, undefinedOption, undefinedPair}
-use Rattle.instruction.specs.Unpredictable.{unpredictable, baseIs, pairBaseIs, unpredictablePair}
+use Rattle.instruction.specs.Undefined.{undefinedSize, undefinedOption, undefinedPair}
+use Rattle.instruction.specs.Unpredictable.{baseIs, unpredictablePair}
+use Rattle.instruction.specs.Table.{inSet, rowOf, undefined, unpredictable}
 use Rattle.plan.specs.declared.window.Window.{Window}
 use Rattle.machine.specs.Machine.{Machine}
 use Rattle.machine.specs.Step.{performed}
@@ -45,5 +45,5 @@ loads = refl
 -- 8 bytes at 4104, which are inside, and at 4105; a byte stored at 4099, among the first r, and at 4100
 answers : map answer (0x91000000 ∷ 0xb8c00020 ∷ 0x38e00862 ∷ 0xa9400020 ∷ 0xf8403020 ∷ 0xf8404020 ∷ 0x381fe020 ∷ 0x381ff020 ∷ [])
     ≡ (2 ∷ 3 ∷ 3 ∷ 4 ∷ 0 ∷ 7 ∷ 8 ∷ 0 ∷ [])
-unfolding armStep badStart rowOf inSet undefined undefinedSize undefinedOption undefinedPair unpredictable baseIs pairBaseIs unpredictablePair part unscaled SignExtend Add X base
+unfolding armStep badStart rowOf inSet undefined undefinedSize undefinedOption undefinedPair unpredictable baseIs unpredictablePair part unscaled SignExtend Add X base
 answers = refl

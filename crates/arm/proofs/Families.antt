@@ -19,8 +19,10 @@ use Rattle.instruction.specs.declared.row.Row.{Row}
 use Rattle.instruction.specs.declared.row.Row.the-variants.{LiteralRow, OrderedRow, UnscaledRow, PostRow, PreRow, RegisterRow, UnsignedRow}
 use Rattle.instruction.specs.Operations.{sizedAt, sizeOf, literalAt}
 use Rattle.instruction.specs.Undefined.{sizeOpc, undefinedSize, undefinedPrefetch, undefinedOption}
-use Rattle.instruction.specs.Unpredictable.{baseIs}
-use Rattle.instruction.specs.Instructions.{sizedIn, literalIn, signedIn, indexIn, unsignedIn, familyIn}
+use Rattle.instruction.specs.Unpredictable.{baseIs, unpredictableBase}
+use Rattle.instruction.specs.Operands.{sizedIn, literalIn, signedIn, indexIn, unsignedIn}
+use Rattle.instruction.specs.Table.{columnsOf}
+use Rattle.instruction.proofs.Rows.{prefetch-no, option-no}
 use Rattle.instruction.proofs.Codes.{sized, sized-code}
 use Rattle.access.specs.declared.addressing.Addressing.{Addressing}
 use Rattle.access.specs.declared.Access.the-variants.{Moves}
@@ -132,7 +134,7 @@ module _ (w : Window) (m : Machine) (r : Ready w m) (word : ℕ) where
   offset9-is : offset9 ≡ twosComplement (signedOf 256 1 (field 20 12 word))
   offset9-is = imm9-is (field 20 12 word) (part-lt 12 9 word)
 
-  pub unscaled-step : undefinedSize word ≡ false → wordAccess word ≡ familyAccess (familyIn UnscaledRow word)
+  pub unscaled-step : undefinedSize word ≡ false → wordAccess word ≡ familyAccess (columnsOf UnscaledRow .family word)
       → Steps w m UnscaledRow word (unscaled word (armOf w m))
   unfolding unscaled misaligned signedIn sizedIn
   unscaled-step u e =
@@ -140,11 +142,11 @@ module _ (w : Window) (m : Machine) (r : Ready w m) (word : ℕ) where
       let form = based-form w m r UnscaledRow word offset9 false false false refl refl (λ h. absurd (never h)) (λ k x p q. refl) in
       all-sizes w m r UnscaledRow word _ false false _ _ form refl size opc size-lt opc-lt (k .0) (k .1) (rw offset9-is e)
 
-  pub ordered-step : (undefinedSize word || undefinedPrefetch word) ≡ false → wordAccess word ≡ familyAccess (familyIn OrderedRow word)
+  pub ordered-step : undefinedPrefetch word ≡ false → wordAccess word ≡ familyAccess (columnsOf OrderedRow .family word)
       → Steps w m OrderedRow word (ordered word (armOf w m))
   unfolding ordered misaligned signedIn sizedIn
   ordered-step u e =
-      let k = known-sizes word (neither (undefinedSize word) (undefinedPrefetch word) u .0) in
+      let k = known-sizes word (prefetch-no word u .0) in
       let form = based-form w m r OrderedRow word offset9 false false true refl refl (λ h. absurd (never h)) (λ k x p q. same-block x k p q) in
       all-sizes w m r OrderedRow word _ true false _ _ form refl size opc size-lt opc-lt (k .0) (k .1) (rw offset9-is e)
 
@@ -153,19 +155,19 @@ module _ (w : Window) (m : Machine) (r : Ready w m) (word : ℕ) where
   unfolding baseIs
   base-apart h = apart (field 9 5 word) (field 4 0 word) (part-lt 5 5 word) h
 
-  pub post-step : (undefinedSize word || undefinedPrefetch word) ≡ false → baseIs (field 4 0 word) word ≡ false
-      → wordAccess word ≡ familyAccess (familyIn PostRow word) → Steps w m PostRow word (postIndex word (armOf w m))
+  pub post-step : undefinedPrefetch word ≡ false → unpredictableBase word ≡ false
+      → wordAccess word ≡ familyAccess (columnsOf PostRow .family word) → Steps w m PostRow word (postIndex word (armOf w m))
   unfolding immediate misaligned signedIn sizedIn
   post-step u b e =
-      let k = known-sizes word (neither (undefinedSize word) (undefinedPrefetch word) u .0) in
+      let k = known-sizes word (prefetch-no word u .0) in
       let form = based-form w m r PostRow word offset9 true true false refl refl (λ h. base-apart b) (λ k x p q. refl) in
       all-sizes w m r PostRow word _ false true _ _ form refl size opc size-lt opc-lt (k .0) (k .1) (rw offset9-is e)
 
-  pub pre-step : (undefinedSize word || undefinedPrefetch word) ≡ false → baseIs (field 4 0 word) word ≡ false
-      → wordAccess word ≡ familyAccess (familyIn PreRow word) → Steps w m PreRow word (preIndex word (armOf w m))
+  pub pre-step : undefinedPrefetch word ≡ false → unpredictableBase word ≡ false
+      → wordAccess word ≡ familyAccess (columnsOf PreRow .family word) → Steps w m PreRow word (preIndex word (armOf w m))
   unfolding immediate misaligned signedIn sizedIn
   pre-step u b e =
-      let k = known-sizes word (neither (undefinedSize word) (undefinedPrefetch word) u .0) in
+      let k = known-sizes word (prefetch-no word u .0) in
       let form = based-form w m r PreRow word offset9 false true false refl refl (λ h. base-apart b) (λ k x p q. refl) in
       all-sizes w m r PreRow word _ false true _ _ form refl size opc size-lt opc-lt (k .0) (k .1) (rw offset9-is e)
 
@@ -178,7 +180,7 @@ module _ (w : Window) (m : Machine) (r : Ready w m) (word : ℕ) where
       let b = opc-lt in
       omega (arith, sized-code (sizeOpc word) (omega arith) (k .0) (k .1), sized (sizedAt (sizeOpc word)))
 
-  pub unsigned-step : undefinedSize word ≡ false → wordAccess word ≡ familyAccess (familyIn UnsignedRow word)
+  pub unsigned-step : undefinedSize word ≡ false → wordAccess word ≡ familyAccess (columnsOf UnsignedRow .family word)
       → Steps w m UnsignedRow word (unsigned word (armOf w m))
   unfolding immediate misaligned unsignedIn sizedIn
   unsigned-step u e =
@@ -224,8 +226,8 @@ module _ (w : Window) (m : Machine) (r : Ready w m) (word : ℕ) where
   indexing = indexingBy size
 
   option-set : undefinedOption word ≡ false → ¬ (field 1 1 option ≡ 0)
-  unfolding undefinedOption part
-  option-set h z = eqb-false (field 14 14 word) 0 h (omega arith)
+  unfolding part
+  option-set h z = eqb-false (field 14 14 word) 0 (option-no word h .1) (omega arith)
 
   index-x : X i 64 (armOf w m) ≡ getD (m .values) (zeroSlot i) 0
   index-x = x-is (armOf w m) (r .real .registers) i 64 (omega arith) ∙ mod-eq-of-lt (r .real .values (zeroSlot i))
@@ -257,13 +259,13 @@ module _ (w : Window) (m : Machine) (r : Ready w m) (word : ℕ) where
         block = λ k p q. refl;
       }
 
-  pub indexed-step : (undefinedSize word || undefinedOption word) ≡ false → wordAccess word ≡ familyAccess (familyIn RegisterRow word)
+  pub indexed-step : undefinedOption word ≡ false → wordAccess word ≡ familyAccess (columnsOf RegisterRow .family word)
       → Steps w m RegisterRow word (indexed word (armOf w m))
   unfolding indexed indexIn sizedIn indexedMode shiftOf
   indexed-step u e =
-      let p = neither (undefinedSize word) (undefinedOption word) u in
+      let p = option-no word u in
       let k = known-sizes word (p .0) in
-      all-sizes w m r RegisterRow word indexing false false _ _ (index-form (p .1)) refl size opc size-lt opc-lt (k .0) (k .1)
+      all-sizes w m r RegisterRow word indexing false false _ _ (index-form u) refl size opc size-lt opc-lt (k .0) (k .1)
       (e ∙ ap (λ (k : ℕ). sizedAccess (sizedIn word) (field 4 0 word) false (indexingBy k)) (size-back (p .0)))
 
   -- ---- the program counter and an offset
@@ -309,7 +311,7 @@ module _ (w : Window) (m : Machine) (r : Ready w m) (word : ℕ) where
       (loads address size (pick (eqb opc 0b10) (setX t 64 (SignExtend (size * 8) 64 (Mem address size s)) s) (setX t (size * 8) (Mem address size s) s)))
       hint
 
-  pub literal-step : wordAccess word ≡ familyAccess (familyIn LiteralRow word) → Steps w m LiteralRow word (literal word (armOf w m))
+  pub literal-step : wordAccess word ≡ familyAccess (columnsOf LiteralRow .family word) → Steps w m LiteralRow word (literal word (armOf w m))
   unfolding literal literalAt literalMoves
   literal-step e =
       four (λ opc. wordAccess word ≡ literalAccess (literalAt opc) (literalIn word) → Steps w m LiteralRow word (literalPage opc))

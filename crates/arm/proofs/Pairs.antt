@@ -20,8 +20,9 @@ use Rattle.bits.specs.Extension.{extendedOf}
 use Rattle.instruction.specs.declared.row.Row.the-variants.{PairRow}
 use Rattle.instruction.specs.Operations.{pairAt, modeAt, pairBytes}
 use Rattle.instruction.specs.Undefined.{undefinedPair}
-use Rattle.instruction.specs.Unpredictable.{baseIs, pairBaseIs, unpredictablePair}
-use Rattle.instruction.specs.Instructions.{pairOpIn, pairIn, familyIn}
+use Rattle.instruction.specs.Unpredictable.{baseIs, unpredictablePair}
+use Rattle.instruction.specs.Operands.{pairOpIn, pairIn}
+use Rattle.instruction.specs.Table.{columnsOf}
 use Rattle.access.specs.declared.addressing.Addressing.{Addressing}
 use Rattle.access.specs.declared.Access.{Access}
 use Rattle.access.specs.declared.Access.the-variants.{Moves}
@@ -265,9 +266,9 @@ module _ (w : Window) (m : Machine) (r : Ready w m) (word : ℕ) where
 
   bases-apart : unpredictablePair word ≡ false → eqb (field 23 23 word) 1 ≡ true
       → ¬ (field 9 5 word ≡ zeroSlot (field 4 0 word)) × ¬ (field 9 5 word ≡ zeroSlot (field 14 10 word))
-  unfolding unpredictablePair pairBaseIs baseIs
+  unfolding unpredictablePair baseIs
   bases-apart h b =
-      let p = neither (pairBaseIs word) _ h in
+      let p = neither (eqb (field 23 23 word) 1 && (baseIs (field 4 0 word) word || baseIs (field 14 10 word) word)) _ h in
       let q : (baseIs (field 4 0 word) word || baseIs (field 14 10 word) word) ≡ false = rw b at (p .0) in
       let z = neither (baseIs (field 4 0 word) word) (baseIs (field 14 10 word) word) q in
       (apart (field 9 5 word) (field 4 0 word) (part-lt 5 5 word) (z .0), apart (field 9 5 word) (field 14 10 word) (part-lt 5 5 word) (z .1))
@@ -299,6 +300,6 @@ module _ (w : Window) (m : Machine) (r : Ready w m) (word : ℕ) where
         (λ f e. rw f (by false false (rw (low-mode 2 f)) e))
         (λ f e. rw f (by true false (rw (low-mode 3 f)) e))
 
-    pub pair-step : wordAccess word ≡ familyAccess (familyIn PairRow word) → Steps w m PairRow word (pair word (armOf w m))
+    pub pair-step : wordAccess word ≡ familyAccess (columnsOf PairRow .family word) → Steps w m PairRow word (pair word (armOf w m))
     unfolding pairAccess pairIn
     pair-step e = modes (field 24 23 word) (part-lt 23 2 word) refl e

@@ -7,9 +7,7 @@ use lib.ListN.{length, getD}
 use Rattle.bits.specs.Choice.{pick}
 use Rattle.bits.specs.Fields.{field}
 use Rattle.instruction.specs.declared.answer.Answer.the-variants.{BadWindow, NotInSet, Undefined, Unpredictable, TaintedAddress, Misaligned, OutOfWindow, ReadOnly}
-use Rattle.instruction.specs.Table.{rowOf, inSet}
-use Rattle.instruction.specs.Undefined.{undefined}
-use Rattle.instruction.specs.Unpredictable.{unpredictable}
+use Rattle.instruction.specs.Table.{inSet, rowOf, undefined, unpredictable}
 use Rattle.plan.specs.declared.window.Window.{Window}
 use Rattle.machine.specs.Machine.{Machine}
 use Rattle.machine.specs.Step.{Step, stopped, moved}

@@ -1,6 +1,6 @@
--- Choices: by a test, and by a table; and how many of some tests hold.
+-- Choices: by a test, and by a table; whether something passes a test, and how many of some tests hold.
 use Prim.Native.Nat.{ℕ, suc}
-use mathlib.Core.Bool.{Bool, true, false}
+use mathlib.Core.Bool.{Bool, true, false, _||_}
 use mathlib.Core.List.{List, [], _∷_}
 use lib.Dec.{eqb}
 
@@ -13,6 +13,11 @@ pick false a b = b
 abbrev pub lookup : {A : Type 0} → A → List (ℕ × A) → ℕ → A
 lookup d [] k = d
 lookup d (e ∷ es) k = pick (eqb k (e .0)) (e .1) (lookup d es k)
+
+-- one of a list passes the test
+abbrev pub any : {A : Type 0} → (A → Bool) → List A → Bool
+any p [] = false
+any p (x ∷ xs) = p x || any p xs
 
 abbrev pub howMany : List Bool → ℕ
 howMany [] = 0

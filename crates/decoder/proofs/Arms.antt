@@ -1,6 +1,6 @@
 -- What each return of the decoder shows, over plain values. Assumes nothing.
 use Prim.Native.Nat.{ℕ, _*_}
-use mathlib.Core.Path.{_≡_, refl, _∙_}
+use mathlib.Core.Path.{_≡_, refl, sym, ap, _∙_}
 use mathlib.Core.Bool.{Bool, true, false, _&&_, _||_, not}
 use lib.Dec.{eqb}
 use lib.IntN.{ℤ, pos}
@@ -15,12 +15,11 @@ use Rattle.instruction.specs.declared.operation.PairMode.{PairMode}
 use Rattle.instruction.specs.declared.operation.PairOp.{PairOp}
 use Rattle.instruction.specs.declared.operation.SizedOp.{SizedOp}
 use Rattle.instruction.specs.Answers.{answerNumber}
-use Rattle.instruction.specs.Table.{rowOf, isRow, inSet}
-use Rattle.instruction.specs.Undefined.{undefinedIn, undefined, allocated}
-use Rattle.instruction.specs.Unpredictable.{unpredictableIn, unpredictable}
+use Rattle.instruction.specs.Operands.{literalIn, pairIn, signedIn, unsignedIn}
+use Rattle.instruction.specs.Table.{columnsOf, matches, inSet, rowOf, undefined, allocated, unpredictable}
 use Rattle.instruction.specs.Operations.{modeAt, pairBytes, sizedBytes}
-use Rattle.instruction.specs.Instructions.{familyIn, instructionOf, literalIn, pairIn, signedIn, unsignedIn}
 use Rattle.instruction.specs.Decoding.{decodeOf, classOf, empty}
+use Rattle.instruction.proofs.Rows.{no-row, set-matches, of-set, rowed}
 
 -- ---- operands
 
@@ -53,15 +52,18 @@ turned true x y = refl
 turned false x y = refl
 
 -- an arm of a match on a row
-module _ (w : ℕ) {l : Row} {r : Decoded} (e : l ≡ rowOf w) where
-  pub outside : l ≡ Row.NoRow → (r .answer ≡ Answer.NotInSet) × (r .instruction ≡ empty) → Examined w r
-  unfolding classOf decodeOf allocated inSet
-  outside g p = rw (← e, g) p
+module _ (w : ℕ) {l : Row} {r : Decoded} (e : l ≡ rowOf w) (k : Row) (g : l ≡ k) where
+  pub outside : k ≡ Row.NoRow → (r .answer ≡ Answer.NotInSet) × (r .instruction ≡ empty) → Examined w r
+  unfolding classOf decodeOf allocated
+  outside n p = rw (set-matches w ∙ ap (matches w) (sym e ∙ g ∙ n) ∙ no-row w) p
 
-  pub viewed-is : (k : Row) {u v : Bool} {f : Family} → l ≡ k → isRow k ≡ true → u ≡ undefinedIn k w → v ≡ unpredictableIn k w → f ≡ familyIn k w
+  pub viewed-is : {u v : Bool} {f : Family} → (k ≡ Row.NoRow → _≡_ {A = Bool} false true) → u ≡ columnsOf k .undefined w → v ≡ columnsOf k .unpredictable w
+      → f ≡ columnsOf k .family w
       → (r .answer ≡ pick u Answer.Undefined (pick v Answer.Unpredictable Answer.Done)) × (r .instruction ≡ pick u empty (record { family = f })) → Examined w r
-  unfolding classOf decodeOf allocated inSet undefined unpredictable instructionOf
-  viewed-is k {u} {v} {f} g s p q h a = rw (← e, g, s, ← p, ← q, ← h) (a .0, a .1 ∙ turned u empty (record { family = f }))
+  unfolding classOf decodeOf allocated
+  viewed-is {u} {v} {f} n p q h a =
+      let is = rowed w (sym e ∙ g) in
+      rw (of-set w (sym e ∙ g) n, is .undefined-is, is .unpredictable-is, is .instruction-is, ← p, ← q, ← h) (a .0, a .1 ∙ turned u empty (record { family = f }))
 
 -- ---- what the answer of examining a word says
 

@@ -13,53 +13,54 @@ ghost use mathlib.Core.Path.{_≡_};
 ghost use Prim.Native.Nat.{_*_, _<_, _≤_};
 ghost use Rattle.bits.specs.Signed.{signedOf};
 ghost use Rattle.instruction.specs.Operations.{sizedAt, literalAt, pairAt, modeAt};
-ghost use Rattle.instruction.specs.Instructions.{sizedIn, pairOpIn, literalIn, pairIn, signedIn, indexIn, unsignedIn, familyIn};
+ghost use Rattle.instruction.specs.Operands.{sizedIn, literalIn, pairOpIn, pairIn, signedIn, indexIn, unsignedIn};
+ghost use Rattle.instruction.specs.Table.{columnsOf};
 
 pub fn literal(word: u32) -> Family
-    ensures { λ r. ⌜ r ≡ familyIn Row.LiteralRow word ⌝ }
+    ensures { λ r. ⌜ r ≡ columnsOf Row.LiteralRow .family word ⌝ }
 {
     Family::Literal(literal_op(word / 0x4000_0000 % 4), literal_operands(word))
 }
 
 pub fn pair(word: u32) -> Family
-    ensures { λ r. ⌜ r ≡ familyIn Row.PairRow word ⌝ }
+    ensures { λ r. ⌜ r ≡ columnsOf Row.PairRow .family word ⌝ }
 {
     let op = pair_op_in(word);
     Family::Pair(op, pair_operands(op, word))
 }
 
 pub fn ordered(word: u32) -> Family
-    ensures { λ r. ⌜ r ≡ familyIn Row.OrderedRow word ⌝ }
+    ensures { λ r. ⌜ r ≡ columnsOf Row.OrderedRow .family word ⌝ }
 {
     Family::Ordered(sized_op_in(word), signed_operands(word))
 }
 
 pub fn unscaled(word: u32) -> Family
-    ensures { λ r. ⌜ r ≡ familyIn Row.UnscaledRow word ⌝ }
+    ensures { λ r. ⌜ r ≡ columnsOf Row.UnscaledRow .family word ⌝ }
 {
     Family::Unscaled(sized_op_in(word), signed_operands(word))
 }
 
 pub fn post_index(word: u32) -> Family
-    ensures { λ r. ⌜ r ≡ familyIn Row.PostRow word ⌝ }
+    ensures { λ r. ⌜ r ≡ columnsOf Row.PostRow .family word ⌝ }
 {
     Family::PostIndex(sized_op_in(word), signed_operands(word))
 }
 
 pub fn pre_index(word: u32) -> Family
-    ensures { λ r. ⌜ r ≡ familyIn Row.PreRow word ⌝ }
+    ensures { λ r. ⌜ r ≡ columnsOf Row.PreRow .family word ⌝ }
 {
     Family::PreIndex(sized_op_in(word), signed_operands(word))
 }
 
 pub fn register(word: u32) -> Family
-    ensures { λ r. ⌜ r ≡ familyIn Row.RegisterRow word ⌝ }
+    ensures { λ r. ⌜ r ≡ columnsOf Row.RegisterRow .family word ⌝ }
 {
     Family::Register(sized_op_in(word), index_operands(word))
 }
 
 pub fn unsigned(word: u32) -> Family
-    ensures { λ r. ⌜ r ≡ familyIn Row.UnsignedRow word ⌝ }
+    ensures { λ r. ⌜ r ≡ columnsOf Row.UnsignedRow .family word ⌝ }
 {
     let op = sized_op_in(word);
     Family::Unsigned(op, unsigned_operands(op, word))

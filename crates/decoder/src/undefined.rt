@@ -1,6 +1,5 @@
 // The undefined words of each row.
 ghost use mathlib.Core.Path.{_≡_};
-ghost use mathlib.Core.Bool.{_||_};
 ghost use Rattle.instruction.specs.Undefined.{undefinedSize, undefinedPrefetch, undefinedOption, undefinedPair};
 
 pub fn in_size(word: u32) -> bool
@@ -11,13 +10,13 @@ pub fn in_size(word: u32) -> bool
 }
 
 pub fn without_prefetch(word: u32) -> bool
-    ensures { λ r. ⌜ r ≡ (undefinedSize word || undefinedPrefetch word) ⌝ }
+    ensures { λ r. ⌜ r ≡ undefinedPrefetch word ⌝ }
 {
     in_size(word) | (word / 0x4000_0000 % 4 * 4 + word / 0x40_0000 % 4 == 0b1110)
 }
 
 pub fn in_register(word: u32) -> bool
-    ensures { λ r. ⌜ r ≡ (undefinedSize word || undefinedOption word) ⌝ }
+    ensures { λ r. ⌜ r ≡ undefinedOption word ⌝ }
 {
     in_size(word) | (word / 0x4000 % 2 == 0)
 }

@@ -1,6 +1,6 @@
 // The words of answer 4: writeback over a register of the access, and a pair load into one register twice.
 ghost use mathlib.Core.Path.{_≡_};
-ghost use Rattle.instruction.specs.Unpredictable.{baseIs, pairBaseIs, unpredictablePair};
+ghost use Rattle.instruction.specs.Unpredictable.{baseIs, unpredictablePair};
 
 // Rn is a register of the access, and not SP.
 pub fn base_is(register: u32, word: u32) -> bool
@@ -10,17 +10,11 @@ pub fn base_is(register: u32, word: u32) -> bool
     (base != 31) & (base == register)
 }
 
-fn pair_base_is(word: u32) -> bool
-    ensures { λ r. ⌜ r ≡ pairBaseIs word ⌝ }
-{
-    let first = base_is(word / 1 % 32, word);
-    let second = base_is(word / 0x400 % 32, word);
-    (word / 0x80_0000 % 2 == 1) & (first | second)
-}
-
 pub fn in_pair(word: u32) -> bool
     ensures { λ r. ⌜ r ≡ unpredictablePair word ⌝ }
 {
+    let first = base_is(word / 1 % 32, word);
+    let second = base_is(word / 0x400 % 32, word);
     let twice = word / 1 % 32 == word / 0x400 % 32;
-    pair_base_is(word) | ((word / 0x40_0000 % 2 == 1) & twice)
+    ((word / 0x80_0000 % 2 == 1) & (first | second)) | ((word / 0x40_0000 % 2 == 1) & twice)
 }

@@ -21,9 +21,9 @@ use Rattle.instruction.specs.declared.family.IndexOperands.{IndexOperands}
 use Rattle.instruction.specs.declared.operation.LiteralOp.{LiteralOp}
 use Rattle.instruction.specs.declared.operation.PairOp.{PairOp}
 use Rattle.instruction.specs.declared.operation.SizedOp.{SizedOp}
-use Rattle.instruction.specs.Table.{rowOf}
+use Rattle.instruction.specs.Operands.{sizedIn, literalIn, pairOpIn, pairIn, signedIn, indexIn, unsignedIn}
+use Rattle.instruction.specs.Table.{columnsOf, rowOf}
 use Rattle.instruction.specs.Operations.{sizeOf, opcOf, sizedBytes, literalOpc, pairOpc, pairLoad, pairBytes, modeCode}
-use Rattle.instruction.specs.Instructions.{sizedIn, literalIn, pairOpIn, pairIn, signedIn, indexIn, unsignedIn, familyIn}
 use Rattle.instruction.specs.Encoding.{fixed, wordWith, withBits, literalFields, literalWord, pairFields, pairWord, sizedFields, signedWord, indexFields, indexWord, unsignedWord, wordOf}
 use Rattle.instruction.proofs.Rows.{row-is}
 use Rattle.instruction.proofs.Codes.{sized-at, literal-at, pair-at, mode-at}
@@ -42,7 +42,7 @@ word-back f fs w h =
 
 -- the word is of the row, and its family is the one that it was made of
 abbrev Back : ℕ → Row → Family → Type 0
-Back w l F = (rowOf w ≡ l) × (familyIn l w ≡ F) × (w < 2 ^ 32)
+Back w l F = (rowOf w ≡ l) × (columnsOf l .family w ≡ F) × (w < 2 ^ 32)
 
 literal-back : (op : LiteralOp) (o : LiteralOperands) (w : ℕ) → literalWord op o ≡ Holds w → Back w LiteralRow (Literal op o)
 unfolding literalWord literalIn
@@ -53,7 +53,7 @@ literal-back op o w h =
     let r = q .0 in
     let u = unpack ((o .target, 5) ∷ (p .0, 19) ∷ (0, 2) ∷ (0, 1) ∷ (3, 3) ∷ (literalOpc op, 2) ∷ []) w (omega (arith, q .1))
     (r .1 .0, (r .1 .1 .0, (omega arith, (omega arith, (omega arith, (r .0, tt)))))) in (
-      row-is w LiteralRow refl (u .1 .1 .1 .0, (u .1 .1 .1 .1 .0, (u .1 .1 .0, tt))),
+      row-is w LiteralRow (u .1 .1 .1 .0, (u .1 .1 .1 .1 .0, (u .1 .1 .0, tt))),
       simp (u .1 .1 .1 .1 .1 .0, literal-at op, u .0, u .1 .0, s .1),
       omega (arith, q .1, r .0, r .1 .0, r .1 .1 .0),
     )
@@ -69,7 +69,7 @@ pair-back op o w h =
     ((o .first, 5) ∷ (o .base, 5) ∷ (o .second, 5) ∷ (p .0, 7) ∷ (pairLoad op, 1) ∷ (modeCode (o .mode), 2) ∷ (0, 1) ∷ (0, 1) ∷ (5, 3) ∷ (pairOpc op, 2) ∷ [])
     w (omega (arith, q .1)) (first, (base, (second, (imm7, (load, (mode, (omega arith, (omega arith, (omega arith, (opc, tt)))))))))) in
     let (first=, (base=, (second=, (imm7=, (load=, (mode=, (b25, (b26, (b27, (opc=, _)))))))))) = u in (
-      row-is w PairRow refl (b26, (b27, (b25, tt))),
+      row-is w PairRow (b26, (b27, (b25, tt))),
       simp (opc=, load=, pair-at op, first=, second=, base=, mode=, mode-at (o .mode), imm7=, s .1),
       omega (arith, q .1, opc, mode, load, base, first, second, imm7),
     )
@@ -108,7 +108,7 @@ module _ (op : SizedOp) (o : OffsetOperands) (w a b d : ℕ) (ha : a < 8) (hb : 
 
   signed-family : (l : Row) (F : SizedOp → OffsetOperands → Family) {f : ℕ} → f ≡ a * 2 ^ 27 + b * 2 ^ 24 + d * 2 ^ 10 → signedWord f op o ≡ Holds w
       → (Has w (bits 26 26 0 ∷ bits 29 27 a ∷ bits 25 24 b ∷ bits 21 21 0 ∷ bits 11 10 d ∷ []) → rowOf w ≡ l)
-      → familyIn l w ≡ F (sizedIn w) (signedIn w) → Back w l (F op o)
+      → columnsOf l .family w ≡ F (sizedIn w) (signedIn w) → Back w l (F op o)
   signed-family l F e h line q =
       let s = signed-back-from e h in
       (line (s .has), q ∙ ap (λ (x : SizedOp). F x (signedIn w)) (s .op=) ∙ ap (F op) (s .operands), s .word)
@@ -123,7 +123,7 @@ index-back op o w h =
     w (omega (arith, q .1))
     (target, (base, (omega arith, (scaled, (option, (index, (omega arith, (opc, (omega arith, (omega arith, (omega arith, (size, tt)))))))))))) in
     let (target=, (base=, (b10, (scaled=, (option=, (index=, (b21, (opc=, (b24, (b26, (b27, (size=, _)))))))))))) = u in (
-      row-is w RegisterRow refl (b26, (b27, (b24, (b21, (b10, tt))))),
+      row-is w RegisterRow (b26, (b27, (b24, (b21, (b10, tt))))),
       simp (sized-back op w size= opc=, target=, base=, index=, option=, scaled=),
       omega (arith, q .1, size, opc, base, target, index, option, scaled),
     )
@@ -139,7 +139,7 @@ unsigned-back op o w h =
     ((o .target, 5) ∷ (o .base, 5) ∷ (p .0, 12) ∷ (opcOf op, 2) ∷ (1, 2) ∷ (0, 1) ∷ (7, 3) ∷ (sizeOf op, 2) ∷ [])
     w (omega (arith, q .1)) (target, (base, (imm12, (opc, (omega arith, (omega arith, (omega arith, (size, tt)))))))) in
     let (target=, (base=, (imm12=, (opc=, (b24, (b26, (b27, (size=, _)))))))) = u in (
-      row-is w UnsignedRow refl (b26, (b27, (b24, tt))),
+      row-is w UnsignedRow (b26, (b27, (b24, tt))),
       simp (sized-back op w size= opc=, target=, base=, imm12=, s .1),
       omega (arith, q .1, size, opc, base, target, imm12),
     )
@@ -161,12 +161,12 @@ back Empty w h = absurd (unfit h)
 back (Literal op o) w h = literal-back op o w h
 back (Pair op o) w h = pair-back op o w h
 back (Ordered op o) w h =
-    signed-family op o w 3 1 0 (omega arith) (omega arith) (omega arith) OrderedRow Ordered refl h (row-is w OrderedRow refl) refl
+    signed-family op o w 3 1 0 (omega arith) (omega arith) (omega arith) OrderedRow Ordered refl h (row-is w OrderedRow) refl
 back (Unscaled op o) w h =
-    signed-family op o w 7 0 0 (omega arith) (omega arith) (omega arith) UnscaledRow Unscaled refl h (row-is w UnscaledRow refl) refl
+    signed-family op o w 7 0 0 (omega arith) (omega arith) (omega arith) UnscaledRow Unscaled refl h (row-is w UnscaledRow) refl
 back (PostIndex op o) w h =
-    signed-family op o w 7 0 1 (omega arith) (omega arith) (omega arith) PostRow PostIndex refl h (row-is w PostRow refl) refl
+    signed-family op o w 7 0 1 (omega arith) (omega arith) (omega arith) PostRow PostIndex refl h (row-is w PostRow) refl
 back (PreIndex op o) w h =
-    signed-family op o w 7 0 3 (omega arith) (omega arith) (omega arith) PreRow PreIndex refl h (row-is w PreRow refl) refl
+    signed-family op o w 7 0 3 (omega arith) (omega arith) (omega arith) PreRow PreIndex refl h (row-is w PreRow) refl
 back (Register op o) w h = index-back op o w h
 back (Unsigned op o) w h = unsigned-back op o w h

@@ -14,20 +14,18 @@ use Rattle.instruction.specs.declared.answer.Answer.the-variants.{Done, NoSuchI
 use Rattle.instruction.specs.declared.answer.Encoded.{Encoded}
 use Rattle.instruction.specs.declared.family.Family.{Family}
 use Rattle.instruction.specs.declared.family.Instruction.{Instruction}
-use Rattle.instruction.specs.Table.{rowOf, isRow, inSet}
-use Rattle.instruction.specs.Undefined.{undefinedIn, undefined, allocated}
-use Rattle.instruction.specs.Instructions.{familyIn, instructionOf}
+use Rattle.instruction.specs.Table.{columnsOf, inSet, rowOf, undefined, allocated, instructionOf}
 use Rattle.instruction.specs.Encoding.{wordOf, encodedAs, encodeOf}
-use Rattle.instruction.proofs.Rows.{row-has}
+use Rattle.instruction.proofs.Rows.{row-has, rowed}
 use Rattle.encoder.specs.Exact.{encoded, noWord, Word, Exact}
 use Rattle.encoder.proofs.There.{there}
 use Rattle.encoder.proofs.Back.{back}
 
 allocated-there : (w : ℕ) → w < 2 ^ 32 → allocated w ≡ true → wordOf (instructionOf w .family) ≡ Holds w
-unfolding allocated inSet undefined instructionOf
+unfolding allocated undefined instructionOf
 allocated-there w h a =
-    let p = both (isRow (rowOf w)) (not (undefinedIn (rowOf w) w)) a in
-    there w h (rowOf w) (p .0) (row-has w (p .0)) (not-true _ (p .1))
+    let p = both (inSet w) (not (columnsOf (rowOf w) .undefined w)) a in
+    there w h (rowOf w) (row-has w (p .0)) (not-true _ (p .1))
 
 -- encoding the instruction of an allocated word gives the word
 pub encode-decoded : (w : ℕ) → w < 2 ^ 32 → allocated w ≡ true → encodeOf (instructionOf w) ≡ encoded w
@@ -54,13 +52,12 @@ not-encoded e =
     omega arith
 
 word-of : (i : Instruction) (w : ℕ) → wordOf (i .family) ≡ Holds w → allocated w ≡ true → Word i w
-unfolding instructionOf
 word-of i w h a =
     let b = back (i .family) w h in
     record {
       below = b .2;
       defined = a;
-      instruction = ap (λ (F : Family). record { family = F }) (ap (λ l. familyIn l w) (b .0) ∙ b .1);
+      instruction = rowed w (b .0) .instruction-is ∙ ap (λ (F : Family). record { family = F }) (b .1);
     }
 
 exact-from : (i : Instruction) → Given (wordOf (i .family)) (encodeOf i) → Exact i (encodeOf i)

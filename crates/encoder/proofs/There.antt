@@ -13,11 +13,12 @@ use Rattle.bits.proofs.Parts.{part-lt, top, split, Has}
 use Rattle.bits.proofs.Offsets.{bits-back, plain-back}
 use Rattle.instruction.specs.declared.row.Row.{Row}
 use Rattle.instruction.specs.declared.row.Row.the-variants.{NoRow, LiteralRow, PairRow, OrderedRow, UnscaledRow, PostRow, PreRow, RegisterRow, UnsignedRow}
-use Rattle.instruction.specs.Table.{isRow, fixedOf}
-use Rattle.instruction.specs.Undefined.{sizeOpc, undefinedSize, undefinedPrefetch, undefinedOption, undefinedPair, undefinedIn}
+use Rattle.instruction.specs.Undefined.{sizeOpc, undefinedSize, undefinedPair}
+use Rattle.instruction.specs.Operands.{sizedIn, literalIn, pairOpIn, pairIn, signedIn, indexIn, unsignedIn}
+use Rattle.instruction.specs.Table.{columnsOf}
 use Rattle.instruction.specs.Operations.{sizeOf, opcOf, sizedAt, literalAt, pairOpc, pairLoad, pairAt}
-use Rattle.instruction.specs.Instructions.{sizedIn, literalIn, pairOpIn, pairIn, signedIn, indexIn, unsignedIn, familyIn}
 use Rattle.instruction.specs.Encoding.{literalWord, pairWord, signedWord, indexWord, unsignedWord, wordOf}
+use Rattle.instruction.proofs.Rows.{prefetch-no, option-no}
 use Rattle.instruction.proofs.Codes.{sized, paired, sized-code, literal-code, pair-code, mode-code}
 use Rattle.encoder.proofs.Words.{word-is}
 
@@ -65,7 +66,7 @@ pairs w u =
 -- ---- the word of each family
 
 module _ (w : ℕ) (h : w < 2 ^ 32) where
-  literal-there : Has w (fixedOf LiteralRow) → literalWord (literalAt (field 31 30 w)) (literalIn w) ≡ Holds w
+  literal-there : Has w (columnsOf LiteralRow .fixed) → literalWord (literalAt (field 31 30 w)) (literalIn w) ≡ Holds w
   unfolding literalWord literalIn
   literal-there g =
       let c = literal-code (part 30 2 w) (part-lt 30 2 w) in
@@ -73,7 +74,7 @@ module _ (w : ℕ) (h : w < 2 ^ 32) where
       (sym (word-is _ _ (simp (c, lt-ltb _ _ (part-lt 30 2 w), lt-ltb _ _ (part-lt 0 5 w), lt-ltb _ _ (part-lt 5 19 w)))
       (omega (arith, split (5 ∷ 19 ∷ 2 ∷ 1 ∷ 3 ∷ 2 ∷ []) w, top w 32 h))))
 
-  pair-there : Has w (fixedOf PairRow) → undefinedPair w ≡ false → pairWord (pairOpIn w) (pairIn (pairOpIn w) w) ≡ Holds w
+  pair-there : Has w (columnsOf PairRow .fixed) → undefinedPair w ≡ false → pairWord (pairOpIn w) (pairIn (pairOpIn w) w) ≡ Holds w
   unfolding pairWord pairIn
   pair-there g u =
       let p = pairs w u in
@@ -113,7 +114,7 @@ module _ (w : ℕ) (h : w < 2 ^ 32) where
       ))
       (rw (s .size, s .opc) (omega (arith, split (5 ∷ 5 ∷ 2 ∷ 9 ∷ 1 ∷ 2 ∷ 2 ∷ 1 ∷ 3 ∷ 2 ∷ []) w, top w 32 h)))))
 
-  index-there : Has w (fixedOf RegisterRow) → undefinedSize w ≡ false → indexWord (sizedIn w) (indexIn w) ≡ Holds w
+  index-there : Has w (columnsOf RegisterRow .fixed) → undefinedSize w ≡ false → indexWord (sizedIn w) (indexIn w) ≡ Holds w
   unfolding indexWord indexIn
   index-there g u =
       let s = sizes w u in
@@ -131,7 +132,7 @@ module _ (w : ℕ) (h : w < 2 ^ 32) where
       ))
       (omega (arith, split (5 ∷ 5 ∷ 2 ∷ 1 ∷ 3 ∷ 5 ∷ 1 ∷ 2 ∷ 2 ∷ 1 ∷ 3 ∷ 2 ∷ []) w, top w 32 h)))
 
-  unsigned-there : Has w (fixedOf UnsignedRow) → undefinedSize w ≡ false → unsignedWord (sizedIn w) (unsignedIn (sizedIn w) w) ≡ Holds w
+  unsigned-there : Has w (columnsOf UnsignedRow .fixed) → undefinedSize w ≡ false → unsignedWord (sizedIn w) (unsignedIn (sizedIn w) w) ≡ Holds w
   unfolding unsignedWord unsignedIn
   unsigned-there g u =
       let s = sizes w u in
@@ -148,13 +149,13 @@ module _ (w : ℕ) (h : w < 2 ^ 32) where
       ))
       (omega (arith, split (5 ∷ 5 ∷ 12 ∷ 2 ∷ 2 ∷ 1 ∷ 3 ∷ 2 ∷ []) w, top w 32 h))))
 
-  pub there : (l : Row) → isRow l ≡ true → Has w (fixedOf l) → undefinedIn l w ≡ false → wordOf (familyIn l w) ≡ Holds w
-  there NoRow t g u = cc
-  there LiteralRow t g u = literal-there g
-  there PairRow t g u = pair-there g u
-  there OrderedRow t g u = signed-there 3 1 0 g refl (neither (undefinedSize w) (undefinedPrefetch w) u .0)
-  there UnscaledRow t g u = signed-there 7 0 0 g refl u
-  there PostRow t g u = signed-there 7 0 1 g refl (neither (undefinedSize w) (undefinedPrefetch w) u .0)
-  there PreRow t g u = signed-there 7 0 3 g refl (neither (undefinedSize w) (undefinedPrefetch w) u .0)
-  there RegisterRow t g u = index-there g (neither (undefinedSize w) (undefinedOption w) u .0)
-  there UnsignedRow t g u = unsigned-there g u
+  pub there : (r : Row) → Has w (columnsOf r .fixed) → columnsOf r .undefined w ≡ false → wordOf (columnsOf r .family w) ≡ Holds w
+  there NoRow g u = absurd (omega arith)
+  there LiteralRow g u = literal-there g
+  there PairRow g u = pair-there g u
+  there OrderedRow g u = signed-there 3 1 0 g refl (prefetch-no w u .0)
+  there UnscaledRow g u = signed-there 7 0 0 g refl u
+  there PostRow g u = signed-there 7 0 1 g refl (prefetch-no w u .0)
+  there PreRow g u = signed-there 7 0 3 g refl (prefetch-no w u .0)
+  there RegisterRow g u = index-there g (option-no w u .0)
+  there UnsignedRow g u = unsigned-there g u

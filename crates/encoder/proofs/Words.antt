@@ -17,7 +17,7 @@ use Rattle.instruction.specs.declared.family.IndexOperands.{IndexOperands}
 use Rattle.instruction.specs.declared.family.Instruction.{Instruction}
 use Rattle.instruction.specs.declared.row.Row.{Row}
 use Rattle.instruction.specs.declared.operation.SizedOp.{SizedOp}
-use Rattle.instruction.specs.Undefined.{allocated}
+use Rattle.instruction.specs.Table.{allocated}
 use Rattle.instruction.specs.Encoding.{fixed, wordWith, withBits, sizedFields, indexFields, indexWord, wordOf, encodedAs, encodeOf}
 use Rattle.instruction.proofs.Codes.{sized}
 use Rattle.encoder.specs.route.Sized.{sizedWord}

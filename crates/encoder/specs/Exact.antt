@@ -7,8 +7,7 @@ use mathlib.Core.Logic.{_⊎_}
 use Rattle.instruction.specs.declared.answer.Answer.the-variants.{Done, NoSuchInstruction}
 use Rattle.instruction.specs.declared.answer.Encoded.{Encoded}
 use Rattle.instruction.specs.declared.family.Instruction.{Instruction}
-use Rattle.instruction.specs.Undefined.{allocated}
-use Rattle.instruction.specs.Instructions.{instructionOf}
+use Rattle.instruction.specs.Table.{allocated, instructionOf}
 
 abbrev pub encoded : ℕ → Encoded
 encoded w = record { answer = Done; word = w }

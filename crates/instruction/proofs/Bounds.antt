@@ -9,9 +9,8 @@ use Rattle.bits.proofs.Parts.{part-lt}
 use Rattle.bits.proofs.Offsets.{signed-most}
 use Rattle.instruction.specs.Types.{Row, NoRow, LiteralRow, PairRow, OrderedRow, UnscaledRow, PostRow, PreRow, RegisterRow, UnsignedRow, SizedOp, OffsetOperands}
 use Rattle.instruction.specs.Operations.{sizedBytes, pairBytes}
-use Rattle.instruction.specs.Table.{rowOf}
-use Rattle.instruction.specs.Undefined.{allocated}
-use Rattle.instruction.specs.Instructions.{sizedIn, literalIn, pairOpIn, pairIn, signedIn, indexIn, unsignedIn, familyIn, instructionOf}
+use Rattle.instruction.specs.Operands.{sizedIn, literalIn, pairOpIn, pairIn, signedIn, indexIn, unsignedIn}
+use Rattle.instruction.specs.Table.{columnsOf, rowOf, allocated, instructionOf}
 use Rattle.instruction.specs.Decoding.{decodeOf, empty}
 use Rattle.instruction.specs.route.Bounds.{LiteralBounds, PairBounds, OffsetBounds, IndexBounds, Bounded}
 use Rattle.instruction.proofs.Codes.{sized, paired}
@@ -48,7 +47,7 @@ module _ (w : ℕ) where
       let most : field 21 10 w * sizedBytes op ≤ 4095 * 8 = mul-le-mul below (sized op .most) in
       record { target = part-lt 0 5 w; base = part-lt 5 5 w; offset = omega arith }
 
-  bounded-in : (r : Row) → Bounded (familyIn r w)
+  bounded-in : (r : Row) → Bounded (columnsOf r .family w)
   bounded-in NoRow = tt
   bounded-in LiteralRow = literal-bounds
   bounded-in PairRow = pair-bounds
@@ -59,7 +58,7 @@ module _ (w : ℕ) where
   bounded-in RegisterRow = index-bounds
   bounded-in UnsignedRow = unsigned-bounds (sizedIn w)
 
-  by-allocated : (b : Bool) (r : Row) → Bounded (pick b (record { family = familyIn r w }) empty .family)
+  by-allocated : (b : Bool) (r : Row) → Bounded (pick b (record { family = columnsOf r .family w }) empty .family)
   by-allocated true r = bounded-in r
   by-allocated false r = tt
 

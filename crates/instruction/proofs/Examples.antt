@@ -6,11 +6,11 @@ use lib.IntN.{pos, negsuc}
 use Rattle.bits.specs.Fields.{part}
 use Rattle.bits.specs.Signed.{signedOf}
 use Rattle.instruction.specs.Types.{Family, Literal, Pair, Ordered, Unscaled, PostIndex, Register, Unsigned, LoadByte, LoadDouble, LoadSignedByte32, LoadSignedByte64, StoreDoubles, LiteralDouble, Pre, Prefetch, StoreByte, Undefined, Unpredictable, NotInSet, Answer, Done}
-use Rattle.instruction.specs.Table.{rowOf, inSet}
-use Rattle.instruction.specs.Undefined.{undefined, undefinedSize, undefinedPrefetch, undefinedOption, undefinedPair}
-use Rattle.instruction.specs.Unpredictable.{unpredictable, baseIs, pairBaseIs, unpredictablePair}
 use Rattle.instruction.specs.Operations.{sizedAt, literalAt, pairAt, modeAt}
-use Rattle.instruction.specs.Instructions.{sizedIn, literalIn, pairOpIn, pairIn, signedIn, indexIn, unsignedIn, instructionOf}
+use Rattle.instruction.specs.Undefined.{undefinedSize, undefinedPrefetch, undefinedOption, undefinedPair}
+use Rattle.instruction.specs.Unpredictable.{baseIs, unpredictablePair}
+use Rattle.instruction.specs.Operands.{sizedIn, literalIn, pairOpIn, pairIn, signedIn, indexIn, unsignedIn}
+use Rattle.instruction.specs.Table.{inSet, rowOf, undefined, unpredictable, instructionOf}
 use Rattle.instruction.specs.Decoding.{classOf}
 
 abbrev Decodes : List (ℕ × Family) → Type 0
@@ -45,5 +45,5 @@ answered =
     ∷ (0x91000000, NotInSet) ∷ (0x385ff020, Done) ∷ []
 
 pub starred-answers : Classes answered
-unfolding classOf rowOf inSet part undefined undefinedSize undefinedPrefetch undefinedOption undefinedPair unpredictable baseIs pairBaseIs unpredictablePair
+unfolding classOf rowOf inSet part undefined undefinedSize undefinedPrefetch undefinedOption undefinedPair unpredictable baseIs unpredictablePair
 starred-answers = (refl, (refl, (refl, (refl, (refl, (refl, (refl, tt)))))))

@@ -1,54 +1,101 @@
 -- The rows of the table: a word matches at most one, and keys tell which. Assumes nothing.
 use Prim.Native.Nat.{ℕ, _+_, _*_, _<_}
-use mathlib.Core.Path.{_≡_, refl, sym, _∙_}
-use mathlib.Core.Bool.{true}
+use mathlib.Core.Path.{_≡_, refl, sym, ap, _∙_}
+use mathlib.Core.Bool.{Bool, true, false, _||_}
 use mathlib.Core.List.{List, [], _∷_}
 use native.Mathlib.Omega.{arith}
+use lib.Dec.{eqb}
+use Rattle.bits.specs.Choice.{any}
 use Rattle.bits.specs.Fields.{part, field}
-use Rattle.bits.proofs.Choices.{pick-by}
+use Rattle.bits.proofs.Choices.{pick-by, neither}
 use Rattle.bits.proofs.Parts.{part-lt, cut, Has, has-true}
 use Rattle.instruction.specs.Types.{Row, NoRow, LiteralRow, PairRow, OrderedRow, UnscaledRow, PostRow, PreRow, RegisterRow, UnsignedRow}
-use Rattle.instruction.specs.Table.{fixedOf, rows, matches, firstOf, rowOf, isRow}
+use Rattle.instruction.specs.Undefined.{sizeOpc, undefinedSize, undefinedPrefetch, undefinedOption}
+use Rattle.instruction.specs.Table.{columnsOf, rows, matches, inSet, firstOf, rowOf, undefined, unpredictable, instructionOf}
 
 -- ---- the row of a word
 
+pub no-row : (w : ℕ) → matches w NoRow ≡ false
+no-row w = go (matches w NoRow) refl
+  where
+    go : (b : Bool) → matches w NoRow ≡ b → matches w NoRow ≡ false
+    go true e = let h = has-true w (columnsOf NoRow .fixed) e in absurd (omega arith)
+    go false e = e
+
 -- the one row that a word has the bits of
-pub row-is : (w : ℕ) (l : Row) → isRow l ≡ true → Has w (fixedOf l) → rowOf w ≡ l
+pub row-is : (w : ℕ) (r : Row) → Has w (columnsOf r .fixed) → rowOf w ≡ r
 unfolding rowOf
-row-is w NoRow t h = cc
-row-is w LiteralRow t h = simp (h .0, h .1 .0, h .1 .1 .0)
-row-is w PairRow t h = simp (h .0, h .1 .0, h .1 .1 .0)
-row-is w OrderedRow t h = simp (h .0, h .1 .0, h .1 .1 .0, h .1 .1 .1 .0, h .1 .1 .1 .1 .0)
-row-is w UnscaledRow t h = simp (h .0, h .1 .0, h .1 .1 .0, h .1 .1 .1 .0, h .1 .1 .1 .1 .0)
-row-is w PostRow t h = simp (h .0, h .1 .0, h .1 .1 .0, h .1 .1 .1 .0, h .1 .1 .1 .1 .0)
-row-is w PreRow t h = simp (h .0, h .1 .0, h .1 .1 .0, h .1 .1 .1 .0, h .1 .1 .1 .1 .0)
-row-is w RegisterRow t h = simp (h .0, h .1 .0, h .1 .1 .0, h .1 .1 .1 .0, h .1 .1 .1 .1 .0)
-row-is w UnsignedRow t h = simp (h .0, h .1 .0, h .1 .1 .0)
+row-is w NoRow h = absurd (omega arith)
+row-is w LiteralRow h = simp (h .0, h .1 .0, h .1 .1 .0)
+row-is w PairRow h = simp (h .0, h .1 .0, h .1 .1 .0)
+row-is w OrderedRow h = simp (h .0, h .1 .0, h .1 .1 .0, h .1 .1 .1 .0, h .1 .1 .1 .1 .0)
+row-is w UnscaledRow h = simp (h .0, h .1 .0, h .1 .1 .0, h .1 .1 .1 .0, h .1 .1 .1 .1 .0)
+row-is w PostRow h = simp (h .0, h .1 .0, h .1 .1 .0, h .1 .1 .1 .0, h .1 .1 .1 .1 .0)
+row-is w PreRow h = simp (h .0, h .1 .0, h .1 .1 .0, h .1 .1 .1 .0, h .1 .1 .1 .1 .0)
+row-is w RegisterRow h = simp (h .0, h .1 .0, h .1 .1 .0, h .1 .1 .1 .0, h .1 .1 .1 .1 .0)
+row-is w UnsignedRow h = simp (h .0, h .1 .0, h .1 .1 .0)
 
--- the eight rows never overlap
-pub never-overlap : (w : ℕ) (a b : Row) → isRow a ≡ true → isRow b ≡ true → matches w a ≡ true → matches w b ≡ true → a ≡ b
-never-overlap w a b s t p q = sym (row-is w a s (has-true w (fixedOf a) p)) ∙ row-is w b t (has-true w (fixedOf b) q)
+-- the rows never overlap
+pub never-overlap : (w : ℕ) (a b : Row) → matches w a ≡ true → matches w b ≡ true → a ≡ b
+never-overlap w a b p q = sym (row-is w a (has-true w (columnsOf a .fixed) p)) ∙ row-is w b (has-true w (columnsOf b .fixed) q)
 
-first-matches : (ls : List Row) (w : ℕ) → isRow (firstOf ls w) ≡ true → matches w (firstOf ls w) ≡ true
-first-matches [] w = λ t. cc
-first-matches (l ∷ ls) w =
-    pick-by (λ (x : Row). isRow x ≡ true → matches w x ≡ true) (matches w l) (λ p t. p) (λ p t. first-matches ls w t)
+-- ---- words of the set
+
+some-of : (rs : List Row) (w : ℕ) → any (matches w) rs ≡ matches w (firstOf rs w)
+some-of [] w = sym (no-row w)
+some-of (r ∷ rs) w =
+    pick-by (λ (x : Row). (matches w r || any (matches w) rs) ≡ matches w x) (matches w r) (λ e. rw e) (λ e. rw e (some-of rs w))
+
+-- a word of the set matches the row that it has
+pub set-matches : (w : ℕ) → inSet w ≡ matches w (rowOf w)
+unfolding inSet rowOf
+set-matches w = some-of rows w
 
 -- the bits of a word of the set
-pub row-has : (w : ℕ) → isRow (rowOf w) ≡ true → Has w (fixedOf (rowOf w))
-unfolding rowOf
-row-has w t = has-true w (fixedOf (firstOf rows w)) (first-matches rows w t)
+pub row-has : (w : ℕ) → inSet w ≡ true → Has w (columnsOf (rowOf w) .fixed)
+row-has w t = has-true w (columnsOf (rowOf w) .fixed) (sym (set-matches w) ∙ t)
 
-none-is : (l : Row) → (isRow l ≡ true → ⊥) → l ≡ NoRow
-none-is NoRow n = refl
-none-is LiteralRow n = absurd (n refl)
-none-is PairRow n = absurd (n refl)
-none-is OrderedRow n = absurd (n refl)
-none-is UnscaledRow n = absurd (n refl)
-none-is PostRow n = absurd (n refl)
-none-is PreRow n = absurd (n refl)
-none-is RegisterRow n = absurd (n refl)
-none-is UnsignedRow n = absurd (n refl)
+-- other words have no row
+none-of : (rs : List Row) (w : ℕ) → any (matches w) rs ≡ false → firstOf rs w ≡ NoRow
+none-of [] w e = refl
+none-of (r ∷ rs) w e =
+    let n = neither (matches w r) (any (matches w) rs) e in
+    rw (n .0) (none-of rs w (n .1))
+
+pub set-none : (w : ℕ) → inSet w ≡ false → rowOf w ≡ NoRow
+unfolding inSet rowOf
+set-none w e = none-of rows w e
+
+pub of-set : (w : ℕ) {r : Row} → rowOf w ≡ r → (r ≡ NoRow → _≡_ {A = Bool} false true) → inSet w ≡ true
+of-set w e n = go (inSet w) refl
+  where
+    go : (b : Bool) → inSet w ≡ b → inSet w ≡ true
+    go true t = t
+    go false t = t ∙ n (sym e ∙ set-none w t)
+
+-- what a word is, by the columns of its row
+pub record Rowed (w : ℕ) (r : Row) : Type 0 where
+  pub undefined-is : undefined w ≡ columnsOf r .undefined w
+  pub unpredictable-is : unpredictable w ≡ columnsOf r .unpredictable w
+  pub instruction-is : instructionOf w ≡ record { family = columnsOf r .family w }
+
+pub rowed : (w : ℕ) {r : Row} → rowOf w ≡ r → Rowed w r
+unfolding undefined unpredictable instructionOf
+rowed w e =
+    record {
+      undefined-is = ap (λ (x : Row). columnsOf x .undefined w) e;
+      unpredictable-is = ap (λ (x : Row). columnsOf x .unpredictable w) e;
+      instruction-is = ap (λ (x : Row). record { family = columnsOf x .family w }) e;
+    }
+
+-- what isn't undefined where more is than its size
+pub prefetch-no : (w : ℕ) → undefinedPrefetch w ≡ false → (undefinedSize w ≡ false) × (eqb (sizeOpc w) 0b11_10 ≡ false)
+unfolding undefinedPrefetch
+prefetch-no w u = neither (undefinedSize w) (eqb (sizeOpc w) 0b11_10) u
+
+pub option-no : (w : ℕ) → undefinedOption w ≡ false → (undefinedSize w ≡ false) × (eqb (field 14 14 w) 0 ≡ false)
+unfolding undefinedOption
+option-no w u = neither (undefinedSize w) (eqb (field 14 14 w) 0) u
 
 -- ---- the keys of a row: bits 29..25, bit 24, and bits 21 and 11..10 as one number
 
@@ -89,18 +136,18 @@ module _ (w : ℕ) where
         below-10 = part-lt 10 2 w;
       }
 
-  keys-of : (l : Row) → isRow l ≡ true → Has w (fixedOf l) → Keys w l
-  keys-of NoRow t h = let z : _≡_ {A = ℕ} 0 1 = cc in omega arith
-  keys-of LiteralRow t h = omega (arith, cuts)
-  keys-of PairRow t h = omega (arith, cuts)
-  keys-of OrderedRow t h = omega (arith, cuts)
-  keys-of UnscaledRow t h = omega (arith, cuts)
-  keys-of PostRow t h = omega (arith, cuts)
-  keys-of PreRow t h = omega (arith, cuts)
-  keys-of RegisterRow t h = omega (arith, cuts)
-  keys-of UnsignedRow t h = omega (arith, cuts)
+  keys-of : (r : Row) → Has w (columnsOf r .fixed) → Keys w r
+  keys-of NoRow h = omega arith
+  keys-of LiteralRow h = omega (arith, cuts)
+  keys-of PairRow h = omega (arith, cuts)
+  keys-of OrderedRow h = omega (arith, cuts)
+  keys-of UnscaledRow h = omega (arith, cuts)
+  keys-of PostRow h = omega (arith, cuts)
+  keys-of PreRow h = omega (arith, cuts)
+  keys-of RegisterRow h = omega (arith, cuts)
+  keys-of UnsignedRow h = omega (arith, cuts)
 
-  has-of : (l : Row) → Keys w l → Has w (fixedOf l)
+  has-of : (r : Row) → Keys w r → Has w (columnsOf r .fixed)
   has-of NoRow k = absurd k
   has-of LiteralRow k = omega (arith, cuts)
   has-of PairRow k = omega (arith, cuts)
@@ -111,8 +158,12 @@ module _ (w : ℕ) where
   has-of RegisterRow k = omega (arith, cuts)
   has-of UnsignedRow k = omega (arith, cuts)
 
-  pub keyed : (l : Row) → isRow l ≡ true → Keys w l → rowOf w ≡ l
-  keyed l t k = row-is w l t (has-of l k)
+  pub keyed : (r : Row) → Keys w r → rowOf w ≡ r
+  keyed r k = row-is w r (has-of r k)
 
-  pub unkeyed : ((l : Row) → Keys w l → ⊥) → rowOf w ≡ NoRow
-  unkeyed n = none-is (rowOf w) (λ t. n (rowOf w) (keys-of (rowOf w) t (row-has w t)))
+  pub unkeyed : ((r : Row) → Keys w r → ⊥) → rowOf w ≡ NoRow
+  unkeyed n = go (inSet w) refl
+    where
+      go : (b : Bool) → inSet w ≡ b → rowOf w ≡ NoRow
+      go true e = absurd (n (rowOf w) (keys-of (rowOf w) (row-has w e)))
+      go false e = set-none w e

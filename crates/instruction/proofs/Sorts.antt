@@ -5,26 +5,14 @@ use mathlib.Core.Bool.{Bool, true, false, _&&_, not}
 use mathlib.Core.List.{[], _∷_}
 use mathlib.Core.Logic.{_↔_}
 use Rattle.bits.specs.Choice.{pick, howMany}
-use Rattle.instruction.specs.Types.{Row, NoRow, LiteralRow, PairRow, OrderedRow, UnscaledRow, PostRow, PreRow, RegisterRow, UnsignedRow, Answer, Done, NotInSet, Undefined}
-use Rattle.instruction.specs.Table.{isRow, rowOf, inSet}
-use Rattle.instruction.specs.Undefined.{undefinedIn, undefined, allocated}
+use Rattle.instruction.specs.Types.{Answer, Done, NotInSet, Undefined}
+use Rattle.instruction.specs.Table.{inSet, undefined, allocated}
 use Rattle.instruction.specs.Decoding.{decodeOf}
+use Rattle.instruction.proofs.Rows.{set-none, rowed}
 
 -- undefined words are of the set
-none-undefined : (l : Row) (w : ℕ) → isRow l ≡ false → undefinedIn l w ≡ false
-none-undefined NoRow w e = refl
-none-undefined LiteralRow w e = refl
-none-undefined PairRow w e = cc
-none-undefined OrderedRow w e = cc
-none-undefined UnscaledRow w e = cc
-none-undefined PostRow w e = cc
-none-undefined PreRow w e = cc
-none-undefined RegisterRow w e = cc
-none-undefined UnsignedRow w e = cc
-
 inside : (w : ℕ) → inSet w ≡ false → undefined w ≡ false
-unfolding inSet undefined
-inside w e = none-undefined (rowOf w) w e
+inside w e = rowed w (set-none w e) .undefined-is
 
 one-of : (s u : Bool) → (s ≡ false → u ≡ false) → howMany (not s ∷ u ∷ (s && not u) ∷ []) ≡ 1
 one-of true true n = refl

@@ -2,10 +2,7 @@
 use Prim.Native.Nat.{ℕ}
 use Rattle.bits.specs.Choice.{pick}
 use Rattle.instruction.specs.Types.{Answer, Done, NotInSet, Undefined, Unpredictable, Decoded, Instruction, Empty}
-use Rattle.instruction.specs.Table.{inSet}
-use Rattle.instruction.specs.Undefined.{undefined, allocated}
-use Rattle.instruction.specs.Unpredictable.{unpredictable}
-use Rattle.instruction.specs.Instructions.{instructionOf}
+use Rattle.instruction.specs.Table.{inSet, undefined, allocated, unpredictable, instructionOf}
 
 -- 01's empty record
 abbrev pub empty : Instruction

@@ -7,13 +7,12 @@ use Rattle.bits.specs.Signed.{bitsOf, plainBitsOf}
 use Rattle.bits.specs.declared.Field.{Field}
 use Rattle.bits.specs.declared.Field.the-variants.{Holds, Unfit}
 use Rattle.instruction.specs.Types.{Row, LiteralRow, PairRow, OrderedRow, UnscaledRow, PostRow, PreRow, RegisterRow, UnsignedRow, Family, Empty, Literal, Pair, Ordered, Unscaled, PostIndex, PreIndex, Register, Unsigned, Instruction, LiteralOp, LiteralOperands, PairOp, PairOperands, OffsetOperands, IndexOperands, SizedOp, Encoded, Done, NoSuchInstruction}
-use Rattle.instruction.specs.Table.{fixedOf}
-use Rattle.instruction.specs.Undefined.{allocated}
+use Rattle.instruction.specs.Table.{columnsOf, allocated}
 use Rattle.instruction.specs.Operations.{sizeOf, opcOf, sizedBytes, literalOpc, pairOpc, pairLoad, modeCode, pairBytes}
 
 -- the fixed bits of a row
 abbrev pub fixed : Row → ℕ
-fixed l = placed (fixedOf l)
+fixed r = placed (columnsOf r .fixed)
 
 -- the word of these fields beside the fixed bits, if each has room
 unfoldable pub wordWith : ℕ → List Bits → Field

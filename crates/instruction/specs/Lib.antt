@@ -1,10 +1,10 @@
 pub mod Types
 pub mod Answers
-pub mod Table
+pub mod Operations
 pub mod Undefined
 pub mod Unpredictable
-pub mod Operations
-pub mod Instructions
+pub mod Operands
+pub mod Table
 pub mod Decoding
 pub mod Encoding
 pub mod route

@@ -1,53 +1,85 @@
--- Which words are instructions: the table of 01, "The instructions we take", a row for each of its lines.
+-- The table of 01, "The instructions we take", a row for each of its lines, with what else 01 says of the row's words; and
+-- what that says of a word: whether it is of the set, undefined, allocated, unpredictable, and its instruction.
 use Prim.Native.Nat.{ℕ}
-use mathlib.Core.Bool.{Bool, true, false}
+use mathlib.Core.Bool.{Bool, false, _&&_, not}
 use mathlib.Core.List.{List, [], _∷_}
-use Rattle.bits.specs.Choice.{pick}
-use Rattle.bits.specs.Fields.{Bits, bits, has}
-use Rattle.instruction.specs.Types.{Row, NoRow, LiteralRow, PairRow, OrderedRow, UnscaledRow, PostRow, PreRow, RegisterRow, UnsignedRow}
+use Rattle.bits.specs.Choice.{pick, any}
+use Rattle.bits.specs.Fields.{Bits, bits, field, has}
+use Rattle.instruction.specs.Types.{Row, NoRow, LiteralRow, PairRow, OrderedRow, UnscaledRow, PostRow, PreRow, RegisterRow, UnsignedRow, Family, Empty, Literal, Pair, Ordered, Unscaled, PostIndex, PreIndex, Register, Unsigned, Instruction}
+use Rattle.instruction.specs.Operations.{literalAt}
+use Rattle.instruction.specs.Operands.{sizedIn, literalIn, pairOpIn, pairIn, signedIn, indexIn, unsignedIn}
+use Rattle.instruction.specs.Undefined.{undefinedSize, undefinedPrefetch, undefinedOption, undefinedPair}
+use Rattle.instruction.specs.Unpredictable.{unpredictableBase, unpredictablePair}
 
--- the columns "Bits 29..27", "25..24" and "Others"
-abbrev pub columnsOf : Row → List Bits
-columnsOf NoRow = []
-columnsOf LiteralRow = bits 29 27 0b011 ∷ bits 25 24 0b00 ∷ []
-columnsOf PairRow = bits 29 27 0b101 ∷ bits 25 25 0 ∷ []
-columnsOf OrderedRow = bits 29 27 0b011 ∷ bits 25 24 0b01 ∷ bits 21 21 0 ∷ bits 11 10 0b00 ∷ []
-columnsOf UnscaledRow = bits 29 27 0b111 ∷ bits 25 24 0b00 ∷ bits 21 21 0 ∷ bits 11 10 0b00 ∷ []
-columnsOf PostRow = bits 29 27 0b111 ∷ bits 25 24 0b00 ∷ bits 21 21 0 ∷ bits 11 10 0b01 ∷ []
-columnsOf PreRow = bits 29 27 0b111 ∷ bits 25 24 0b00 ∷ bits 21 21 0 ∷ bits 11 10 0b11 ∷ []
-columnsOf RegisterRow = bits 29 27 0b111 ∷ bits 25 24 0b00 ∷ bits 21 21 1 ∷ bits 11 10 0b10 ∷ []
-columnsOf UnsignedRow = bits 29 27 0b111 ∷ bits 25 24 0b01 ∷ []
+-- the bits that a word of the row has, when it is undefined and when unpredictable, and the family that it stands for
+pub record Columns : Type 0 where
+  pub fixed : List Bits
+  pub undefined : ℕ → Bool
+  pub unpredictable : ℕ → Bool
+  pub family : ℕ → Family
 
--- "Only words with bit 26 = 0 (general registers)"
-abbrev pub fixedOf : Row → List Bits
-fixedOf l = bits 26 26 0 ∷ columnsOf l
+-- "Only words with bit 26 = 0 (general registers)", and the columns "Bits 29..27", "25..24" and "Others"
+abbrev pub columns : List Bits → (ℕ → Bool) → (ℕ → Bool) → (ℕ → Family) → Columns
+columns others undefined unpredictable family =
+    record { fixed = bits 26 26 0 ∷ others; undefined = undefined; unpredictable = unpredictable; family = family }
+
+abbrev pub never : ℕ → Bool
+never w = false
+
+-- bit 26 is never 1 too, so no word matches NoRow
+abbrev pub columnsOf : Row → Columns
+columnsOf NoRow = columns (bits 26 26 1 ∷ []) never never (λ w. Empty)
+columnsOf LiteralRow =
+    columns (bits 29 27 0b011 ∷ bits 25 24 0b00 ∷ []) never never (λ w. Literal (literalAt (field 31 30 w)) (literalIn w))
+columnsOf PairRow =
+    columns (bits 29 27 0b101 ∷ bits 25 25 0 ∷ []) undefinedPair unpredictablePair (λ w. Pair (pairOpIn w) (pairIn (pairOpIn w) w))
+columnsOf OrderedRow =
+    columns (bits 29 27 0b011 ∷ bits 25 24 0b01 ∷ bits 21 21 0 ∷ bits 11 10 0b00 ∷ [])
+    undefinedPrefetch never (λ w. Ordered (sizedIn w) (signedIn w))
+columnsOf UnscaledRow =
+    columns (bits 29 27 0b111 ∷ bits 25 24 0b00 ∷ bits 21 21 0 ∷ bits 11 10 0b00 ∷ [])
+    undefinedSize never (λ w. Unscaled (sizedIn w) (signedIn w))
+columnsOf PostRow =
+    columns (bits 29 27 0b111 ∷ bits 25 24 0b00 ∷ bits 21 21 0 ∷ bits 11 10 0b01 ∷ [])
+    undefinedPrefetch unpredictableBase (λ w. PostIndex (sizedIn w) (signedIn w))
+columnsOf PreRow =
+    columns (bits 29 27 0b111 ∷ bits 25 24 0b00 ∷ bits 21 21 0 ∷ bits 11 10 0b11 ∷ [])
+    undefinedPrefetch unpredictableBase (λ w. PreIndex (sizedIn w) (signedIn w))
+columnsOf RegisterRow =
+    columns (bits 29 27 0b111 ∷ bits 25 24 0b00 ∷ bits 21 21 1 ∷ bits 11 10 0b10 ∷ [])
+    undefinedOption never (λ w. Register (sizedIn w) (indexIn w))
+columnsOf UnsignedRow =
+    columns (bits 29 27 0b111 ∷ bits 25 24 0b01 ∷ []) undefinedSize never (λ w. Unsigned (sizedIn w) (unsignedIn (sizedIn w) w))
 
 abbrev pub rows : List Row
 rows =
     LiteralRow ∷ PairRow ∷ OrderedRow ∷ UnscaledRow ∷ PostRow ∷ PreRow ∷ RegisterRow ∷ UnsignedRow ∷ []
 
 abbrev pub matches : ℕ → Row → Bool
-matches w l = has w (fixedOf l)
+matches w r = has w (columnsOf r .fixed)
+
+-- 01's "of the set": some row matches
+unfoldable pub inSet : ℕ → Bool
+inSet w = any (matches w) rows
 
 abbrev pub firstOf : List Row → ℕ → Row
 firstOf [] w = NoRow
-firstOf (l ∷ ls) w = pick (matches w l) l (firstOf ls w)
+firstOf (r ∷ rs) w = pick (matches w r) r (firstOf rs w)
 
 -- the row that a word matches
 unfoldable pub rowOf : ℕ → Row
 rowOf w = firstOf rows w
 
-abbrev pub isRow : Row → Bool
-isRow NoRow = false
-isRow LiteralRow = true
-isRow PairRow = true
-isRow OrderedRow = true
-isRow UnscaledRow = true
-isRow PostRow = true
-isRow PreRow = true
-isRow RegisterRow = true
-isRow UnsignedRow = true
+unfoldable pub undefined : ℕ → Bool
+undefined w = columnsOf (rowOf w) .undefined w
 
--- 01's "of the set"
-unfoldable pub inSet : ℕ → Bool
-inSet w = isRow (rowOf w)
+-- 01's "allocated": of the set and not undefined
+unfoldable pub allocated : ℕ → Bool
+allocated w = inSet w && not (undefined w)
+
+unfoldable pub unpredictable : ℕ → Bool
+unpredictable w = columnsOf (rowOf w) .unpredictable w
+
+-- the instruction of an allocated word
+unfoldable pub instructionOf : ℕ → Instruction
+instructionOf w = record { family = columnsOf (rowOf w) .family w }

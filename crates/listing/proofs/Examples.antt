@@ -4,11 +4,11 @@ use mathlib.Core.Path.{_≡_, refl}
 use lib.ListN.{length}
 use Rattle.bits.specs.Fields.{part}
 use Rattle.bits.specs.Signed.{signedOf}
-use Rattle.instruction.specs.Table.{rowOf, inSet}
-use Rattle.instruction.specs.Undefined.{undefined, allocated, undefinedSize, undefinedPrefetch, undefinedOption}
-use Rattle.instruction.specs.Unpredictable.{unpredictable, baseIs}
+use Rattle.instruction.specs.Undefined.{undefinedSize, undefinedPrefetch, undefinedOption}
+use Rattle.instruction.specs.Unpredictable.{baseIs}
+use Rattle.instruction.specs.Operands.{sizedIn, signedIn, indexIn}
+use Rattle.instruction.specs.Table.{inSet, rowOf, undefined, allocated, unpredictable, instructionOf}
 use Rattle.instruction.specs.Operations.{sizedAt}
-use Rattle.instruction.specs.Instructions.{sizedIn, signedIn, indexIn, instructionOf}
 use Rattle.instruction.specs.Decoding.{classOf}
 use Rattle.ascii.specs.Ascii.{dec, signedDec}
 use Rattle.text.specs.Texts.{registerText, baseText, offsetTail, postTail, extendName, amountText, extendText, indexTail, frontText, sizedText, textOf}

@@ -14,10 +14,7 @@ use Rattle.bits.proofs.Lists.{sets-front}
 use Rattle.instruction.specs.declared.answer.Answer.the-variants.{Done, NotInSet, Undefined, Unpredictable}
 use Rattle.instruction.specs.declared.family.Instruction.{Instruction}
 use Rattle.instruction.specs.Answers.{answerNumber}
-use Rattle.instruction.specs.Table.{inSet}
-use Rattle.instruction.specs.Unpredictable.{unpredictable}
-use Rattle.instruction.specs.Undefined.{undefined, allocated}
-use Rattle.instruction.specs.Instructions.{instructionOf}
+use Rattle.instruction.specs.Table.{inSet, undefined, allocated, unpredictable, instructionOf}
 use Rattle.instruction.specs.Decoding.{decodeOf, classOf, empty}
 use Rattle.text.specs.Texts.{textOf, textMost}
 use Rattle.ascii.specs.Ascii.{asc}

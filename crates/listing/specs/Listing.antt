@@ -6,7 +6,7 @@ use lib.Dec.{eqb}
 use lib.ListN
 use Rattle.bits.specs.Choice.{pick}
 use Rattle.instruction.specs.Answers.{answerNumber}
-use Rattle.instruction.specs.Undefined.{allocated}
+use Rattle.instruction.specs.Table.{allocated}
 use Rattle.instruction.specs.Decoding.{classOf}
 use Rattle.ascii.specs.Ascii.{asc}
 use Rattle.text.specs.Texts.{textMost}

@@ -4,9 +4,7 @@ use mathlib.Core.Bool.{Bool, not}
 use mathlib.Core.List.{List, [], _∷_}
 use lib.ListN.{length}
 use Rattle.bits.specs.Choice.{pick}
-use Rattle.instruction.specs.Table.{inSet}
-use Rattle.instruction.specs.Undefined.{undefined}
-use Rattle.instruction.specs.Unpredictable.{unpredictable}
+use Rattle.instruction.specs.Table.{inSet, undefined, unpredictable}
 use Rattle.access.specs.declared.Access.{Access}
 use Rattle.access.specs.declared.Access.the-variants.{Nothing, Moves}
 use Rattle.plan.specs.declared.window.Window.{Window}

@@ -12,9 +12,7 @@ use Rattle.bits.specs.Choice.{pick}
 use Rattle.instruction.specs.declared.answer.Encoded.{Encoded}
 use Rattle.instruction.specs.declared.family.Instruction.{Instruction}
 use Rattle.instruction.specs.Answers.{answerNumber}
-use Rattle.instruction.specs.Table.{inSet}
-use Rattle.instruction.specs.Undefined.{undefined}
-use Rattle.instruction.specs.Unpredictable.{unpredictable}
+use Rattle.instruction.specs.Table.{inSet, undefined, unpredictable}
 use Rattle.instruction.specs.Encoding.{encodeOf}
 use Rattle.access.specs.declared.Access.{Access}
 use Rattle.access.specs.declared.Access.the-variants.{Nothing, Moves}

@@ -14,9 +14,7 @@ use Rattle.bits.proofs.Choices.{pick-by}
 use Rattle.instruction.specs.declared.answer.Answer.{Answer}
 use Rattle.instruction.specs.declared.answer.Answer.the-variants.{Done, BadWindow, NotInSet, Undefined, Unpredictable, TaintedAddress, NoSuchText, NoRoom}
 use Rattle.instruction.specs.Answers.{answerNumber}
-use Rattle.instruction.specs.Table.{inSet}
-use Rattle.instruction.specs.Undefined.{undefined, allocated}
-use Rattle.instruction.specs.Unpredictable.{unpredictable}
+use Rattle.instruction.specs.Table.{inSet, undefined, allocated, unpredictable}
 use Rattle.instruction.specs.Decoding.{decodeOf, classOf}
 use Rattle.instruction.specs.Encoding.{encodeOf}
 use Rattle.instruction.proofs.Rows.{never-overlap}

@@ -15,10 +15,7 @@ use Rattle.instruction.specs.declared.answer.Answer.the-variants.{Done, BadWind
 use Rattle.instruction.specs.declared.family.Instruction.{Instruction}
 use Rattle.instruction.specs.declared.row.Row.{Row}
 use Rattle.instruction.specs.Answers.{answerNumber}
-use Rattle.instruction.specs.Table.{isRow, matches, inSet}
-use Rattle.instruction.specs.Undefined.{undefined, allocated}
-use Rattle.instruction.specs.Unpredictable.{unpredictable}
-use Rattle.instruction.specs.Instructions.{instructionOf}
+use Rattle.instruction.specs.Table.{matches, inSet, undefined, allocated, unpredictable, instructionOf}
 use Rattle.instruction.specs.Decoding.{decodeOf, classOf}
 use Rattle.instruction.specs.Encoding.{encodeOf}
 use Rattle.access.specs.declared.transfer.Transfer.{Transfer}
@@ -115,7 +112,7 @@ pub record Demand2 : Type 0 where
   pub some-real : (m : Machine) × Real m
   -- "Every allocated word of the set has one record and one line of text": a word matches at most one row of 01's
   -- table, and is exactly one of not of the set, undefined, and allocated
-  pub never-overlap : (word : ℕ) (a b : Row) → isRow a ≡ true → isRow b ≡ true → matches word a ≡ true → matches word b ≡ true → a ≡ b
+  pub never-overlap : (word : ℕ) (a b : Row) → matches word a ≡ true → matches word b ≡ true → a ≡ b
   pub one-sort : (word : ℕ) → howMany (not (inSet word) ∷ undefined word ∷ allocated word ∷ []) ≡ 1
   -- "and each of the three leads back to the other two"
   pub line-of-record : (word : ℕ) → wordText word ≡ textOf (instructionOf word)

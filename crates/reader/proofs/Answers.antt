@@ -6,7 +6,7 @@ use mathlib.Core.List.{List, foldl}
 use mathlib.Core.Logic.{inl, inr, _↔_}
 use native.Mathlib.Omega.{arith}
 use lib.ListN.{length}
-use Rattle.instruction.specs.Undefined.{allocated}
+use Rattle.instruction.specs.Table.{allocated}
 use Rattle.instruction.specs.Encoding.{encodeOf}
 use Rattle.instruction.specs.declared.answer.Encoded.{Encoded}
 use Rattle.text.specs.Texts.{textMost}

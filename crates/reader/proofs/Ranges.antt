@@ -10,13 +10,14 @@ use borrow.Author.Tests.{eqb-true, eqb-false}
 use Rattle.bits.specs.Choice.{pick}
 use Rattle.bits.specs.Fields.{part, field}
 use Rattle.bits.proofs.Choices.{neither, tested}
-use Rattle.bits.proofs.Parts.{part-lt, cut}
+use Rattle.bits.proofs.Parts.{part-lt, cut, Has}
 use Rattle.instruction.specs.declared.row.Row.{Row}
 use Rattle.instruction.specs.declared.row.Row.the-variants.{NoRow, LiteralRow, PairRow, OrderedRow, UnscaledRow, PostRow, PreRow, RegisterRow, UnsignedRow}
-use Rattle.instruction.specs.Table.{isRow}
-use Rattle.instruction.specs.Undefined.{sizeOpc, undefinedSize, undefinedPrefetch, undefinedOption, undefinedPair, undefinedIn}
+use Rattle.instruction.specs.Undefined.{sizeOpc, undefinedSize, undefinedPrefetch, undefinedOption, undefinedPair}
+use Rattle.instruction.specs.Operands.{sizedIn, literalIn, pairOpIn, pairIn, signedIn, indexIn, unsignedIn}
+use Rattle.instruction.specs.Table.{columnsOf}
 use Rattle.instruction.specs.Operations.{pairAt, pairOpc, modeAt, modeCode}
-use Rattle.instruction.specs.Instructions.{sizedIn, literalIn, pairOpIn, pairIn, signedIn, indexIn, unsignedIn, familyIn}
+use Rattle.instruction.proofs.Rows.{prefetch-no, option-no}
 use Rattle.instruction.proofs.Codes.{sized-code, mode-code}
 use Rattle.instruction.proofs.Bounds.{literal-bounds, pair-bounds, signed-bounds, index-bounds, unsigned-bounds}
 use Rattle.reader.specs.Types.{Prefetch, LoadSignedWords, NoAllocate}
@@ -27,12 +28,13 @@ use Rattle.reader.proofs.Families.{OffsetRange, IndexRange, LiteralRang
 sizedRange : (w : ℕ) → sizeOpc w < 16
 sizedRange w = omega (arith, part-lt 30 2 w, part-lt 22 2 w)
 
-no-prefetch : (w : ℕ) → undefinedSize w ≡ false → undefinedPrefetch w ≡ false → ¬ (sizedIn w ≡ Prefetch)
-unfolding undefinedSize undefinedPrefetch sizedIn
-no-prefetch w u p e =
-    let n = neither (eqb (sizeOpc w) 0b10_11) (eqb (sizeOpc w) 0b11_11) u in
+no-prefetch : (w : ℕ) → undefinedPrefetch w ≡ false → ¬ (sizedIn w ≡ Prefetch)
+unfolding undefinedSize sizedIn
+no-prefetch w u e =
+    let p = prefetch-no w u in
+    let n = neither (eqb (sizeOpc w) 0b10_11) (eqb (sizeOpc w) 0b11_11) (p .0) in
     let c = sized-code (sizeOpc w) (sizedRange w) (eqb-false _ _ (n .0)) (eqb-false _ _ (n .1)) in
-    eqb-false (sizeOpc w) 0b11_10 p (sym (rw e at c))
+    eqb-false (sizeOpc w) 0b11_10 (p .1) (sym (rw e at c))
 
 signedTest : ℕ → Bool
 signedTest k = pick (eqb (pairOpc (pairAt k)) 1) (eqb k 3) true
@@ -75,9 +77,9 @@ module _ (w : ℕ) where
 
   -- option bit 1 is 1
   index-range : undefinedOption w ≡ false → IndexRange (indexIn w)
-  unfolding indexIn undefinedOption
+  unfolding indexIn
   index-range u =
-      let n = pos-of-ne-zero (eqb-false (part 14 1 w) 0 u) in
+      let n = pos-of-ne-zero (eqb-false (part 14 1 w) 0 (option-no w u .1)) in
       let c : part 13 3 w ≡ part 13 1 w + (part 14 1 w + part 15 1 w * 2) * 2 = omega (arith, cut (3 ∷ []) 13 w, cut (1 ∷ 1 ∷ 1 ∷ []) 13 w) in
       let m : part 13 3 w ≡ part 13 1 w + (1 + part 15 1 w * 2) * 2 = omega (arith, part-lt 14 1 w) in
       let b = index-bounds w in
@@ -89,13 +91,13 @@ module _ (w : ℕ) where
         scaled = b .scaled;
       }
 
-  pub in-range : (l : Row) → isRow l ≡ true → undefinedIn l w ≡ false → InRange (familyIn l w)
-  in-range NoRow t u = let z : _≡_ {A = ℕ} 0 1 = cc in omega arith
-  in-range LiteralRow t u = literal-range
-  in-range PairRow t u = pair-range u
-  in-range OrderedRow t u = let n = neither (undefinedSize w) (undefinedPrefetch w) u in (no-prefetch w (n .0) (n .1), signed-range)
-  in-range UnscaledRow t u = signed-range
-  in-range PostRow t u = signed-range
-  in-range PreRow t u = signed-range
-  in-range RegisterRow t u = index-range (neither (undefinedSize w) (undefinedOption w) u .1)
-  in-range UnsignedRow t u = unsigned-range
+  pub in-range : (r : Row) → Has w (columnsOf r .fixed) → columnsOf r .undefined w ≡ false → InRange (columnsOf r .family w)
+  in-range NoRow h u = absurd (omega arith)
+  in-range LiteralRow h u = literal-range
+  in-range PairRow h u = pair-range u
+  in-range OrderedRow h u = (no-prefetch w u, signed-range)
+  in-range UnscaledRow h u = signed-range
+  in-range PostRow h u = signed-range
+  in-range PreRow h u = signed-range
+  in-range RegisterRow h u = index-range u
+  in-range UnsignedRow h u = unsigned-range

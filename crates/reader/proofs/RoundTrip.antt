@@ -8,9 +8,8 @@ use mathlib.Core.Logic.{inl, inr}
 use native.Mathlib.Decide.{ℕ-discrete}
 use borrow.Author.Tests.{not-true}
 use Rattle.bits.proofs.Choices.{both}
-use Rattle.instruction.specs.Table.{rowOf, isRow, inSet}
-use Rattle.instruction.specs.Undefined.{undefinedIn, undefined, allocated}
-use Rattle.instruction.specs.Instructions.{familyIn, instructionOf}
+use Rattle.instruction.specs.Table.{columnsOf, inSet, rowOf, undefined, allocated, instructionOf}
+use Rattle.instruction.proofs.Rows.{row-has}
 use Rattle.instruction.specs.Encoding.{encodeOf}
 use Rattle.instruction.specs.declared.answer.Encoded.{Encoded}
 use Rattle.encoder.specs.Exact.{Exact}
@@ -25,10 +24,10 @@ use Rattle.reader.proofs.Families.{family-comes}
 use Rattle.reader.proofs.Ranges.{in-range}
 
 pub build-back : (w : ℕ) → allocated w ≡ true → buildOf (foldl stepOf scanStart (wordText w)) ≡ instructionOf w
-unfolding wordText textOf allocated inSet undefined instructionOf
+unfolding wordText textOf allocated undefined instructionOf
 build-back w a =
-    let p = both (isRow (rowOf w)) (not (undefinedIn (rowOf w) w)) a in
-    family-comes (familyIn (rowOf w) w) (in-range w (rowOf w) (p .0) (not-true _ (p .1)))
+    let p = both (inSet w) (not (columnsOf (rowOf w) .undefined w)) a in
+    family-comes (columnsOf (rowOf w) .family w) (in-range w (rowOf w) (row-has w (p .0)) (not-true _ (p .1)))
 
 -- the word of a line is the word that its candidate is encoded to
 pub line-encodes : (w : ℕ) (t : List ℕ) → LineOf w t → encodeOf (buildOf (foldl stepOf scanStart t)) ≡ record { answer = Done; word = w }

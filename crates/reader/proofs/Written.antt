@@ -7,7 +7,7 @@ use native.Mathlib.Omega.{arith}
 use borrow.Author.Tests.{le-ltb}
 use lib.ListN.{length, take}
 use lib.Seq.{sets, sets-eq, length-sets, take-at}
-use Rattle.instruction.specs.Undefined.{allocated}
+use Rattle.instruction.specs.Table.{allocated}
 use Rattle.text.specs.Writing.{Outcome, outcome, copied, writeOf, wordText}
 use Rattle.text.specs.declared.Written.{Written}
 use Rattle.text.specs.Texts.{textMost}

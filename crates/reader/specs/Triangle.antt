@@ -4,7 +4,7 @@ use Prim.Native.Nat.{ℕ, _^_, _<_}
 use mathlib.Core.Path.{_≡_}
 use mathlib.Core.Bool.{true}
 use mathlib.Core.List.{List}
-use Rattle.instruction.specs.Undefined.{allocated}
+use Rattle.instruction.specs.Table.{allocated}
 use Rattle.instruction.specs.Encoding.{encodeOf}
 use Rattle.reader.specs.Types.{Done, Instruction, Reading}
 use Rattle.reader.specs.Reading.{ReadOf}

@@ -12,7 +12,7 @@ use text::write;
 ghost use mathlib.Core.Path.{_≡_};
 ghost use mathlib.Core.Bool.{true};
 ghost use mathlib.Core.Logic.{_↔_};
-ghost use Rattle.instruction.specs.Undefined.{allocated};
+ghost use Rattle.instruction.specs.Table.{allocated};
 ghost use Rattle.text.specs.Writing.{wordText};
 ghost use Rattle.reader.specs.Reading.{ReadOf};
 

@@ -2,11 +2,11 @@
 use mathlib.Core.Path.{refl}
 use Rattle.bits.specs.Fields.{part}
 use Rattle.bits.specs.Signed.{signedOf}
-use Rattle.instruction.specs.Table.{rowOf, inSet}
-use Rattle.instruction.specs.Undefined.{undefined, allocated, undefinedSize, undefinedPrefetch, undefinedOption, undefinedPair}
-use Rattle.instruction.specs.Unpredictable.{unpredictable, baseIs, pairBaseIs, unpredictablePair}
+use Rattle.instruction.specs.Undefined.{undefinedSize, undefinedPrefetch, undefinedOption, undefinedPair}
+use Rattle.instruction.specs.Unpredictable.{baseIs, unpredictablePair}
+use Rattle.instruction.specs.Operands.{sizedIn, literalIn, pairOpIn, pairIn, signedIn, indexIn, unsignedIn}
+use Rattle.instruction.specs.Table.{inSet, rowOf, undefined, allocated, unpredictable, instructionOf}
 use Rattle.instruction.specs.Operations.{sizedAt, literalAt, pairAt, modeAt}
-use Rattle.instruction.specs.Instructions.{sizedIn, literalIn, pairOpIn, pairIn, signedIn, indexIn, unsignedIn, instructionOf}
 use Rattle.instruction.specs.Decoding.{classOf}
 use Rattle.ascii.specs.Ascii.{dec, signedDec}
 use Rattle.text.specs.Texts.{registerText, baseText, offsetTail, preTail, postTail, extendName, amountText, extendText, indexTail, frontText, literalText, pairText, sizedText, textOf}
@@ -14,5 +14,5 @@ use Rattle.text.specs.Writing.{wordText}
 use Rattle.text.specs.Examples.{Holds, examples}
 
 pub starred-examples : Holds examples
-unfolding wordText textOf registerText baseText offsetTail preTail postTail extendName amountText extendText indexTail frontText literalText pairText sizedText dec signedDec instructionOf rowOf part signedOf sizedAt literalAt pairAt modeAt sizedIn literalIn pairOpIn pairIn signedIn indexIn unsignedIn classOf inSet allocated undefined undefinedSize undefinedPrefetch undefinedOption undefinedPair unpredictable baseIs pairBaseIs unpredictablePair
+unfolding wordText textOf registerText baseText offsetTail preTail postTail extendName amountText extendText indexTail frontText literalText pairText sizedText dec signedDec instructionOf rowOf part signedOf sizedAt literalAt pairAt modeAt sizedIn literalIn pairOpIn pairIn signedIn indexIn unsignedIn classOf inSet allocated undefined undefinedSize undefinedPrefetch undefinedOption undefinedPair unpredictable baseIs unpredictablePair
 starred-examples = (refl, refl, (refl, refl, (refl, refl, (refl, refl, (refl, refl, (refl, refl, (refl, refl, (refl, refl, (refl, (refl, (refl, tt)))))))))))

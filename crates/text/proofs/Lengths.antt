@@ -21,9 +21,9 @@ use Rattle.instruction.specs.declared.family.Family.{Family}
 use Rattle.instruction.specs.declared.family.Family.the-variants.{Empty, Literal, Pair, Ordered, Unscaled, PostIndex, PreIndex, Register, Unsigned}
 use Rattle.instruction.specs.declared.family.IndexOperands.{IndexOperands}
 use Rattle.instruction.specs.Operations.{sizedCode, sizedAt, sizeOf, opcOf}
-use Rattle.instruction.specs.Table.{rowOf, inSet}
-use Rattle.instruction.specs.Undefined.{undefined, undefinedSize, undefinedOption, allocated}
-use Rattle.instruction.specs.Instructions.{sizedIn, indexIn, instructionOf}
+use Rattle.instruction.specs.Undefined.{undefinedSize, undefinedOption}
+use Rattle.instruction.specs.Operands.{sizedIn, indexIn}
+use Rattle.instruction.specs.Table.{inSet, rowOf, undefined, allocated, instructionOf}
 use Rattle.instruction.specs.Decoding.{decodeOf}
 use Rattle.instruction.specs.route.Bounds.{Bounded}
 use Rattle.instruction.proofs.Codes.{sized}

@@ -12,11 +12,8 @@ use Rattle.bits.specs.Choice.{pick}
 use Rattle.instruction.specs.declared.answer.Answer.the-variants.{Done, NotInSet, Undefined, Unpredictable, NoRoom}
 use Rattle.instruction.specs.declared.answer.Decoded.{Decoded}
 use Rattle.instruction.specs.declared.family.Instruction.{Instruction}
-use Rattle.instruction.specs.Table.{inSet}
-use Rattle.instruction.specs.Undefined.{undefined, allocated}
-use Rattle.instruction.specs.Instructions.{instructionOf}
+use Rattle.instruction.specs.Table.{inSet, undefined, allocated, unpredictable, instructionOf}
 use Rattle.instruction.specs.Answers.{answerNumber}
-use Rattle.instruction.specs.Unpredictable.{unpredictable}
 use Rattle.instruction.specs.Decoding.{decodeOf, classOf, empty}
 use Rattle.text.specs.Texts.{familyText, textOf}
 use Rattle.ascii.specs.route.Puts.{Puts}

@@ -5,7 +5,7 @@ use mathlib.Core.Path.{_≡_}
 use mathlib.Core.Bool.{true}
 use mathlib.Core.List.{List, [], _∷_}
 use Rattle.instruction.specs.Answers.{answerNumber}
-use Rattle.instruction.specs.Undefined.{allocated}
+use Rattle.instruction.specs.Table.{allocated}
 use Rattle.instruction.specs.Decoding.{classOf}
 use Rattle.ascii.specs.Ascii.{asc}
 use Rattle.text.specs.Writing.{wordText}

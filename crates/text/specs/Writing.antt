@@ -9,8 +9,7 @@ use Rattle.text.specs.Texts.{textOf}
 use Rattle.text.specs.declared.Written.{Written}
 use Rattle.instruction.specs.declared.answer.Answer.{Answer}
 use Rattle.instruction.specs.declared.answer.Answer.the-variants.{Done, NoRoom}
-use Rattle.instruction.specs.Undefined.{allocated}
-use Rattle.instruction.specs.Instructions.{instructionOf}
+use Rattle.instruction.specs.Table.{allocated, instructionOf}
 use Rattle.instruction.specs.Decoding.{decodeOf}
 
 -- the text of an allocated word

@@ -1,6 +1,6 @@
 -- `decoder::family::pair_op_in` meets its contract. Assumes nothing.
 use Rattle.bits.specs.Fields.{part}
-use Rattle.instruction.specs.Instructions.{pairOpIn}
+use Rattle.instruction.specs.Operands.{pairOpIn}
 use borrow.Author.Needs.{needs}
 use Rattle.decoder.proofs.family.pair_op_in.Statement.{statement}
 use Rattle.decoder.proofs.family.pair_op_in.Tie as tie

@@ -1,5 +1,5 @@
 -- `decoder::row::literal_or_ordered` meets its contract. Assumes nothing.
-use mathlib.Core.Path.{refl, sym}
+use mathlib.Core.Path.{sym}
 use native.Mathlib.Omega.{arith}
 use Rattle.bits.specs.Fields.{part}
 use Rattle.instruction.specs.declared.row.Row.{Row}
@@ -16,6 +16,6 @@ literal-or-ordered-spec =
     (tie.spec
     (λ c. search needs)
     (λ c. search needs)
-    (λ c. sym (keyed _ Row.LiteralRow refl (c .before .pre, c .if1 .taken)))
-    (λ c. sym (keyed _ Row.OrderedRow refl (c .before .before .pre, omega arith, c .match .keys1)))
+    (λ c. sym (keyed _ Row.LiteralRow (c .before .pre, c .if1 .taken)))
+    (λ c. sym (keyed _ Row.OrderedRow (c .before .before .pre, omega arith, c .match .keys1)))
     (λ c. sym (unkeyed _ (no-ordered _ (c .before .before .pre) (c .before .if1 .left) (c .match .rest .1)))))

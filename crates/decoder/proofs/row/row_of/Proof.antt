@@ -1,5 +1,5 @@
 -- `decoder::row::row_of` meets its contract. Assumes nothing.
-use mathlib.Core.Path.{refl, sym}
+use mathlib.Core.Path.{sym}
 use Rattle.bits.specs.Fields.{part}
 use Rattle.instruction.specs.declared.row.Row.{Row}
 use Rattle.instruction.proofs.Rows.{keyed, unkeyed}
@@ -15,6 +15,6 @@ row-of-spec =
     (λ c κs. c .match .keys1)
     (λ c κs. c .match .keys3)
     (λ c. c .literal-or-ordered .ensures)
-    (λ c. sym (keyed _ Row.PairRow refl (c .match .keys2)))
+    (λ c. sym (keyed _ Row.PairRow (c .match .keys2)))
     (λ c. c .with-size .ensures)
     (λ c. sym (unkeyed _ (no-group _ (c .match .rest .0 .0 .1) (c .match .rest .0 .1) (c .match .rest .1)))))

@@ -11,4 +11,5 @@ in-pair-spec =
     tie.close
     (tie.spec
     (λ c κs. search needs)
-    (λ c. rw (c .pair-base-is .ensures)))
+    (λ c κs. search needs)
+    (λ c. rw (c .before .base-is .ensures, c .base-is2 .ensures)))

@@ -1,12 +1,11 @@
--- The instruction that a word of the set stands for: 01, "What a word says" and the column "Fields" of its table.
+-- The operation and the operands of a word: 01, "What a word says" and the column "Fields" of its table.
 use Prim.Native.Nat.{ℕ, _+_, _*_}
 use lib.IntN.{pos}
 use Rattle.bits.specs.Fields.{field}
 use Rattle.bits.specs.Signed.{signedOf}
-use Rattle.instruction.specs.Types.{Row, NoRow, LiteralRow, PairRow, OrderedRow, UnscaledRow, PostRow, PreRow, RegisterRow, UnsignedRow, Family, Empty, Literal, Pair, Ordered, Unscaled, PostIndex, PreIndex, Register, Unsigned, Instruction, LiteralOperands, PairOperands, OffsetOperands, IndexOperands, SizedOp, PairOp}
-use Rattle.instruction.specs.Table.{rowOf}
+use Rattle.instruction.specs.Types.{LiteralOperands, PairOperands, OffsetOperands, IndexOperands, SizedOp, PairOp}
 use Rattle.instruction.specs.Undefined.{sizeOpc}
-use Rattle.instruction.specs.Operations.{sizedAt, literalAt, pairAt, modeAt, sizedBytes, pairBytes}
+use Rattle.instruction.specs.Operations.{sizedAt, pairAt, modeAt, sizedBytes, pairBytes}
 
 -- Rt is bits 4..0 and Rn bits 9..5
 unfoldable pub sizedIn : ℕ → SizedOp
@@ -49,18 +48,3 @@ indexIn w =
 -- imm12 without sign, times 2 ^ size
 unfoldable pub unsignedIn : SizedOp → ℕ → OffsetOperands
 unsignedIn op w = record { target = field 4 0 w; base = field 9 5 w; offset = pos (field 21 10 w * sizedBytes op) }
-
-abbrev pub familyIn : Row → ℕ → Family
-familyIn NoRow w = Empty
-familyIn LiteralRow w = Literal (literalAt (field 31 30 w)) (literalIn w)
-familyIn PairRow w = Pair (pairOpIn w) (pairIn (pairOpIn w) w)
-familyIn OrderedRow w = Ordered (sizedIn w) (signedIn w)
-familyIn UnscaledRow w = Unscaled (sizedIn w) (signedIn w)
-familyIn PostRow w = PostIndex (sizedIn w) (signedIn w)
-familyIn PreRow w = PreIndex (sizedIn w) (signedIn w)
-familyIn RegisterRow w = Register (sizedIn w) (indexIn w)
-familyIn UnsignedRow w = Unsigned (sizedIn w) (unsignedIn (sizedIn w) w)
-
--- the instruction of an allocated word
-unfoldable pub instructionOf : ℕ → Instruction
-instructionOf w = record { family = familyIn (rowOf w) w }
