@@ -1,18 +1,21 @@
 -- A number is no longer than what it is extended to, and that has at most 8 bytes. Assumes nothing.
 use Prim.Native.Nat.{ℕ, _≤_}
-use mathlib.Core.Bool.{Bool, true, false}
+use mathlib.Core.Path.{refl}
+use mathlib.Core.Bool.{Bool, true, false, _&&_}
 use native.Mathlib.Omega.{arith}
-use Rattle.bits.proofs.Choices.{pick-by}
+use lib.Dec.{eqb, leb}
+use borrow.Author.Tests.{leb-true}
+use Rattle.bits.proofs.Choices.{pick-by, both}
 use Rattle.instruction.specs.declared.family.Instruction.{Instruction}
 use Rattle.instruction.specs.declared.family.Family.{Family}
 use Rattle.instruction.specs.declared.family.Family.the-variants.{Empty, Literal, Pair, Ordered, Unscaled, PostIndex, PreIndex, Register, Unsigned}
 use Rattle.instruction.specs.declared.family.LiteralOperands.{LiteralOperands}
 use Rattle.instruction.specs.declared.operation.SizedOp.{SizedOp}
-use Rattle.instruction.specs.declared.operation.SizedOp.the-variants.{StoreByte, LoadByte, LoadSignedByte64, LoadSignedByte32, StoreHalf, LoadHalf, LoadSignedHalf64, LoadSignedHalf32, StoreWord, LoadWord, LoadSignedWord64, StoreDouble, LoadDouble, Prefetch}
 use Rattle.instruction.specs.declared.operation.PairOp.{PairOp}
-use Rattle.instruction.specs.declared.operation.PairOp.the-variants.{StoreWords, LoadWords, LoadSignedWords, StoreDoubles, LoadDoubles}
 use Rattle.instruction.specs.declared.operation.LiteralOp.{LiteralOp}
 use Rattle.instruction.specs.declared.operation.LiteralOp.the-variants.{LiteralWord, LiteralDouble, LiteralSignedWord, LiteralPrefetch}
+use Rattle.instruction.specs.Operations.{opcOf, sizedBytes, pairOpc, pairBytes}
+use Rattle.instruction.proofs.Codes.{each-sized, paired}
 use Rattle.access.specs.declared.transfer.Transfer.{Transfer}
 use Rattle.access.specs.declared.addressing.Addressing.{Addressing}
 use Rattle.access.specs.declared.Access.{Access}
@@ -29,30 +32,21 @@ abbrev pub Within : Access → Type 0
 Within Nothing = Unit {0}
 Within (Moves t a) = Bounded t
 
+extentTest : SizedOp → Bool
+extentTest op = leb (sizedBytes op) (extentOf (opcOf op) (sizedBytes op)) && leb (extentOf (opcOf op) (sizedBytes op)) 8
+
 sized : (op : SizedOp) (target : ℕ) (ordered : Bool) → Bounded (sizedTransfer op target ordered)
-unfolding sizedTransfer extentOf
-sized StoreByte target ordered = omega arith
-sized LoadByte target ordered = omega arith
-sized LoadSignedByte64 target ordered = omega arith
-sized LoadSignedByte32 target ordered = omega arith
-sized StoreHalf target ordered = omega arith
-sized LoadHalf target ordered = omega arith
-sized LoadSignedHalf64 target ordered = omega arith
-sized LoadSignedHalf32 target ordered = omega arith
-sized StoreWord target ordered = omega arith
-sized LoadWord target ordered = omega arith
-sized LoadSignedWord64 target ordered = omega arith
-sized StoreDouble target ordered = omega arith
-sized LoadDouble target ordered = omega arith
-sized Prefetch target ordered = omega arith
+unfolding sizedTransfer extentOf extentTest
+sized op target ordered =
+    let t = both _ _ (each-sized extentTest refl op) in
+    record { wide = leb-true _ _ (t .0); wider = omega arith; extent = leb-true _ _ (t .1) }
 
 pair : (op : PairOp) (first second : ℕ) → Bounded (pairTransfer op first second)
 unfolding pairTransfer
-pair StoreWords first second = omega arith
-pair LoadWords first second = omega arith
-pair LoadSignedWords first second = omega arith
-pair StoreDoubles first second = omega arith
-pair LoadDoubles first second = omega arith
+pair op first second =
+    let most = paired op .most in
+    let extent = pick-by (λ n. (pairBytes op ≤ n) × (n ≤ 8)) (eqb (pairOpc op) 0b01) (λ e. (most, omega arith)) (λ e. (omega arith, most)) in
+    record { wide = extent .0; wider = extent .0; extent = extent .1 }
 
 literal : (op : LiteralOp) (o : LiteralOperands) → Within (literalAccess op o)
 unfolding literalMoves literalTransfer

@@ -1,6 +1,6 @@
 -- What the families move: 01, "What a word says". Register 31 is the zero register here.
 use Prim.Native.Nat.{ℕ}
-use mathlib.Core.Bool.{Bool, false, not}
+use mathlib.Core.Bool.{Bool, false}
 use lib.Dec.{eqb}
 use Rattle.bits.specs.Choice.{pick}
 use Rattle.instruction.specs.declared.operation.SizedOp.{SizedOp}
@@ -34,23 +34,15 @@ unfoldable pub literalTransfer : ℕ → ℕ → ℕ → Transfer
 literalTransfer bytes extent target =
     record { store = false; ordered = false; bytes = bytes; more = 0; extent = extent; target = zeroSlot target; second = none }
 
--- L loads
-abbrev pub pairLoads : PairOp → Bool
-pairLoads op = eqb (pairLoad op) 1
-
--- opc 01 has two signed words, extended to 64 bits
-abbrev pub pairExtent : PairOp → ℕ
-pairExtent op = pick (eqb (pairOpc op) 0b01) 8 (pairBytes op)
-
--- a pair puts Rt first
+-- a pair puts Rt first; L loads, and opc 01 has two signed words, extended to 64 bits
 unfoldable pub pairTransfer : PairOp → ℕ → ℕ → Transfer
 pairTransfer op first second =
     record {
-      store = not (pairLoads op);
+      store = eqb (pairLoad op) 0;
       ordered = false;
       bytes = pairBytes op;
       more = pairBytes op;
-      extent = pairExtent op;
+      extent = pick (eqb (pairOpc op) 0b01) 8 (pairBytes op);
       target = zeroSlot first;
       second = zeroSlot second;
     }

@@ -2,7 +2,10 @@
 use instruction::PairOp;
 use instruction::SizedOp;
 ghost use mathlib.Core.Path.{_≡_};
-ghost use Rattle.access.specs.Transfers.{extentOf, sizedTransfer, literalTransfer, pairLoads, pairExtent, pairTransfer};
+ghost use lib.Dec.{eqb};
+ghost use Rattle.bits.specs.Choice.{pick};
+ghost use Rattle.instruction.specs.Operations.{pairOpc};
+ghost use Rattle.access.specs.Transfers.{extentOf, sizedTransfer, literalTransfer, pairTransfer};
 
 // Each register's bytes are moved; the second of a pair lies behind the first, and a single register has no
 // bytes there. A loaded number keeps its sign up to the extent, in bytes; it is as long as the number where
@@ -64,36 +67,21 @@ pub fn pair(op: PairOp, first: u32, second: u32) -> Transfer
 {
     let bytes = instruction::pair_bytes(op);
     Transfer {
-        store: !pair_loads(op),
+        store: instruction::pair_load(op) == 0,
         ordered: false,
         bytes,
         more: bytes,
-        extent: pair_extent(op),
+        extent: pair_extent(op, bytes),
         target: registers::zero_slot(first),
         second: registers::zero_slot(second),
     }
 }
 
-fn pair_loads(op: PairOp) -> bool
-    ensures { λ r. ⌜ r ≡ pairLoads op ⌝ }
+fn pair_extent(op: PairOp, bytes: u32) -> u32
+    ensures { λ r. ⌜ r ≡ pick (eqb (pairOpc op) 0b01) 8 bytes ⌝ }
 {
-    match op {
-        PairOp::StoreWords => false,
-        PairOp::LoadWords => true,
-        PairOp::LoadSignedWords => true,
-        PairOp::StoreDoubles => false,
-        PairOp::LoadDoubles => true,
+    if instruction::pair_opc(op) == 0b01 {
+        return 8;
     }
-}
-
-fn pair_extent(op: PairOp) -> u32
-    ensures { λ r. ⌜ r ≡ pairExtent op ⌝ }
-{
-    match op {
-        PairOp::StoreWords => 4,
-        PairOp::LoadWords => 4,
-        PairOp::LoadSignedWords => 8,
-        PairOp::StoreDoubles => 8,
-        PairOp::LoadDoubles => 8,
-    }
+    bytes
 }

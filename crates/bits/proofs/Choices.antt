@@ -44,6 +44,22 @@ tested (suc n) p h k l =
 
 -- ---- tables
 
+-- a test that is computed for each entry of a table and for what it leaves, and what it shows of what is looked up
+abbrev pub every : {A : Type 0} → (A → Bool) → A → List (ℕ × A) → Bool
+every p d [] = p d
+every p d (e ∷ es) = p (e .1) && every p d es
+
+looked : {A : Type 0} (p : A → Bool) (d : A) (t : List (ℕ × A)) → every p d t ≡ true → (k : ℕ) → p (lookup d t k) ≡ true
+looked p d [] h k = h
+looked p d (e ∷ es) h k =
+    let b = both (p (e .1)) (every p d es) h in
+    pick-by (λ x. p x ≡ true) (eqb k (e .0)) (λ q. b .0) (λ q. looked p d es (b .1) k)
+
+-- where all things are found by their codes, it shows the same of each
+pub each : {A : Type 0} (d : A) (t : List (ℕ × A)) (code : A → ℕ) → ((a : A) → lookup d t (code a) ≡ a) → (p : A → Bool) → every p d t ≡ true
+    → (a : A) → p a ≡ true
+each d t code back p h a = ap p (sym (back a)) ∙ looked p d t h (code a)
+
 -- what `_` of a match says of a number: it is no key, as a tuple nested to the left
 abbrev pub Absent : Type 0 → {A : Type 0} → List (ℕ × A) → ℕ → Type 0
 Absent B [] k = B

@@ -1,7 +1,7 @@
 -- Choices: by a test, and by a table; whether something passes a test, and how many of some tests hold.
 use Prim.Native.Nat.{ℕ, suc}
 use mathlib.Core.Bool.{Bool, true, false, _||_}
-use mathlib.Core.List.{List, [], _∷_}
+use mathlib.Core.List.{List, [], _∷_, map}
 use lib.Dec.{eqb}
 
 -- a where the test holds, else b
@@ -13,6 +13,10 @@ pick false a b = b
 abbrev pub lookup : {A : Type 0} → A → List (ℕ × A) → ℕ → A
 lookup d [] k = d
 lookup d (e ∷ es) k = pick (eqb k (e .0)) (e .1) (lookup d es k)
+
+-- a table of some things by their codes
+abbrev pub byCode : {A : Type 0} → (A → ℕ) → List A → List (ℕ × A)
+byCode code things = map (λ a. (code a, a)) things
 
 -- one of a list passes the test
 abbrev pub any : {A : Type 0} → (A → Bool) → List A → Bool

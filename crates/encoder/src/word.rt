@@ -14,7 +14,7 @@ use instruction::Row;
 use instruction::SizedOp;
 ghost use mathlib.Core.Path.{_≡_};
 ghost use Prim.Native.Nat.{_<_, _≤_};
-ghost use Rattle.instruction.specs.Operations.{literalOpc, pairOpc, pairLoad, modeCode};
+ghost use Rattle.instruction.specs.Operations.{literalOpc, modeCode};
 ghost use Rattle.instruction.specs.Encoding.{fixed, wordWith, literalFields, literalWord, pairFields, pairWord, signedWord, indexWord, unsignedWord, wordOf};
 ghost use Rattle.encoder.specs.route.Sized.{sizedWord};
 
@@ -94,32 +94,10 @@ fn pair_sum(op: PairOp, o: PairOperands, imm7: u32) -> Field
         return Field::Unfit;
     }
     let registers = base * 32 + first + second * 0x400;
-    let code = pair_opc(op) * 0x4000_0000 + mode_code(mode) * 0x80_0000 + pair_load(op) * 0x40_0000;
+    let code = instruction::pair_opc(op) * 0x4000_0000
+        + mode_code(mode) * 0x80_0000
+        + instruction::pair_load(op) * 0x40_0000;
     Field::Holds(0x2800_0000 + code + registers + imm7 * 0x8000)
-}
-
-fn pair_opc(op: PairOp) -> u32
-    ensures { λ r. ⌜ (r ≡ pairOpc op) × (r < 4) ⌝ }
-{
-    match op {
-        PairOp::StoreWords => 0b00,
-        PairOp::LoadWords => 0b00,
-        PairOp::LoadSignedWords => 0b01,
-        PairOp::StoreDoubles => 0b10,
-        PairOp::LoadDoubles => 0b10,
-    }
-}
-
-fn pair_load(op: PairOp) -> u32
-    ensures { λ r. ⌜ (r ≡ pairLoad op) × (r < 2) ⌝ }
-{
-    match op {
-        PairOp::StoreWords => 0,
-        PairOp::LoadWords => 1,
-        PairOp::LoadSignedWords => 1,
-        PairOp::StoreDoubles => 0,
-        PairOp::LoadDoubles => 1,
-    }
 }
 
 fn mode_code(mode: PairMode) -> u32

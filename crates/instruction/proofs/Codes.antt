@@ -1,105 +1,17 @@
 -- The codes of operations: how large they are, and how they lead back to the operations. Assumes nothing.
 use Prim.Native.Nat.{ℕ, _+_, _*_, _≤_, _<_}
 use mathlib.Core.Path.{_≡_, refl}
-use mathlib.Core.Bool.{Bool, _||_, or-false}
+use mathlib.Core.Bool.{Bool, true, _||_, or-false}
 use native.Mathlib.Nat.{one-le-pow, pow-le-pow-right}
 use native.Mathlib.Omega.{arith}
-use lib.Dec.{eqb}
-use borrow.Author.Tests.{eqb-true, ne-eqb}
-use Rattle.bits.proofs.Choices.{tested}
+use lib.Dec.{eqb, ltb}
+use borrow.Author.Tests.{eqb-true, ne-eqb, ltb-true}
+use Rattle.bits.specs.Choice.{byCode}
+use Rattle.bits.proofs.Choices.{pick-by, tested, every, each}
 use Rattle.instruction.specs.Types.{SizedOp, StoreByte, LoadByte, LoadSignedByte64, LoadSignedByte32, StoreHalf, LoadHalf, LoadSignedHalf64, LoadSignedHalf32, StoreWord, LoadWord, LoadSignedWord64, StoreDouble, LoadDouble, Prefetch, PairOp, StoreWords, LoadWords, LoadSignedWords, StoreDoubles, LoadDoubles, LiteralOp, LiteralWord, LiteralDouble, LiteralSignedWord, LiteralPrefetch, PairMode, NoAllocate, Post, Offset, Pre}
-use Rattle.instruction.specs.Operations.{sizedCode, sizedAt, sizeOf, opcOf, scaleOf, sizedBytes, literalAt, literalOpc, pairAt, pairOpc, pairLoad, pairBytes, modeAt, modeCode}
+use Rattle.instruction.specs.Operations.{sizedCode, sizeOf, opcOf, scaleOf, sizedBytes, sizedOps, sizedAt, literalOpc, literalOps, literalAt, pairCode, pairOpc, pairLoad, pairBytes, pairOps, pairAt, modeCode, modes, modeAt}
 
--- ---- bounds
-
-code-below : (op : SizedOp) → sizedCode op < 16
-code-below StoreByte = omega arith
-code-below LoadByte = omega arith
-code-below LoadSignedByte64 = omega arith
-code-below LoadSignedByte32 = omega arith
-code-below StoreHalf = omega arith
-code-below LoadHalf = omega arith
-code-below LoadSignedHalf64 = omega arith
-code-below LoadSignedHalf32 = omega arith
-code-below StoreWord = omega arith
-code-below LoadWord = omega arith
-code-below LoadSignedWord64 = omega arith
-code-below StoreDouble = omega arith
-code-below LoadDouble = omega arith
-code-below Prefetch = omega arith
-
-pub record Sized (op : SizedOp) : Type 0 where
-  pub size : sizeOf op < 4
-  pub opc : opcOf op < 4
-  pub some : 0 < sizedBytes op
-  pub most : sizedBytes op ≤ 8
-
-pub sized : (op : SizedOp) → Sized op
-sized op =
-    let size : sizeOf op < 4 = omega (arith, code-below op) in
-    record {
-      size = size;
-      opc = omega arith;
-      some = one-le-pow (scaleOf op) 2 (omega arith);
-      most = pow-le-pow-right {n = 2} (omega arith) {i = scaleOf op} {j = 3} (omega arith);
-    }
-
-pub record Paired (op : PairOp) : Type 0 where
-  pub opc : pairOpc op < 4
-  pub load : pairLoad op < 2
-  pub some : 0 < pairBytes op
-  pub most : pairBytes op ≤ 8
-
-pub paired : (op : PairOp) → Paired op
-paired StoreWords = omega arith
-paired LoadWords = omega arith
-paired LoadSignedWords = omega arith
-paired StoreDoubles = omega arith
-paired LoadDoubles = omega arith
-
-pub literal-below : (op : LiteralOp) → literalOpc op < 4
-literal-below LiteralWord = omega arith
-literal-below LiteralDouble = omega arith
-literal-below LiteralSignedWord = omega arith
-literal-below LiteralPrefetch = omega arith
-
-pub mode-below : (mode : PairMode) → modeCode mode < 4
-mode-below NoAllocate = omega arith
-mode-below Post = omega arith
-mode-below Offset = omega arith
-mode-below Pre = omega arith
-
--- ---- from a code to its operation and back
-
-sizedTest : ℕ → Bool
-sizedTest k = eqb (sizeOf (sizedAt k) * 4 + opcOf (sizedAt k)) k || (eqb k 0b10_11 || eqb k 0b11_11)
-
-pub sized-code : (k : ℕ) → k < 16 → ¬ (k ≡ 0b10_11) → ¬ (k ≡ 0b11_11) → sizeOf (sizedAt k) * 4 + opcOf (sizedAt k) ≡ k
-unfolding sizedTest sizedAt
-sized-code k h a b = eqb-true _ _ (simp (ne-eqb k 0b10_11 a, ne-eqb k 0b11_11 b, or-false) at (tested 16 sizedTest refl k h))
-
-literalTest : ℕ → Bool
-literalTest k = eqb (literalOpc (literalAt k)) k
-
-pub literal-code : (k : ℕ) → k < 4 → literalOpc (literalAt k) ≡ k
-unfolding literalTest literalAt
-literal-code k h = eqb-true _ _ (tested 4 literalTest refl k h)
-
-pairTest : ℕ → Bool
-pairTest k = eqb (pairOpc (pairAt k) * 2 + pairLoad (pairAt k)) k || eqb k 0b01_0
-
-pub pair-code : (k : ℕ) → k < 6 → ¬ (k ≡ 0b01_0) → pairOpc (pairAt k) * 2 + pairLoad (pairAt k) ≡ k
-unfolding pairTest pairAt
-pair-code k h a = eqb-true _ _ (simp (ne-eqb k 0b01_0 a, or-false) at (tested 6 pairTest refl k h))
-
-modeTest : ℕ → Bool
-modeTest k = eqb (modeCode (modeAt k)) k
-
-pub mode-code : (k : ℕ) → k < 4 → modeCode (modeAt k) ≡ k
-unfolding modeTest modeAt
-mode-code k h = eqb-true _ _ (tested 4 modeTest refl k h)
-
--- ---- from an operation to its code and back
+-- ---- from an operation to its code and back: each is found by its code, so a test that is computed for all shows a fact of each
 
 pub sized-at : (op : SizedOp) → sizedAt (sizeOf op * 4 + opcOf op) ≡ op
 unfolding sizedAt
@@ -139,3 +51,89 @@ mode-at NoAllocate = refl
 mode-at Post = refl
 mode-at Offset = refl
 mode-at Pre = refl
+
+-- ---- bounds
+
+pub each-sized : (p : SizedOp → Bool) → every p Prefetch (byCode sizedCode sizedOps) ≡ true → (op : SizedOp) → p op ≡ true
+unfolding sizedAt
+each-sized p h op = each Prefetch (byCode sizedCode sizedOps) (λ x. sizeOf x * 4 + opcOf x) sized-at p h op
+
+code-below : (op : SizedOp) → sizedCode op < 16
+code-below op = ltb-true (sizedCode op) 16 (each-sized (λ x. ltb (sizedCode x) 16) refl op)
+
+pub record Sized (op : SizedOp) : Type 0 where
+  pub size : sizeOf op < 4
+  pub opc : opcOf op < 4
+  pub some : 0 < sizedBytes op
+  pub most : sizedBytes op ≤ 8
+
+pub sized : (op : SizedOp) → Sized op
+sized op =
+    let size : sizeOf op < 4 = omega (arith, code-below op) in
+    record {
+      size = size;
+      opc = omega arith;
+      some = one-le-pow (scaleOf op) 2 (omega arith);
+      most = pow-le-pow-right {n = 2} (omega arith) {i = scaleOf op} {j = 3} (omega arith);
+    }
+
+pub literal-below : (op : LiteralOp) → literalOpc op < 4
+unfolding literalAt
+literal-below op =
+    ltb-true (literalOpc op) 4
+    (each LiteralPrefetch (byCode literalOpc literalOps) literalOpc literal-at (λ x. ltb (literalOpc x) 4) refl op)
+
+pair-below : (op : PairOp) → pairCode op < 6
+unfolding pairAt
+pair-below op =
+    ltb-true (pairCode op) 6 (each LoadDoubles (byCode pairCode pairOps) (λ x. pairOpc x * 2 + pairLoad x) pair-at (λ x. ltb (pairCode x) 6) refl op)
+
+pub record Paired (op : PairOp) : Type 0 where
+  pub opc : pairOpc op < 4
+  pub load : pairLoad op < 2
+  pub some : 0 < pairBytes op
+  pub most : pairBytes op ≤ 8
+
+pub paired : (op : PairOp) → Paired op
+paired op =
+    record {
+      opc = omega (arith, pair-below op);
+      load = omega arith;
+      some = pick-by (λ n. 0 < n) (eqb (pairOpc op) 0b10) (λ e. omega arith) (λ e. omega arith);
+      most = pick-by (λ n. n ≤ 8) (eqb (pairOpc op) 0b10) (λ e. omega arith) (λ e. omega arith);
+    }
+
+pub mode-below : (mode : PairMode) → modeCode mode < 4
+unfolding modeAt
+mode-below mode =
+    ltb-true (modeCode mode) 4 (each Pre (byCode modeCode modes) modeCode mode-at (λ x. ltb (modeCode x) 4) refl mode)
+
+-- ---- from a code to its operation and back
+
+sizedTest : ℕ → Bool
+sizedTest k = eqb (sizeOf (sizedAt k) * 4 + opcOf (sizedAt k)) k || (eqb k 0b10_11 || eqb k 0b11_11)
+
+pub sized-code : (k : ℕ) → k < 16 → ¬ (k ≡ 0b10_11) → ¬ (k ≡ 0b11_11) → sizeOf (sizedAt k) * 4 + opcOf (sizedAt k) ≡ k
+unfolding sizedTest sizedAt
+sized-code k h a b = eqb-true _ _ (simp (ne-eqb k 0b10_11 a, ne-eqb k 0b11_11 b, or-false) at (tested 16 sizedTest refl k h))
+
+literalTest : ℕ → Bool
+literalTest k = eqb (literalOpc (literalAt k)) k
+
+pub literal-code : (k : ℕ) → k < 4 → literalOpc (literalAt k) ≡ k
+unfolding literalTest literalAt
+literal-code k h = eqb-true _ _ (tested 4 literalTest refl k h)
+
+pairTest : ℕ → Bool
+pairTest k = eqb (pairOpc (pairAt k) * 2 + pairLoad (pairAt k)) k || eqb k 0b01_0
+
+pub pair-code : (k : ℕ) → k < 6 → ¬ (k ≡ 0b01_0) → pairOpc (pairAt k) * 2 + pairLoad (pairAt k) ≡ k
+unfolding pairTest pairAt
+pair-code k h a = eqb-true _ _ (simp (ne-eqb k 0b01_0 a, or-false) at (tested 6 pairTest refl k h))
+
+modeTest : ℕ → Bool
+modeTest k = eqb (modeCode (modeAt k)) k
+
+pub mode-code : (k : ℕ) → k < 4 → modeCode (modeAt k) ≡ k
+unfolding modeTest modeAt
+mode-code k h = eqb-true _ _ (tested 4 modeTest refl k h)

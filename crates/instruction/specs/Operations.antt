@@ -1,7 +1,8 @@
 -- The operations of the families, by their codes: 01, "What a word says".
 use Prim.Native.Nat.{ℕ, _/_, _%_, _^_}
 use mathlib.Core.List.{List, [], _∷_}
-use Rattle.bits.specs.Choice.{lookup}
+use lib.Dec.{eqb}
+use Rattle.bits.specs.Choice.{pick, lookup, byCode}
 use Rattle.instruction.specs.Types.{SizedOp, StoreByte, LoadByte, LoadSignedByte64, LoadSignedByte32, StoreHalf, LoadHalf, LoadSignedHalf64, LoadSignedHalf32, StoreWord, LoadWord, LoadSignedWord64, StoreDouble, LoadDouble, Prefetch, LiteralOp, LiteralWord, LiteralDouble, LiteralSignedWord, LiteralPrefetch, PairOp, StoreWords, LoadWords, LoadSignedWords, StoreDoubles, LoadDoubles, PairMode, NoAllocate, Post, Offset, Pre}
 
 -- size and opc of an operation side by side, as one number of four bits
@@ -31,74 +32,67 @@ opcOf op = sizedCode op % 4
 abbrev pub scaleOf : SizedOp → ℕ
 scaleOf op = sizeOf op
 
--- by code; what the table leaves is the prefetch, and the undefined codes
-abbrev pub coded : SizedOp → ℕ × SizedOp
-coded op = (sizedCode op, op)
-
-abbrev pub sizedTable : List (ℕ × SizedOp)
-sizedTable =
-    coded StoreByte ∷ coded LoadByte ∷ coded LoadSignedByte64 ∷ coded LoadSignedByte32
-    ∷ coded StoreHalf ∷ coded LoadHalf ∷ coded LoadSignedHalf64 ∷ coded LoadSignedHalf32
-    ∷ coded StoreWord ∷ coded LoadWord ∷ coded LoadSignedWord64
-    ∷ coded StoreDouble ∷ coded LoadDouble ∷ []
-
-unfoldable pub sizedAt : ℕ → SizedOp
-sizedAt code = lookup Prefetch sizedTable code
-
--- by opc
-abbrev pub literalTable : List (ℕ × LiteralOp)
-literalTable = (0b00, LiteralWord) ∷ (0b01, LiteralDouble) ∷ (0b10, LiteralSignedWord) ∷ []
-
-unfoldable pub literalAt : ℕ → LiteralOp
-literalAt opc = lookup LiteralPrefetch literalTable opc
-
--- by opc and L; what the table leaves is 10 with 1, and the undefined ones
-abbrev pub pairTable : List (ℕ × PairOp)
-pairTable = (0b00_0, StoreWords) ∷ (0b00_1, LoadWords) ∷ (0b01_1, LoadSignedWords) ∷ (0b10_0, StoreDoubles) ∷ []
-
-unfoldable pub pairAt : ℕ → PairOp
-pairAt code = lookup LoadDoubles pairTable code
-
-abbrev pub modeTable : List (ℕ × PairMode)
-modeTable = (0b00, NoAllocate) ∷ (0b01, Post) ∷ (0b10, Offset) ∷ []
-
-unfoldable pub modeAt : ℕ → PairMode
-modeAt mode = lookup Pre modeTable mode
-
--- the bytes of one access; for a pair, of one register's access
+-- the bytes of one access
 abbrev pub sizedBytes : SizedOp → ℕ
 sizedBytes op = 2 ^ scaleOf op
 
-abbrev pub pairBytes : PairOp → ℕ
-pairBytes StoreWords = 4
-pairBytes LoadWords = 4
-pairBytes LoadSignedWords = 4
-pairBytes StoreDoubles = 8
-pairBytes LoadDoubles = 8
+-- the operation of a code; what the list leaves is the prefetch, and the undefined codes
+abbrev pub sizedOps : List SizedOp
+sizedOps =
+    StoreByte ∷ LoadByte ∷ LoadSignedByte64 ∷ LoadSignedByte32
+    ∷ StoreHalf ∷ LoadHalf ∷ LoadSignedHalf64 ∷ LoadSignedHalf32
+    ∷ StoreWord ∷ LoadWord ∷ LoadSignedWord64
+    ∷ StoreDouble ∷ LoadDouble ∷ []
 
+unfoldable pub sizedAt : ℕ → SizedOp
+sizedAt code = lookup Prefetch (byCode sizedCode sizedOps) code
+
+-- the opc of a literal
 abbrev pub literalOpc : LiteralOp → ℕ
 literalOpc LiteralWord = 0b00
 literalOpc LiteralDouble = 0b01
 literalOpc LiteralSignedWord = 0b10
 literalOpc LiteralPrefetch = 0b11
 
--- the opc of a pair, its L, and its mode
+abbrev pub literalOps : List LiteralOp
+literalOps = LiteralWord ∷ LiteralDouble ∷ LiteralSignedWord ∷ []
+
+unfoldable pub literalAt : ℕ → LiteralOp
+literalAt opc = lookup LiteralPrefetch (byCode literalOpc literalOps) opc
+
+-- opc and L of a pair side by side
+abbrev pub pairCode : PairOp → ℕ
+pairCode StoreWords = 0b00_0
+pairCode LoadWords = 0b00_1
+pairCode LoadSignedWords = 0b01_1
+pairCode StoreDoubles = 0b10_0
+pairCode LoadDoubles = 0b10_1
+
 abbrev pub pairOpc : PairOp → ℕ
-pairOpc StoreWords = 0b00
-pairOpc LoadWords = 0b00
-pairOpc LoadSignedWords = 0b01
-pairOpc StoreDoubles = 0b10
-pairOpc LoadDoubles = 0b10
+pairOpc op = pairCode op / 2
 
 abbrev pub pairLoad : PairOp → ℕ
-pairLoad StoreWords = 0
-pairLoad LoadWords = 1
-pairLoad LoadSignedWords = 1
-pairLoad StoreDoubles = 0
-pairLoad LoadDoubles = 1
+pairLoad op = pairCode op % 2
+
+-- the bytes of one register's access: opc 10 has two doublewords, the others have words
+abbrev pub pairBytes : PairOp → ℕ
+pairBytes op = pick (eqb (pairOpc op) 0b10) 8 4
+
+-- what the list leaves is 10 with 1, and the undefined ones
+abbrev pub pairOps : List PairOp
+pairOps = StoreWords ∷ LoadWords ∷ LoadSignedWords ∷ StoreDoubles ∷ []
+
+unfoldable pub pairAt : ℕ → PairOp
+pairAt code = lookup LoadDoubles (byCode pairCode pairOps) code
 
 abbrev pub modeCode : PairMode → ℕ
 modeCode NoAllocate = 0b00
 modeCode Post = 0b01
 modeCode Offset = 0b10
 modeCode Pre = 0b11
+
+abbrev pub modes : List PairMode
+modes = NoAllocate ∷ Post ∷ Offset ∷ []
+
+unfoldable pub modeAt : ℕ → PairMode
+modeAt mode = lookup Pre (byCode modeCode modes) mode

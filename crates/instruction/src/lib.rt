@@ -21,6 +21,8 @@ pub use operation::PairOp;
 pub use operation::SizedOp;
 pub use operation::opc_field;
 pub use operation::pair_bytes;
+pub use operation::pair_load;
+pub use operation::pair_opc;
 pub use operation::scale;
 pub use operation::size_field;
 pub use operation::sized_bytes;

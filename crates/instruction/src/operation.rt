@@ -1,7 +1,7 @@
 // The operations of the families, and the bytes that each moves.
 ghost use mathlib.Core.Path.{_≡_};
 ghost use Prim.Native.Nat.{_<_};
-ghost use Rattle.instruction.specs.Operations.{sizedCode, sizeOf, opcOf, scaleOf, sizedBytes, pairBytes};
+ghost use Rattle.instruction.specs.Operations.{sizedCode, sizeOf, opcOf, scaleOf, sizedBytes, pairCode, pairOpc, pairLoad, pairBytes};
 
 // A size with an opc. A signed load extends to 64 bits, or to 32 with zeros above.
 pub enum SizedOp {
@@ -93,15 +93,39 @@ pub fn sized_bytes(op: SizedOp) -> u32
     1 << scale(op)
 }
 
+// Opc and L of a pair side by side.
+fn pair_code(op: PairOp) -> u32
+    ensures { λ r. ⌜ (r ≡ pairCode op) × (r < 6) ⌝ }
+{
+    match op {
+        PairOp::StoreWords => 0b00_0,
+        PairOp::LoadWords => 0b00_1,
+        PairOp::LoadSignedWords => 0b01_1,
+        PairOp::StoreDoubles => 0b10_0,
+        PairOp::LoadDoubles => 0b10_1,
+    }
+}
+
+// The opc field of a pair.
+pub fn pair_opc(op: PairOp) -> u32
+    ensures { λ r. ⌜ (r ≡ pairOpc op) × (r < 3) ⌝ }
+{
+    pair_code(op) / 2
+}
+
+// The L field of a pair: 1 where it loads.
+pub fn pair_load(op: PairOp) -> u32
+    ensures { λ r. ⌜ (r ≡ pairLoad op) × (r < 2) ⌝ }
+{
+    pair_code(op) % 2
+}
+
 // The bytes of one register of a pair.
 pub fn pair_bytes(op: PairOp) -> u32
     ensures { λ r. ⌜ r ≡ pairBytes op ⌝ }
 {
-    match op {
-        PairOp::StoreWords => 4,
-        PairOp::LoadWords => 4,
-        PairOp::LoadSignedWords => 4,
-        PairOp::StoreDoubles => 8,
-        PairOp::LoadDoubles => 8,
+    if pair_opc(op) == 0b10 {
+        return 8;
     }
+    4
 }

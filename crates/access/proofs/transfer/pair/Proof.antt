@@ -14,4 +14,4 @@ pair-spec =
     (λ c κs. search needs)
     (λ c κs. search needs)
     (λ c κs. search needs)
-    (λ c. rw (c .zero-slot2 .ensures, c .before .zero-slot .ensures, c .before .before .pair-extent .ensures, c .before .before .before .pair-loads .ensures, c .before .before .before .before .pair-bytes .ensures)))
+    (λ c. rw (c .zero-slot2 .ensures, c .before .zero-slot .ensures, c .before .before .pair-extent .ensures, c .before .before .before .pair-load .ensures .0, c .before .before .before .before .pair-bytes .ensures)))

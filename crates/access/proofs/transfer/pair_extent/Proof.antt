@@ -1,4 +1,5 @@
 -- `access::transfer::pair_extent` meets its contract. Assumes nothing.
+use borrow.Author.Tests.{ne-eqb}
 use borrow.Author.Needs.{needs}
 use Rattle.access.proofs.transfer.pair_extent.Statement.{statement}
 use Rattle.access.proofs.transfer.pair_extent.Tie as tie
@@ -7,13 +8,6 @@ pub pair-extent-spec : {M : Type 1} → statement M
 pair-extent-spec =
     tie.close
     (tie.spec
-    (λ c. search needs)
-    (λ c. search needs)
-    (λ c. search needs)
-    (λ c. search needs)
-    (λ c. search needs)
-    (λ c. rw (c .enum-told .given .1))
-    (λ c. rw (c .enum-told2 .given .1))
-    (λ c. rw (c .enum-told3 .given .1))
-    (λ c. rw (c .enum-told4 .given .1))
-    (λ c. rw (c .enum-told5 .given .1)))
+    (λ c κs. search needs)
+    (λ c. rw (← c .before .pair-opc .ensures .0, c .if1 .taken))
+    (λ c. rw (← c .before .pair-opc .ensures .0, ne-eqb _ 1 (c .if1 .left))))

@@ -1,6 +1,8 @@
 -- `decoder::family::literal_op` meets its contract: each arm is an entry of the table. Assumes nothing.
-use Rattle.bits.proofs.Choices.{absent, entry}
-use Rattle.instruction.specs.Operations.{literalAt, literalTable}
+use mathlib.Core.Path.{sym, ap}
+use Rattle.bits.specs.Choice.{byCode}
+use Rattle.bits.proofs.Choices.{absent}
+use Rattle.instruction.specs.Operations.{literalOpc, literalOps, literalAt}
 use Rattle.decoder.proofs.family.literal_op.Statement.{statement}
 use Rattle.decoder.proofs.family.literal_op.Tie as tie
 
@@ -9,7 +11,7 @@ unfolding literalAt
 literal-op-spec =
     tie.close
     (tie.spec
-    (λ c. entry _ literalTable (c .match .keys1))
-    (λ c. entry _ literalTable (c .match .keys2))
-    (λ c. entry _ literalTable (c .match .keys3))
-    (λ c. absent _ literalTable _ (c .match .rest)))
+    (λ c. ap literalAt (sym (c .match .keys1)))
+    (λ c. ap literalAt (sym (c .match .keys2)))
+    (λ c. ap literalAt (sym (c .match .keys3)))
+    (λ c. absent _ (byCode literalOpc literalOps) _ (c .match .rest)))
