@@ -14,7 +14,7 @@ use Rattle.instruction.specs.declared.operation.PairOp.{PairOp}
 use Rattle.instruction.specs.declared.operation.LiteralOp.{LiteralOp}
 use Rattle.instruction.specs.declared.operation.LiteralOp.the-variants.{LiteralWord, LiteralDouble, LiteralSignedWord, LiteralPrefetch}
 use Rattle.instruction.specs.Operations.{sizeOf, opcOf}
-use Rattle.instruction.specs.Decoding.{decodeOf}
+use Rattle.decoder.specs.Decoding.{decodeOf}
 use Rattle.access.specs.declared.addressing.Addressing.{Addressing}
 use Rattle.access.specs.declared.Access.{Access}
 use Rattle.access.specs.declared.Access.the-variants.{Nothing, Moves}

@@ -15,7 +15,7 @@ use Rattle.instruction.specs.declared.row.Row.{Row}
 use Rattle.instruction.specs.declared.row.Row.the-variants.{NoRow, LiteralRow, PairRow, OrderedRow, UnscaledRow, PostRow, PreRow, RegisterRow, UnsignedRow}
 use Rattle.instruction.specs.Answers.{answerNumber}
 use Rattle.instruction.specs.Table.{columnsOf, inSet, rowOf, undefined, allocated, unpredictable, instructionOf}
-use Rattle.instruction.specs.Decoding.{decodeOf, classOf}
+use Rattle.decoder.specs.Decoding.{decodeOf, classOf}
 use Rattle.instruction.proofs.Rows.{row-has}
 use Rattle.access.specs.Accesses.{familyAccess, accessOf, wordAccess}
 use Rattle.plan.specs.declared.window.Window.{Window}

@@ -13,7 +13,7 @@ use Rattle.bits.specs.Extension.{largest, extendedOf}
 use Rattle.memory.proofs.Spans.{room-64}
 use Rattle.instruction.specs.declared.answer.Answer.{Answer}
 use Rattle.instruction.specs.Answers.{answerNumber}
-use Rattle.instruction.specs.Decoding.{decodeOf, classOf}
+use Rattle.decoder.specs.Decoding.{decodeOf, classOf}
 use Rattle.access.specs.declared.transfer.Transfer.{Transfer}
 use Rattle.access.specs.declared.Access.{Access}
 use Rattle.access.specs.declared.Access.the-variants.{Nothing, Moves}

@@ -18,7 +18,7 @@ use Rattle.instruction.specs.Answers.{answerNumber}
 use Rattle.instruction.specs.Operands.{literalIn, pairIn, signedIn, unsignedIn}
 use Rattle.instruction.specs.Table.{columnsOf, matches, inSet, rowOf, undefined, allocated, unpredictable}
 use Rattle.instruction.specs.Operations.{modeAt, pairBytes, sizedBytes}
-use Rattle.instruction.specs.Decoding.{decodeOf, classOf, empty}
+use Rattle.decoder.specs.Decoding.{decodeOf, classOf, empty}
 use Rattle.instruction.proofs.Rows.{no-row, set-matches, of-set, rowed}
 
 -- ---- operands

@@ -1,3 +1,4 @@
 pub mod Arms
+pub mod Decodes
 pub mod Keyless
 pub mod Products

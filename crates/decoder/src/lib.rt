@@ -10,7 +10,7 @@ use instruction::Decoded;
 pub use view::examine;
 ghost use mathlib.Core.Path.{_≡_};
 ghost use Rattle.instruction.specs.Table.{allocated};
-ghost use Rattle.instruction.specs.Decoding.{decodeOf, classOf};
+ghost use Rattle.decoder.specs.Decoding.{decodeOf, classOf};
 
 // The instruction of a word, or answer 2 or 3 and the empty instruction.
 pub fn decode(word: u32) -> Decoded

@@ -10,7 +10,7 @@ use instruction::Instruction;
 use instruction::Row;
 ghost use mathlib.Core.Path.{_≡_};
 ghost use Rattle.bits.specs.Choice.{pick};
-ghost use Rattle.instruction.specs.Decoding.{decodeOf, classOf, empty};
+ghost use Rattle.decoder.specs.Decoding.{decodeOf, classOf, empty};
 
 // The answer of classifying a word, with the instruction of decoding it.
 pub fn examine(word: u32) -> Decoded

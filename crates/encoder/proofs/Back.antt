@@ -24,7 +24,7 @@ use Rattle.instruction.specs.declared.operation.SizedOp.{SizedOp}
 use Rattle.instruction.specs.Operands.{sizedIn, literalIn, pairOpIn, pairIn, signedIn, indexIn, unsignedIn}
 use Rattle.instruction.specs.Table.{columnsOf, rowOf}
 use Rattle.instruction.specs.Operations.{sizeOf, opcOf, sizedBytes, literalOpc, pairOpc, pairLoad, pairBytes, modeCode}
-use Rattle.instruction.specs.Encoding.{fixed, wordWith, withBits, literalFields, literalWord, pairFields, pairWord, sizedFields, signedWord, indexFields, indexWord, unsignedWord, wordOf}
+use Rattle.encoder.specs.Encoding.{fixed, wordWith, withBits, literalFields, literalWord, pairFields, pairWord, sizedFields, signedWord, indexFields, indexWord, unsignedWord, wordOf}
 use Rattle.instruction.proofs.Rows.{row-is}
 use Rattle.instruction.proofs.Codes.{sized-at, literal-at, pair-at, mode-at}
 

@@ -15,7 +15,7 @@ use Rattle.instruction.specs.declared.answer.Encoded.{Encoded}
 use Rattle.instruction.specs.declared.family.Family.{Family}
 use Rattle.instruction.specs.declared.family.Instruction.{Instruction}
 use Rattle.instruction.specs.Table.{columnsOf, inSet, rowOf, undefined, allocated, instructionOf}
-use Rattle.instruction.specs.Encoding.{wordOf, encodedAs, encodeOf}
+use Rattle.encoder.specs.Encoding.{wordOf, encodedAs, encodeOf}
 use Rattle.instruction.proofs.Rows.{row-has, rowed}
 use Rattle.encoder.specs.Exact.{encoded, noWord, Word, Exact}
 use Rattle.encoder.proofs.There.{there}

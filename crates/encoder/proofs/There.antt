@@ -17,7 +17,7 @@ use Rattle.instruction.specs.Undefined.{sizeOpc, undefinedSize, undefinedPair}
 use Rattle.instruction.specs.Operands.{sizedIn, literalIn, pairOpIn, pairIn, signedIn, indexIn, unsignedIn}
 use Rattle.instruction.specs.Table.{columnsOf}
 use Rattle.instruction.specs.Operations.{sizeOf, opcOf, sizedAt, literalAt, pairOpc, pairLoad, pairAt}
-use Rattle.instruction.specs.Encoding.{literalWord, pairWord, signedWord, indexWord, unsignedWord, wordOf}
+use Rattle.encoder.specs.Encoding.{literalWord, pairWord, signedWord, indexWord, unsignedWord, wordOf}
 use Rattle.instruction.proofs.Rows.{prefetch-no, option-no}
 use Rattle.instruction.proofs.Codes.{sized, paired, sized-code, literal-code, pair-code, mode-code}
 use Rattle.encoder.proofs.Words.{word-is}

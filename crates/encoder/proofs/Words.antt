@@ -18,7 +18,7 @@ use Rattle.instruction.specs.declared.family.Instruction.{Instruction}
 use Rattle.instruction.specs.declared.row.Row.{Row}
 use Rattle.instruction.specs.declared.operation.SizedOp.{SizedOp}
 use Rattle.instruction.specs.Table.{allocated}
-use Rattle.instruction.specs.Encoding.{fixed, wordWith, withBits, sizedFields, indexFields, indexWord, wordOf, encodedAs, encodeOf}
+use Rattle.encoder.specs.Encoding.{fixed, wordWith, withBits, sizedFields, indexFields, indexWord, wordOf, encodedAs, encodeOf}
 use Rattle.instruction.proofs.Codes.{sized}
 use Rattle.encoder.specs.route.Sized.{sizedWord}
 

@@ -7,7 +7,7 @@ use instruction::Answer;
 use instruction::Encoded;
 use instruction::Instruction;
 ghost use mathlib.Core.Path.{_≡_};
-ghost use Rattle.instruction.specs.Encoding.{encodeOf, encodedAs};
+ghost use Rattle.encoder.specs.Encoding.{encodeOf, encodedAs};
 
 // The one word that decodes to an instruction, or answer 11 and word 0.
 pub fn encode(instruction: Instruction) -> Encoded

@@ -15,7 +15,7 @@ use instruction::SizedOp;
 ghost use mathlib.Core.Path.{_≡_};
 ghost use Prim.Native.Nat.{_<_, _≤_};
 ghost use Rattle.instruction.specs.Operations.{literalOpc, modeCode};
-ghost use Rattle.instruction.specs.Encoding.{fixed, wordWith, literalFields, literalWord, pairFields, pairWord, signedWord, indexWord, unsignedWord, wordOf};
+ghost use Rattle.encoder.specs.Encoding.{fixed, wordWith, literalFields, literalWord, pairFields, pairWord, signedWord, indexWord, unsignedWord, wordOf};
 ghost use Rattle.encoder.specs.route.Sized.{sizedWord};
 
 pub fn word_of(family: Family) -> Field

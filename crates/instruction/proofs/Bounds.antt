@@ -1,17 +1,14 @@
 -- The numbers of an instruction that a word stands for are within its family's bounds. Assumes nothing.
 use Prim.Native.Nat.{ℕ, _*_, _≤_}
-use mathlib.Core.Bool.{Bool, true, false}
 use native.Mathlib.Nat.{mul-le-mul, mul-le-mul-left}
 use native.Mathlib.Omega.{arith}
-use Rattle.bits.specs.Choice.{pick}
 use Rattle.bits.specs.Fields.{field}
 use Rattle.bits.proofs.Parts.{part-lt}
 use Rattle.bits.proofs.Offsets.{signed-most}
 use Rattle.instruction.specs.Types.{Row, NoRow, LiteralRow, PairRow, OrderedRow, UnscaledRow, PostRow, PreRow, RegisterRow, UnsignedRow, SizedOp, OffsetOperands}
 use Rattle.instruction.specs.Operations.{sizedBytes, pairBytes}
 use Rattle.instruction.specs.Operands.{sizedIn, literalIn, pairOpIn, pairIn, signedIn, indexIn, unsignedIn}
-use Rattle.instruction.specs.Table.{columnsOf, rowOf, allocated, instructionOf}
-use Rattle.instruction.specs.Decoding.{decodeOf, empty}
+use Rattle.instruction.specs.Table.{columnsOf}
 use Rattle.instruction.specs.route.Bounds.{LiteralBounds, PairBounds, OffsetBounds, IndexBounds, Bounded}
 use Rattle.instruction.proofs.Codes.{sized, paired}
 
@@ -47,7 +44,7 @@ module _ (w : ℕ) where
       let most : field 21 10 w * sizedBytes op ≤ 4095 * 8 = mul-le-mul below (sized op .most) in
       record { target = part-lt 0 5 w; base = part-lt 5 5 w; offset = omega arith }
 
-  bounded-in : (r : Row) → Bounded (columnsOf r .family w)
+  pub bounded-in : (r : Row) → Bounded (columnsOf r .family w)
   bounded-in NoRow = tt
   bounded-in LiteralRow = literal-bounds
   bounded-in PairRow = pair-bounds
@@ -57,12 +54,3 @@ module _ (w : ℕ) where
   bounded-in PreRow = signed-bounds
   bounded-in RegisterRow = index-bounds
   bounded-in UnsignedRow = unsigned-bounds (sizedIn w)
-
-  by-allocated : (b : Bool) (r : Row) → Bounded (pick b (record { family = columnsOf r .family w }) empty .family)
-  by-allocated true r = bounded-in r
-  by-allocated false r = tt
-
-  -- an instruction that is decoded
-  pub decoded-bounded : Bounded (decodeOf w .instruction .family)
-  unfolding decodeOf instructionOf
-  decoded-bounded = by-allocated (allocated w) (rowOf w)

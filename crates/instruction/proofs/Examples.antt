@@ -1,17 +1,17 @@
 -- 01's examples on the definitions: the instructions of the starred words, and the starred answers. Assumes nothing.
 use Prim.Native.Nat.{ℕ}
 use mathlib.Core.Path.{_≡_, refl}
+use mathlib.Core.Bool.{Bool, true, false}
 use mathlib.Core.List.{List, [], _∷_}
 use lib.IntN.{pos, negsuc}
 use Rattle.bits.specs.Fields.{part}
 use Rattle.bits.specs.Signed.{signedOf}
-use Rattle.instruction.specs.Types.{Family, Literal, Pair, Ordered, Unscaled, PostIndex, Register, Unsigned, LoadByte, LoadDouble, LoadSignedByte32, LoadSignedByte64, StoreDoubles, LiteralDouble, Pre, Prefetch, StoreByte, Undefined, Unpredictable, NotInSet, Answer, Done}
+use Rattle.instruction.specs.Types.{Family, Literal, Pair, Ordered, Unscaled, PostIndex, Register, Unsigned, LoadByte, LoadDouble, LoadSignedByte32, LoadSignedByte64, StoreDoubles, LiteralDouble, Pre, Prefetch, StoreByte}
 use Rattle.instruction.specs.Operations.{sizedAt, literalAt, pairAt, modeAt}
 use Rattle.instruction.specs.Undefined.{undefinedSize, undefinedPrefetch, undefinedOption, undefinedPair}
 use Rattle.instruction.specs.Unpredictable.{baseIs, unpredictablePair}
 use Rattle.instruction.specs.Operands.{sizedIn, literalIn, pairOpIn, pairIn, signedIn, indexIn, unsignedIn}
 use Rattle.instruction.specs.Table.{inSet, rowOf, undefined, unpredictable, instructionOf}
-use Rattle.instruction.specs.Decoding.{classOf}
 
 abbrev Decodes : List (ℕ × Family) → Type 0
 Decodes [] = Unit {0}
@@ -34,16 +34,24 @@ pub starred-instructions : Decodes examples
 unfolding instructionOf rowOf part signedOf sizedAt literalAt pairAt modeAt sizedIn literalIn pairOpIn pairIn signedIn indexIn unsignedIn
 starred-instructions = (refl, (refl, (refl, (refl, (refl, (refl, (refl, (refl, (refl, tt)))))))))
 
-abbrev Classes : List (ℕ × Answer) → Type 0
-Classes [] = Unit {0}
-Classes (e ∷ es) = (classOf (e .0) ≡ e .1) × Classes es
+-- whether a word is of the set, undefined and unpredictable
+abbrev Sorted : List (ℕ × Bool × Bool × Bool) → Type 0
+Sorted [] = Unit {0}
+Sorted (e ∷ es) = (inSet (e .0) ≡ e .1) × (undefined (e .0) ≡ e .2) × (unpredictable (e .0) ≡ e .3) × Sorted es
 
 -- with the answers of the listing, and a prefetch whose option bit 1 is 0
-abbrev answered : List (ℕ × Answer)
+abbrev answered : List (ℕ × Bool × Bool × Bool)
 answered =
-    (0xb8c00020, Undefined) ∷ (0x38e00862, Undefined) ∷ (0xf8a00862, Undefined) ∷ (0xa9400020, Unpredictable) ∷ (0xf8408421, Unpredictable)
-    ∷ (0x91000000, NotInSet) ∷ (0x385ff020, Done) ∷ []
+    (0xb8c00020, true, true, false)
+    ∷ (0x38e00862, true, true, false)
+    ∷ (0xf8a00862, true, true, false)
+    ∷ (0xa9400020, true, false, true)
+    ∷ (0xf8408421, true, false, true)
+    ∷ (0x91000000, false, false, false)
+    ∷ (0x385ff020, true, false, false)
+    ∷ []
 
-pub starred-answers : Classes answered
-unfolding classOf rowOf inSet part undefined undefinedSize undefinedPrefetch undefinedOption undefinedPair unpredictable baseIs unpredictablePair
-starred-answers = (refl, (refl, (refl, (refl, (refl, (refl, (refl, tt)))))))
+pub starred-answers : Sorted answered
+unfolding rowOf inSet part undefined undefinedSize undefinedPrefetch undefinedOption undefinedPair unpredictable baseIs unpredictablePair
+starred-answers =
+    (refl, refl, refl, (refl, refl, refl, (refl, refl, refl, (refl, refl, refl, (refl, refl, refl, (refl, refl, refl, (refl, refl, refl, tt)))))))

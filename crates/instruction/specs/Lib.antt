@@ -5,6 +5,4 @@ pub mod Undefined
 pub mod Unpredictable
 pub mod Operands
 pub mod Table
-pub mod Decoding
-pub mod Encoding
 pub mod route

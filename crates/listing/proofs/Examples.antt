@@ -9,7 +9,7 @@ use Rattle.instruction.specs.Unpredictable.{baseIs}
 use Rattle.instruction.specs.Operands.{sizedIn, signedIn, indexIn}
 use Rattle.instruction.specs.Table.{inSet, rowOf, undefined, allocated, unpredictable, instructionOf}
 use Rattle.instruction.specs.Operations.{sizedAt}
-use Rattle.instruction.specs.Decoding.{classOf}
+use Rattle.decoder.specs.Decoding.{classOf}
 use Rattle.ascii.specs.Ascii.{dec, signedDec}
 use Rattle.text.specs.Texts.{registerText, baseText, offsetTail, postTail, extendName, amountText, extendText, indexTail, frontText, sizedText, textOf}
 use Rattle.text.specs.Writing.{wordText}

@@ -15,7 +15,7 @@ use Rattle.instruction.specs.declared.answer.Answer.the-variants.{Done, NotInSe
 use Rattle.instruction.specs.declared.family.Instruction.{Instruction}
 use Rattle.instruction.specs.Answers.{answerNumber}
 use Rattle.instruction.specs.Table.{inSet, undefined, allocated, unpredictable, instructionOf}
-use Rattle.instruction.specs.Decoding.{decodeOf, classOf, empty}
+use Rattle.decoder.specs.Decoding.{decodeOf, classOf, empty}
 use Rattle.text.specs.Texts.{textOf, textMost}
 use Rattle.ascii.specs.Ascii.{asc}
 use Rattle.ascii.specs.route.Puts.{Puts}

@@ -7,7 +7,7 @@ use lib.ListN
 use Rattle.bits.specs.Choice.{pick}
 use Rattle.instruction.specs.Answers.{answerNumber}
 use Rattle.instruction.specs.Table.{allocated}
-use Rattle.instruction.specs.Decoding.{classOf}
+use Rattle.decoder.specs.Decoding.{classOf}
 use Rattle.ascii.specs.Ascii.{asc}
 use Rattle.text.specs.Texts.{textMost}
 use Rattle.text.specs.Writing.{wordText, Outcome, copied}

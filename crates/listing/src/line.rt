@@ -5,7 +5,7 @@ ghost use lib.ListN.{length};
 ghost use Prim.Native.Nat.{_<_, _%_, _^_};
 ghost use Rattle.bits.specs.Bytes.{bytesOf};
 ghost use Rattle.instruction.specs.Answers.{answerNumber};
-ghost use Rattle.instruction.specs.Decoding.{classOf};
+ghost use Rattle.decoder.specs.Decoding.{classOf};
 ghost use Rattle.ascii.specs.route.Puts.{Puts};
 ghost use Rattle.listing.specs.Listing.{hex4, hex8, contentText, lineText, shortText};
 

@@ -13,7 +13,7 @@ use Rattle.instruction.specs.declared.answer.Encoded.{Encoded}
 use Rattle.instruction.specs.declared.family.Instruction.{Instruction}
 use Rattle.instruction.specs.Answers.{answerNumber}
 use Rattle.instruction.specs.Table.{inSet, undefined, unpredictable}
-use Rattle.instruction.specs.Encoding.{encodeOf}
+use Rattle.encoder.specs.Encoding.{encodeOf}
 use Rattle.access.specs.declared.Access.{Access}
 use Rattle.access.specs.declared.Access.the-variants.{Nothing, Moves}
 use Rattle.plan.specs.declared.window.Window.{Window}

@@ -15,8 +15,8 @@ use Rattle.instruction.specs.declared.answer.Answer.{Answer}
 use Rattle.instruction.specs.declared.answer.Answer.the-variants.{Done, BadWindow, NotInSet, Undefined, Unpredictable, TaintedAddress, NoSuchText, NoRoom}
 use Rattle.instruction.specs.Answers.{answerNumber}
 use Rattle.instruction.specs.Table.{inSet, undefined, allocated, unpredictable}
-use Rattle.instruction.specs.Decoding.{decodeOf, classOf}
-use Rattle.instruction.specs.Encoding.{encodeOf}
+use Rattle.decoder.specs.Decoding.{decodeOf, classOf}
+use Rattle.encoder.specs.Encoding.{encodeOf}
 use Rattle.instruction.proofs.Rows.{never-overlap}
 use Rattle.instruction.proofs.Sorts.{exactly-one}
 use Rattle.machine.specs.Rule.{Taints, wordRule}

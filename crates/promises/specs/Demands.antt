@@ -16,8 +16,8 @@ use Rattle.instruction.specs.declared.family.Instruction.{Instruction}
 use Rattle.instruction.specs.declared.row.Row.{Row}
 use Rattle.instruction.specs.Answers.{answerNumber}
 use Rattle.instruction.specs.Table.{matches, inSet, undefined, allocated, unpredictable, instructionOf}
-use Rattle.instruction.specs.Decoding.{decodeOf, classOf}
-use Rattle.instruction.specs.Encoding.{encodeOf}
+use Rattle.decoder.specs.Decoding.{decodeOf, classOf}
+use Rattle.encoder.specs.Encoding.{encodeOf}
 use Rattle.access.specs.declared.transfer.Transfer.{Transfer}
 use Rattle.access.specs.declared.addressing.Addressing.{Addressing}
 use Rattle.access.specs.declared.Access.the-variants.{Moves}

@@ -7,7 +7,7 @@ use mathlib.Core.Logic.{inl, inr, _↔_}
 use native.Mathlib.Omega.{arith}
 use lib.ListN.{length}
 use Rattle.instruction.specs.Table.{allocated}
-use Rattle.instruction.specs.Encoding.{encodeOf}
+use Rattle.encoder.specs.Encoding.{encodeOf}
 use Rattle.instruction.specs.declared.answer.Encoded.{Encoded}
 use Rattle.text.specs.Texts.{textMost}
 use Rattle.text.specs.Writing.{wordText}

@@ -10,7 +10,7 @@ use borrow.Author.Tests.{not-true}
 use Rattle.bits.proofs.Choices.{both}
 use Rattle.instruction.specs.Table.{columnsOf, inSet, rowOf, undefined, allocated, instructionOf}
 use Rattle.instruction.proofs.Rows.{row-has}
-use Rattle.instruction.specs.Encoding.{encodeOf}
+use Rattle.encoder.specs.Encoding.{encodeOf}
 use Rattle.instruction.specs.declared.answer.Encoded.{Encoded}
 use Rattle.encoder.specs.Exact.{Exact}
 use Rattle.encoder.proofs.RoundTrip.{encode-decoded, encode-exact, not-encoded}

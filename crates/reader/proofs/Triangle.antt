@@ -6,7 +6,7 @@ use mathlib.Core.List.{List}
 use mathlib.Core.Logic.{inl, inr}
 use native.Mathlib.Omega.{arith}
 use Rattle.instruction.specs.Table.{instructionOf}
-use Rattle.instruction.specs.Encoding.{encodeOf}
+use Rattle.encoder.specs.Encoding.{encodeOf}
 use Rattle.instruction.specs.declared.answer.Encoded.{Encoded}
 use Rattle.encoder.specs.Exact.{Exact}
 use Rattle.encoder.proofs.RoundTrip.{encode-decoded, encode-exact}

@@ -5,7 +5,7 @@ use mathlib.Core.Path.{_≡_}
 use mathlib.Core.Bool.{true}
 use mathlib.Core.List.{List}
 use Rattle.instruction.specs.Table.{allocated}
-use Rattle.instruction.specs.Encoding.{encodeOf}
+use Rattle.encoder.specs.Encoding.{encodeOf}
 use Rattle.reader.specs.Types.{Done, Instruction, Reading}
 use Rattle.reader.specs.Reading.{ReadOf}
 

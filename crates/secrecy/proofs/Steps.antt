@@ -12,7 +12,7 @@ use Rattle.bits.specs.Choice.{pick}
 use Rattle.instruction.specs.declared.answer.Answer.{Answer}
 use Rattle.instruction.specs.declared.answer.Answer.the-variants.{BadWindow}
 use Rattle.instruction.specs.Answers.{answerNumber}
-use Rattle.instruction.specs.Decoding.{classOf}
+use Rattle.decoder.specs.Decoding.{classOf}
 use Rattle.bits.specs.Bytes.{joined, spanOf}
 use Rattle.bits.specs.Extension.{extendedOf}
 use Rattle.memory.specs.Taints.{taintByte, anyTainted}

@@ -7,7 +7,7 @@ use Rattle.instruction.specs.Unpredictable.{baseIs, unpredictablePair}
 use Rattle.instruction.specs.Operands.{sizedIn, literalIn, pairOpIn, pairIn, signedIn, indexIn, unsignedIn}
 use Rattle.instruction.specs.Table.{inSet, rowOf, undefined, allocated, unpredictable, instructionOf}
 use Rattle.instruction.specs.Operations.{sizedAt, literalAt, pairAt, modeAt}
-use Rattle.instruction.specs.Decoding.{classOf}
+use Rattle.decoder.specs.Decoding.{classOf}
 use Rattle.ascii.specs.Ascii.{dec, signedDec}
 use Rattle.text.specs.Texts.{registerText, baseText, offsetTail, preTail, postTail, extendName, amountText, extendText, indexTail, frontText, literalText, pairText, sizedText, textOf}
 use Rattle.text.specs.Writing.{wordText}

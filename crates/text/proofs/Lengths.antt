@@ -24,10 +24,10 @@ use Rattle.instruction.specs.Operations.{sizedCode, sizedAt, sizeOf, opcOf}
 use Rattle.instruction.specs.Undefined.{undefinedSize, undefinedOption}
 use Rattle.instruction.specs.Operands.{sizedIn, indexIn}
 use Rattle.instruction.specs.Table.{inSet, rowOf, undefined, allocated, instructionOf}
-use Rattle.instruction.specs.Decoding.{decodeOf}
+use Rattle.decoder.specs.Decoding.{decodeOf}
 use Rattle.instruction.specs.route.Bounds.{Bounded}
 use Rattle.instruction.proofs.Codes.{sized}
-use Rattle.instruction.proofs.Bounds.{decoded-bounded}
+use Rattle.decoder.proofs.Decodes.{decoded-bounded}
 use Rattle.ascii.specs.Ascii.{asc, dec, signedDec}
 use Rattle.mnemonic.specs.Operands.{Operand, Narrow, Wide, Hint, sizedOperand, pairOperand}
 use Rattle.mnemonic.specs.Mnemonics.{sizeLetter, suffix, stemmed, noAllocateName, allocateName, plainName, unscaledName, orderedName, literalName, pairName}

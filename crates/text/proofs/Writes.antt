@@ -14,7 +14,7 @@ use Rattle.instruction.specs.declared.answer.Decoded.{Decoded}
 use Rattle.instruction.specs.declared.family.Instruction.{Instruction}
 use Rattle.instruction.specs.Table.{inSet, undefined, allocated, unpredictable, instructionOf}
 use Rattle.instruction.specs.Answers.{answerNumber}
-use Rattle.instruction.specs.Decoding.{decodeOf, classOf, empty}
+use Rattle.decoder.specs.Decoding.{decodeOf, classOf, empty}
 use Rattle.text.specs.Texts.{familyText, textOf}
 use Rattle.ascii.specs.route.Puts.{Puts}
 use Rattle.text.specs.Writing.{wordText, Outcome, copied, writeOf}

@@ -6,7 +6,7 @@ use mathlib.Core.Bool.{true}
 use mathlib.Core.List.{List, [], _∷_}
 use Rattle.instruction.specs.Answers.{answerNumber}
 use Rattle.instruction.specs.Table.{allocated}
-use Rattle.instruction.specs.Decoding.{classOf}
+use Rattle.decoder.specs.Decoding.{classOf}
 use Rattle.ascii.specs.Ascii.{asc}
 use Rattle.text.specs.Writing.{wordText}
 

@@ -10,7 +10,7 @@ use Rattle.text.specs.declared.Written.{Written}
 use Rattle.instruction.specs.declared.answer.Answer.{Answer}
 use Rattle.instruction.specs.declared.answer.Answer.the-variants.{Done, NoRoom}
 use Rattle.instruction.specs.Table.{allocated, instructionOf}
-use Rattle.instruction.specs.Decoding.{decodeOf}
+use Rattle.decoder.specs.Decoding.{decodeOf}
 
 -- the text of an allocated word
 unfoldable pub wordText : ℕ → List ℕ

@@ -11,7 +11,7 @@ use instruction::Answer;
 use instruction::Family;
 use store::Pieces;
 ghost use mathlib.Core.Path.{_≡_};
-ghost use Rattle.instruction.specs.Decoding.{classOf, decodeOf};
+ghost use Rattle.decoder.specs.Decoding.{classOf, decodeOf};
 ghost use Rattle.instruction.specs.route.Bounds.{Bounded};
 ghost use Rattle.ascii.specs.route.Puts.{Puts};
 ghost use Rattle.text.specs.Texts.{textOf, familyText};

@@ -4,7 +4,7 @@ use native.Mathlib.Omega.{arith}
 use Rattle.instruction.specs.Answers.{answerNumber}
 use Rattle.ascii.proofs.Pieces.{nothing}
 use Rattle.text.specs.Texts.{textOf}
-use Rattle.instruction.proofs.Bounds.{decoded-bounded}
+use Rattle.decoder.proofs.Decodes.{decoded-bounded}
 use Rattle.text.proofs.Writes.{no-text}
 use borrow.Author.Needs.{needs}
 use Rattle.text.proofs.put.Statement.{statement}

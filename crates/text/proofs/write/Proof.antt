@@ -1,5 +1,5 @@
 -- `text::write` meets its contract. Assumes nothing.
-use Rattle.instruction.proofs.Bounds.{decoded-bounded}
+use Rattle.decoder.proofs.Decodes.{decoded-bounded}
 use Rattle.text.proofs.Writes.{write-refused, write-done}
 use borrow.Author.Needs.{needs}
 use Rattle.text.proofs.write.Statement.{statement}

@@ -8,7 +8,7 @@ use mir.Val.{SFits}
 use mir.Facts.{toZ-ofZ}
 use Rattle.bits.specs.Signed.{plainBitsOf}
 use Rattle.bits.proofs.Offsets.{plain-is}
-use Rattle.instruction.specs.Encoding.{unsignedWord}
+use Rattle.encoder.specs.Encoding.{unsignedWord}
 use Rattle.encoder.proofs.Offsets.{passed}
 use Rattle.encoder.proofs.Words.{holds-is, unfit-is, sized-is}
 use borrow.Author.Needs.{needs}

@@ -5,10 +5,20 @@ use Rattle.bits.specs.Choice.{pick}
 use Rattle.bits.specs.Fields.{Bits, bits, fit, placed}
 use Rattle.bits.specs.Signed.{bitsOf, plainBitsOf}
 use Rattle.bits.specs.declared.Field.{Field}
-use Rattle.bits.specs.declared.Field.the-variants.{Holds, Unfit}
-use Rattle.instruction.specs.Types.{Row, LiteralRow, PairRow, OrderedRow, UnscaledRow, PostRow, PreRow, RegisterRow, UnsignedRow, Family, Empty, Literal, Pair, Ordered, Unscaled, PostIndex, PreIndex, Register, Unsigned, Instruction, LiteralOp, LiteralOperands, PairOp, PairOperands, OffsetOperands, IndexOperands, SizedOp, Encoded, Done, NoSuchInstruction}
+use Rattle.instruction.specs.declared.answer.Answer.{Answer}
+use Rattle.instruction.specs.declared.answer.Encoded.{Encoded}
+use Rattle.instruction.specs.declared.row.Row.{Row}
+use Rattle.instruction.specs.declared.operation.LiteralOp.{LiteralOp}
+use Rattle.instruction.specs.declared.operation.PairOp.{PairOp}
+use Rattle.instruction.specs.declared.operation.SizedOp.{SizedOp}
+use Rattle.instruction.specs.declared.family.Family.{Family}
+use Rattle.instruction.specs.declared.family.Instruction.{Instruction}
+use Rattle.instruction.specs.declared.family.LiteralOperands.{LiteralOperands}
+use Rattle.instruction.specs.declared.family.PairOperands.{PairOperands}
+use Rattle.instruction.specs.declared.family.OffsetOperands.{OffsetOperands}
+use Rattle.instruction.specs.declared.family.IndexOperands.{IndexOperands}
 use Rattle.instruction.specs.Table.{columnsOf, allocated}
 use Rattle.instruction.specs.Operations.{sizeOf, opcOf, sizedBytes, literalOpc, pairOpc, pairLoad, modeCode, pairBytes}
 
 -- the fixed bits of a row
 abbrev pub fixed : Row → ℕ
@@ -16,19 +26,19 @@ fixed r = placed (columnsOf r .fixed)
 
 -- the word of these fields beside the fixed bits, if each has room
 unfoldable pub wordWith : ℕ → List Bits → Field
-wordWith f fs = pick (fit fs) (Holds (f + placed fs)) Unfit
+wordWith f fs = pick (fit fs) (Field.Holds (f + placed fs)) Field.Unfit
 
 -- the word that an offset's bits are put into
 abbrev pub withBits : Field → (ℕ → Field) → Field
-withBits (Holds b) f = f b
-withBits Unfit f = Unfit
+withBits (Field.Holds b) f = f b
+withBits Field.Unfit f = Field.Unfit
 
 -- imm19
 abbrev pub literalFields : LiteralOp → ℕ → ℕ → List Bits
 literalFields op target imm19 = bits 31 30 (literalOpc op) ∷ bits 4 0 target ∷ bits 23 5 imm19 ∷ []
 
 unfoldable pub literalWord : LiteralOp → LiteralOperands → Field
-literalWord op o = withBits (bitsOf 262144 4 (o .offset)) (λ b. wordWith (fixed LiteralRow) (literalFields op (o .target) b))
+literalWord op o = withBits (bitsOf 262144 4 (o .offset)) (λ b. wordWith (fixed Row.LiteralRow) (literalFields op (o .target) b))
 
 -- mode, L, imm7 and Rt2
 abbrev pub pairFields : PairOp → PairOperands → ℕ → List Bits
@@ -37,7 +47,7 @@ pairFields op o imm7 =
     ∷ bits 14 10 (o .second) ∷ bits 21 15 imm7 ∷ []
 
 unfoldable pub pairWord : PairOp → PairOperands → Field
-pairWord op o = withBits (bitsOf 64 (pairBytes op) (o .offset)) (λ b. wordWith (fixed PairRow) (pairFields op o b))
+pairWord op o = withBits (bitsOf 64 (pairBytes op) (o .offset)) (λ b. wordWith (fixed Row.PairRow) (pairFields op o b))
 
 -- the families with a size, and their own fields
 abbrev pub sizedFields : SizedOp → ℕ → ℕ → List Bits → List Bits
@@ -54,30 +64,30 @@ abbrev pub indexFields : IndexOperands → List Bits
 indexFields o = bits 20 16 (o .index) ∷ bits 15 13 (o .option) ∷ bits 12 12 (o .scaled) ∷ []
 
 unfoldable pub indexWord : SizedOp → IndexOperands → Field
-indexWord op o = wordWith (fixed RegisterRow) (sizedFields op (o .base) (o .target) (indexFields o))
+indexWord op o = wordWith (fixed Row.RegisterRow) (sizedFields op (o .base) (o .target) (indexFields o))
 
 -- imm12
 unfoldable pub unsignedWord : SizedOp → OffsetOperands → Field
 unsignedWord op o =
     withBits (plainBitsOf 4096 (sizedBytes op) (o .offset))
-    (λ b. wordWith (fixed UnsignedRow) (sizedFields op (o .base) (o .target) (bits 21 10 b ∷ [])))
+    (λ b. wordWith (fixed Row.UnsignedRow) (sizedFields op (o .base) (o .target) (bits 21 10 b ∷ [])))
 
 -- the word with the fields of a family, if they are in range
 abbrev pub wordOf : Family → Field
-wordOf Empty = Unfit
-wordOf (Literal op o) = literalWord op o
-wordOf (Pair op o) = pairWord op o
-wordOf (Ordered op o) = signedWord (fixed OrderedRow) op o
-wordOf (Unscaled op o) = signedWord (fixed UnscaledRow) op o
-wordOf (PostIndex op o) = signedWord (fixed PostRow) op o
-wordOf (PreIndex op o) = signedWord (fixed PreRow) op o
-wordOf (Register op o) = indexWord op o
-wordOf (Unsigned op o) = unsignedWord op o
+wordOf Family.Empty = Field.Unfit
+wordOf (Family.Literal op o) = literalWord op o
+wordOf (Family.Pair op o) = pairWord op o
+wordOf (Family.Ordered op o) = signedWord (fixed Row.OrderedRow) op o
+wordOf (Family.Unscaled op o) = signedWord (fixed Row.UnscaledRow) op o
+wordOf (Family.PostIndex op o) = signedWord (fixed Row.PostRow) op o
+wordOf (Family.PreIndex op o) = signedWord (fixed Row.PreRow) op o
+wordOf (Family.Register op o) = indexWord op o
+wordOf (Family.Unsigned op o) = unsignedWord op o
 
 -- an undefined combination has no word
 abbrev pub encodedAs : Field → Encoded
-encodedAs (Holds w) = record { answer = pick (allocated w) Done NoSuchInstruction; word = pick (allocated w) w 0 }
-encodedAs Unfit = record { answer = NoSuchInstruction; word = 0 }
+encodedAs (Field.Holds w) = record { answer = pick (allocated w) Answer.Done Answer.NoSuchInstruction; word = pick (allocated w) w 0 }
+encodedAs Field.Unfit = record { answer = Answer.NoSuchInstruction; word = 0 }
 
 unfoldable pub encodeOf : Instruction → Encoded
 encodeOf i = encodedAs (wordOf (i .family))
