@@ -1,4 +1,5 @@
-// The fields of a word, as operations and operands.
+// The fields of a word, as operations and operands. A family is made of its operation, wherever that was read, and of the
+// operands in the rest of the word.
 use instruction::Family;
 use instruction::IndexOperands;
 use instruction::LiteralOp;
@@ -7,66 +8,62 @@ use instruction::OffsetOperands;
 use instruction::PairMode;
 use instruction::PairOp;
 use instruction::PairOperands;
-use instruction::Row;
 use instruction::SizedOp;
 ghost use mathlib.Core.Path.{_≡_};
 ghost use Prim.Native.Nat.{_*_, _<_, _≤_};
 ghost use Rattle.bits.specs.Signed.{signedOf};
 ghost use Rattle.instruction.specs.Operations.{sizedAt, literalAt, pairAt, modeAt};
 ghost use Rattle.instruction.specs.Operands.{sizedIn, literalIn, pairOpIn, pairIn, signedIn, indexIn, unsignedIn};
-ghost use Rattle.instruction.specs.Table.{columnsOf};
 
-pub fn literal(word: u32) -> Family
-    ensures { λ r. ⌜ r ≡ columnsOf Row.LiteralRow .family word ⌝ }
+pub fn literal(op: LiteralOp, word: u32) -> Family
+    ensures { λ r. ⌜ r ≡ Family.Literal op (literalIn word) ⌝ }
 {
-    Family::Literal(literal_op(word / 0x4000_0000 % 4), literal_operands(word))
+    Family::Literal(op, literal_operands(word))
 }
 
-pub fn pair(word: u32) -> Family
-    ensures { λ r. ⌜ r ≡ columnsOf Row.PairRow .family word ⌝ }
+pub fn pair(op: PairOp, word: u32) -> Family
+    ensures { λ r. ⌜ r ≡ Family.Pair op (pairIn op word) ⌝ }
 {
-    let op = pair_op_in(word);
     Family::Pair(op, pair_operands(op, word))
 }
 
-pub fn ordered(word: u32) -> Family
-    ensures { λ r. ⌜ r ≡ columnsOf Row.OrderedRow .family word ⌝ }
+pub fn ordered(op: SizedOp, word: u32) -> Family
+    ensures { λ r. ⌜ r ≡ Family.Ordered op (signedIn word) ⌝ }
 {
-    Family::Ordered(sized_op_in(word), signed_operands(word))
+    Family::Ordered(op, signed_operands(word))
 }
 
-pub fn unscaled(word: u32) -> Family
-    ensures { λ r. ⌜ r ≡ columnsOf Row.UnscaledRow .family word ⌝ }
+pub fn unscaled(op: SizedOp, word: u32) -> Family
+    ensures { λ r. ⌜ r ≡ Family.Unscaled op (signedIn word) ⌝ }
 {
-    Family::Unscaled(sized_op_in(word), signed_operands(word))
+    Family::Unscaled(op, signed_operands(word))
 }
 
-pub fn post_index(word: u32) -> Family
-    ensures { λ r. ⌜ r ≡ columnsOf Row.PostRow .family word ⌝ }
+pub fn post_index(op: SizedOp, word: u32) -> Family
+    ensures { λ r. ⌜ r ≡ Family.PostIndex op (signedIn word) ⌝ }
 {
-    Family::PostIndex(sized_op_in(word), signed_operands(word))
+    Family::PostIndex(op, signed_operands(word))
 }
 
-pub fn pre_index(word: u32) -> Family
-    ensures { λ r. ⌜ r ≡ columnsOf Row.PreRow .family word ⌝ }
+pub fn pre_index(op: SizedOp, word: u32) -> Family
+    ensures { λ r. ⌜ r ≡ Family.PreIndex op (signedIn word) ⌝ }
 {
-    Family::PreIndex(sized_op_in(word), signed_operands(word))
+    Family::PreIndex(op, signed_operands(word))
 }
 
-pub fn register(word: u32) -> Family
-    ensures { λ r. ⌜ r ≡ columnsOf Row.RegisterRow .family word ⌝ }
+pub fn register(op: SizedOp, word: u32) -> Family
+    ensures { λ r. ⌜ r ≡ Family.Register op (indexIn word) ⌝ }
 {
-    Family::Register(sized_op_in(word), index_operands(word))
+    Family::Register(op, index_operands(word))
 }
 
-pub fn unsigned(word: u32) -> Family
-    ensures { λ r. ⌜ r ≡ columnsOf Row.UnsignedRow .family word ⌝ }
+pub fn unsigned(op: SizedOp, word: u32) -> Family
+    ensures { λ r. ⌜ r ≡ Family.Unsigned op (unsignedIn op word) ⌝ }
 {
-    let op = sized_op_in(word);
     Family::Unsigned(op, unsigned_operands(op, word))
 }
 
-fn literal_op(opc: u32) -> LiteralOp
+pub fn literal_op(opc: u32) -> LiteralOp
     ensures { λ r. ⌜ r ≡ literalAt opc ⌝ }
 {
     match opc {
@@ -98,7 +95,7 @@ fn sized_op(code: u32) -> SizedOp
     }
 }
 
-fn sized_op_in(word: u32) -> SizedOp
+pub fn sized_op_in(word: u32) -> SizedOp
     ensures { λ r. ⌜ r ≡ sizedIn word ⌝ }
 {
     sized_op(word / 0x4000_0000 % 4 * 4 + word / 0x40_0000 % 4)
@@ -116,7 +113,7 @@ fn pair_op(code: u32) -> PairOp
     }
 }
 
-fn pair_op_in(word: u32) -> PairOp
+pub fn pair_op_in(word: u32) -> PairOp
     ensures { λ r. ⌜ r ≡ pairOpIn word ⌝ }
 {
     pair_op(word / 0x4000_0000 % 4 * 2 + word / 0x40_0000 % 2)

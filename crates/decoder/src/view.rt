@@ -19,37 +19,41 @@ pub fn examine(word: u32) -> Decoded
     let row = row::row_of(word);
     match row {
         Row::NoRow => refused(Answer::NotInSet),
-        Row::LiteralRow => viewed(false, false, family::literal(word)),
+        Row::LiteralRow => {
+            let op = family::literal_op(word / 0x4000_0000 % 4);
+            viewed(false, false, family::literal(op, word))
+        }
         Row::PairRow => {
+            let family = family::pair(family::pair_op_in(word), word);
             let undefined = undefined::in_pair(word);
-            viewed(undefined, unpredictable::in_pair(word), family::pair(word))
+            viewed(undefined, unpredictable::in_pair(word), family)
         }
         Row::OrderedRow => {
-            viewed(
-                undefined::without_prefetch(word),
-                false,
-                family::ordered(word),
-            )
+            let family = family::ordered(family::sized_op_in(word), word);
+            viewed(undefined::without_prefetch(word), false, family)
         }
-        Row::UnscaledRow => viewed(undefined::in_size(word), false, family::unscaled(word)),
+        Row::UnscaledRow => {
+            let family = family::unscaled(family::sized_op_in(word), word);
+            viewed(undefined::in_size(word), false, family)
+        }
         Row::PostRow => {
-            let undefined = undefined::without_prefetch(word);
-            viewed(
-                undefined,
-                unpredictable::base_is(word / 1 % 32, word),
-                family::post_index(word),
-            )
+            let family = family::post_index(family::sized_op_in(word), word);
+            let base = unpredictable::base_is(word / 1 % 32, word);
+            viewed(undefined::without_prefetch(word), base, family)
         }
         Row::PreRow => {
-            let undefined = undefined::without_prefetch(word);
-            viewed(
-                undefined,
-                unpredictable::base_is(word / 1 % 32, word),
-                family::pre_index(word),
-            )
+            let family = family::pre_index(family::sized_op_in(word), word);
+            let base = unpredictable::base_is(word / 1 % 32, word);
+            viewed(undefined::without_prefetch(word), base, family)
         }
-        Row::RegisterRow => viewed(undefined::in_register(word), false, family::register(word)),
-        Row::UnsignedRow => viewed(undefined::in_size(word), false, family::unsigned(word)),
+        Row::RegisterRow => {
+            let family = family::register(family::sized_op_in(word), word);
+            viewed(undefined::in_register(word), false, family)
+        }
+        Row::UnsignedRow => {
+            let family = family::unsigned(family::sized_op_in(word), word);
+            viewed(undefined::in_size(word), false, family)
+        }
     }
 }
 
