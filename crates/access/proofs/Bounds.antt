@@ -8,18 +8,15 @@ use borrow.Author.Tests.{leb-true}
 use Rattle.bits.proofs.Choices.{pick-by, both}
 use Rattle.instruction.specs.declared.family.Instruction.{Instruction}
 use Rattle.instruction.specs.declared.family.Family.{Family}
-use Rattle.instruction.specs.declared.family.Family.the-variants.{Empty, Literal, Pair, Ordered, Unscaled, PostIndex, PreIndex, Register, Unsigned}
 use Rattle.instruction.specs.declared.family.LiteralOperands.{LiteralOperands}
 use Rattle.instruction.specs.declared.operation.SizedOp.{SizedOp}
 use Rattle.instruction.specs.declared.operation.PairOp.{PairOp}
 use Rattle.instruction.specs.declared.operation.LiteralOp.{LiteralOp}
-use Rattle.instruction.specs.declared.operation.LiteralOp.the-variants.{LiteralWord, LiteralDouble, LiteralSignedWord, LiteralPrefetch}
 use Rattle.instruction.specs.Operations.{opcOf, sizedBytes, pairOpc, pairBytes}
 use Rattle.instruction.proofs.Codes.{each-sized, paired}
 use Rattle.access.specs.declared.transfer.Transfer.{Transfer}
 use Rattle.access.specs.declared.addressing.Addressing.{Addressing}
 use Rattle.access.specs.declared.Access.{Access}
-use Rattle.access.specs.declared.Access.the-variants.{Nothing, Moves}
 use Rattle.access.specs.Transfers.{extentOf, sizedTransfer, literalTransfer, pairTransfer}
 use Rattle.access.specs.Accesses.{isPrefetch, sizedAccess, literalMoves, literalAccess, pairAccess, familyAccess, accessOf}
 
@@ -29,8 +26,8 @@ pub record Bounded (t : Transfer) : Type 0 where
   pub extent : t .extent ≤ 8
 
 abbrev pub Within : Access → Type 0
-Within Nothing = Unit {0}
-Within (Moves t a) = Bounded t
+Within Access.Nothing = Unit {0}
+Within (Access.Moves t a) = Bounded t
 
 extentTest : SizedOp → Bool
 extentTest op = leb (sizedBytes op) (extentOf (opcOf op) (sizedBytes op)) && leb (extentOf (opcOf op) (sizedBytes op)) 8
@@ -50,10 +47,10 @@ pair op first second =
 
 literal : (op : LiteralOp) (o : LiteralOperands) → Within (literalAccess op o)
 unfolding literalMoves literalTransfer
-literal LiteralWord o = omega arith
-literal LiteralDouble o = omega arith
-literal LiteralSignedWord o = omega arith
-literal LiteralPrefetch o = tt
+literal LiteralOp.LiteralWord o = omega arith
+literal LiteralOp.LiteralDouble o = omega arith
+literal LiteralOp.LiteralSignedWord o = omega arith
+literal LiteralOp.LiteralPrefetch o = tt
 
 moves : (op : SizedOp) (target : ℕ) (ordered : Bool) (a : Addressing) → Within (sizedAccess op target ordered a)
 unfolding sizedAccess
@@ -61,15 +58,15 @@ moves op target ordered a = pick-by Within (isPrefetch op) (λ p. tt) (λ p. siz
 
 family : (f : Family) → Within (familyAccess f)
 unfolding pairAccess
-family Empty = tt
-family (Literal op o) = literal op o
-family (Pair op o) = pair op (o .first) (o .second)
-family (Ordered op o) = moves op (o .target) true _
-family (Unscaled op o) = moves op (o .target) false _
-family (PostIndex op o) = moves op (o .target) false _
-family (PreIndex op o) = moves op (o .target) false _
-family (Register op o) = moves op (o .target) false _
-family (Unsigned op o) = moves op (o .target) false _
+family Family.Empty = tt
+family (Family.Literal op o) = literal op o
+family (Family.Pair op o) = pair op (o .first) (o .second)
+family (Family.Ordered op o) = moves op (o .target) true _
+family (Family.Unscaled op o) = moves op (o .target) false _
+family (Family.PostIndex op o) = moves op (o .target) false _
+family (Family.PreIndex op o) = moves op (o .target) false _
+family (Family.Register op o) = moves op (o .target) false _
+family (Family.Unsigned op o) = moves op (o .target) false _
 
 pub bounded : (i : Instruction) → Within (accessOf i)
 unfolding accessOf

@@ -6,18 +6,15 @@ use Rattle.bits.specs.Choice.{pick}
 use Rattle.bits.specs.Signed.{twosComplement}
 use Rattle.instruction.specs.declared.family.Instruction.{Instruction}
 use Rattle.instruction.specs.declared.family.Family.{Family}
-use Rattle.instruction.specs.declared.family.Family.the-variants.{Empty, Literal, Pair, Ordered, Unscaled, PostIndex, PreIndex, Register, Unsigned}
 use Rattle.instruction.specs.declared.family.LiteralOperands.{LiteralOperands}
 use Rattle.instruction.specs.declared.family.PairOperands.{PairOperands}
 use Rattle.instruction.specs.declared.operation.SizedOp.{SizedOp}
 use Rattle.instruction.specs.declared.operation.PairOp.{PairOp}
 use Rattle.instruction.specs.declared.operation.LiteralOp.{LiteralOp}
-use Rattle.instruction.specs.declared.operation.LiteralOp.the-variants.{LiteralWord, LiteralDouble, LiteralSignedWord, LiteralPrefetch}
 use Rattle.instruction.specs.Operations.{sizeOf, opcOf}
 use Rattle.decoder.specs.Decoding.{decodeOf}
 use Rattle.access.specs.declared.addressing.Addressing.{Addressing}
 use Rattle.access.specs.declared.Access.{Access}
-use Rattle.access.specs.declared.Access.the-variants.{Nothing, Moves}
 use Rattle.access.specs.Transfers.{sizedTransfer, literalTransfer, pairTransfer}
 use Rattle.access.specs.Addressings.{offsetMode, preMode, postMode, pairedMode, indexedMode, literalMode}
 
@@ -26,30 +23,30 @@ isPrefetch op = pick (eqb (sizeOf op) 0b11) (eqb (opcOf op) 0b10) false
 
 -- a prefetch looks at no register
 unfoldable pub sizedAccess : SizedOp → ℕ → Bool → Addressing → Access
-sizedAccess op target ordered a = pick (isPrefetch op) Nothing (Moves (sizedTransfer op target ordered) a)
+sizedAccess op target ordered a = pick (isPrefetch op) Access.Nothing (Access.Moves (sizedTransfer op target ordered) a)
 
 unfoldable pub literalMoves : ℕ → ℕ → LiteralOperands → Access
-literalMoves bytes extent o = Moves (literalTransfer bytes extent (o .target)) (literalMode (twosComplement (o .offset)))
+literalMoves bytes extent o = Access.Moves (literalTransfer bytes extent (o .target)) (literalMode (twosComplement (o .offset)))
 
 abbrev pub literalAccess : LiteralOp → LiteralOperands → Access
-literalAccess LiteralWord o = literalMoves 4 4 o
-literalAccess LiteralDouble o = literalMoves 8 8 o
-literalAccess LiteralSignedWord o = literalMoves 4 8 o
-literalAccess LiteralPrefetch o = Nothing
+literalAccess LiteralOp.LiteralWord o = literalMoves 4 4 o
+literalAccess LiteralOp.LiteralDouble o = literalMoves 8 8 o
+literalAccess LiteralOp.LiteralSignedWord o = literalMoves 4 8 o
+literalAccess LiteralOp.LiteralPrefetch o = Access.Nothing
 
 unfoldable pub pairAccess : PairOp → PairOperands → Access
-pairAccess op o = Moves (pairTransfer op (o .first) (o .second)) (pairedMode (o .mode) (o .base) (twosComplement (o .offset)))
+pairAccess op o = Access.Moves (pairTransfer op (o .first) (o .second)) (pairedMode (o .mode) (o .base) (twosComplement (o .offset)))
 
 abbrev pub familyAccess : Family → Access
-familyAccess Empty = Nothing
-familyAccess (Literal op o) = literalAccess op o
-familyAccess (Pair op o) = pairAccess op o
-familyAccess (Ordered op o) = sizedAccess op (o .target) true (offsetMode (o .base) (twosComplement (o .offset)))
-familyAccess (Unscaled op o) = sizedAccess op (o .target) false (offsetMode (o .base) (twosComplement (o .offset)))
-familyAccess (PostIndex op o) = sizedAccess op (o .target) false (postMode (o .base) (twosComplement (o .offset)))
-familyAccess (PreIndex op o) = sizedAccess op (o .target) false (preMode (o .base) (twosComplement (o .offset)))
-familyAccess (Register op o) = sizedAccess op (o .target) false (indexedMode op o)
-familyAccess (Unsigned op o) = sizedAccess op (o .target) false (offsetMode (o .base) (twosComplement (o .offset)))
+familyAccess Family.Empty = Access.Nothing
+familyAccess (Family.Literal op o) = literalAccess op o
+familyAccess (Family.Pair op o) = pairAccess op o
+familyAccess (Family.Ordered op o) = sizedAccess op (o .target) true (offsetMode (o .base) (twosComplement (o .offset)))
+familyAccess (Family.Unscaled op o) = sizedAccess op (o .target) false (offsetMode (o .base) (twosComplement (o .offset)))
+familyAccess (Family.PostIndex op o) = sizedAccess op (o .target) false (postMode (o .base) (twosComplement (o .offset)))
+familyAccess (Family.PreIndex op o) = sizedAccess op (o .target) false (preMode (o .base) (twosComplement (o .offset)))
+familyAccess (Family.Register op o) = sizedAccess op (o .target) false (indexedMode op o)
+familyAccess (Family.Unsigned op o) = sizedAccess op (o .target) false (offsetMode (o .base) (twosComplement (o .offset)))
 
 unfoldable pub accessOf : Instruction → Access
 accessOf i = familyAccess (i .family)

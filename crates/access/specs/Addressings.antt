@@ -7,7 +7,6 @@ use Rattle.bits.specs.Choice.{pick}
 use Rattle.instruction.specs.declared.family.IndexOperands.{IndexOperands}
 use Rattle.instruction.specs.declared.operation.SizedOp.{SizedOp}
 use Rattle.instruction.specs.declared.operation.PairMode.{PairMode}
-use Rattle.instruction.specs.declared.operation.PairMode.the-variants.{NoAllocate, Post, Offset, Pre}
 use Rattle.instruction.specs.Operations.{scaleOf}
 use Rattle.registers.specs.File.{zeroSlot}
 use Rattle.access.specs.Transfers.{none}
@@ -38,10 +37,10 @@ abbrev pub postMode : ℕ → ℕ → Addressing
 postMode base offset = based base offset true base
 
 abbrev pub pairedMode : PairMode → ℕ → ℕ → Addressing
-pairedMode NoAllocate base offset = offsetMode base offset
-pairedMode Post base offset = postMode base offset
-pairedMode Offset base offset = offsetMode base offset
-pairedMode Pre base offset = preMode base offset
+pairedMode PairMode.NoAllocate base offset = offsetMode base offset
+pairedMode PairMode.Post base offset = postMode base offset
+pairedMode PairMode.Offset base offset = offsetMode base offset
+pairedMode PairMode.Pre base offset = preMode base offset
 
 -- shifted left by size if S is 1
 unfoldable pub shiftOf : SizedOp → ℕ → ℕ

@@ -4,16 +4,13 @@ use mathlib.Core.Path.{_≡_, refl, ap, _∙_}
 use mathlib.Core.List.{List, [], _∷_}
 use native.Mathlib.Omega.{arith}
 use Rattle.bits.specs.declared.Field.{Field}
-use Rattle.bits.specs.declared.Field.the-variants.{Holds, Unfit}
 use Rattle.bits.specs.Fields.{part, Bits, bits, fit, placed}
 use Rattle.bits.specs.Signed.{bitsOf, plainBitsOf}
 use Rattle.bits.proofs.Choices.{picked}
 use Rattle.bits.proofs.Parts.{unpack, Has, Fit, fit-true}
 use Rattle.bits.proofs.Offsets.{unfit, signed-back, plain-is}
 use Rattle.instruction.specs.declared.row.Row.{Row}
-use Rattle.instruction.specs.declared.row.Row.the-variants.{LiteralRow, PairRow, OrderedRow, UnscaledRow, PostRow, PreRow, RegisterRow, UnsignedRow}
 use Rattle.instruction.specs.declared.family.Family.{Family}
-use Rattle.instruction.specs.declared.family.Family.the-variants.{Empty, Literal, Pair, Ordered, Unscaled, PostIndex, PreIndex, Register, Unsigned}
 use Rattle.instruction.specs.declared.family.LiteralOperands.{LiteralOperands}
 use Rattle.instruction.specs.declared.family.PairOperands.{PairOperands}
 use Rattle.instruction.specs.declared.family.OffsetOperands.{OffsetOperands}
@@ -30,11 +27,11 @@ use Rattle.instruction.proofs.Codes.{sized-at, literal-at, pair-at, mode-at}
 
 -- ---- what a word that was found says
 
-with-back : (F : Field) (f : ℕ → Field) (w : ℕ) → withBits F f ≡ Holds w → (b : ℕ) × (F ≡ Holds b) × (f b ≡ Holds w)
-with-back (Holds b) f w h = (b, refl, h)
-with-back Unfit f w h = absurd (unfit h)
+with-back : (F : Field) (f : ℕ → Field) (w : ℕ) → withBits F f ≡ Field.Holds w → (b : ℕ) × (F ≡ Field.Holds b) × (f b ≡ Field.Holds w)
+with-back (Field.Holds b) f w h = (b, refl, h)
+with-back Field.Unfit f w h = absurd (unfit h)
 
-word-back : (f : ℕ) (fs : List Bits) (w : ℕ) → wordWith f fs ≡ Holds w → Fit fs × (f + placed fs ≡ w)
+word-back : (f : ℕ) (fs : List Bits) (w : ℕ) → wordWith f fs ≡ Field.Holds w → Fit fs × (f + placed fs ≡ w)
 unfolding wordWith
 word-back f fs w h =
     let p = picked (fit fs) h unfit in
@@ -44,32 +41,32 @@ word-back f fs w h =
 abbrev Back : ℕ → Row → Family → Type 0
 Back w l F = (rowOf w ≡ l) × (columnsOf l .family w ≡ F) × (w < 2 ^ 32)
 
-literal-back : (op : LiteralOp) (o : LiteralOperands) (w : ℕ) → literalWord op o ≡ Holds w → Back w LiteralRow (Literal op o)
+literal-back : (op : LiteralOp) (o : LiteralOperands) (w : ℕ) → literalWord op o ≡ Field.Holds w → Back w Row.LiteralRow (Family.Literal op o)
 unfolding literalWord literalIn
 literal-back op o w h =
-    let p = with-back (bitsOf 262144 4 (o .offset)) (λ b. wordWith (fixed LiteralRow) (literalFields op (o .target) b)) w h in
+    let p = with-back (bitsOf 262144 4 (o .offset)) (λ b. wordWith (fixed Row.LiteralRow) (literalFields op (o .target) b)) w h in
     let s = signed-back 262144 4 (p .0) (o .offset) (p .1) in
-    let q = word-back (fixed LiteralRow) (literalFields op (o .target) (p .0)) w (p .2) in
+    let q = word-back (fixed Row.LiteralRow) (literalFields op (o .target) (p .0)) w (p .2) in
     let r = q .0 in
     let u = unpack ((o .target, 5) ∷ (p .0, 19) ∷ (0, 2) ∷ (0, 1) ∷ (3, 3) ∷ (literalOpc op, 2) ∷ []) w (omega (arith, q .1))
     (r .1 .0, (r .1 .1 .0, (omega arith, (omega arith, (omega arith, (r .0, tt)))))) in (
-      row-is w LiteralRow (u .1 .1 .1 .0, (u .1 .1 .1 .1 .0, (u .1 .1 .0, tt))),
+      row-is w Row.LiteralRow (u .1 .1 .1 .0, (u .1 .1 .1 .1 .0, (u .1 .1 .0, tt))),
       simp (u .1 .1 .1 .1 .1 .0, literal-at op, u .0, u .1 .0, s .1),
       omega (arith, q .1, r .0, r .1 .0, r .1 .1 .0),
     )
 
-pair-back : (op : PairOp) (o : PairOperands) (w : ℕ) → pairWord op o ≡ Holds w → Back w PairRow (Pair op o)
+pair-back : (op : PairOp) (o : PairOperands) (w : ℕ) → pairWord op o ≡ Field.Holds w → Back w Row.PairRow (Family.Pair op o)
 unfolding pairWord pairIn pairOpIn
 pair-back op o w h =
-    let p = with-back (bitsOf 64 (pairBytes op) (o .offset)) (λ b. wordWith (fixed PairRow) (pairFields op o b)) w h in
+    let p = with-back (bitsOf 64 (pairBytes op) (o .offset)) (λ b. wordWith (fixed Row.PairRow) (pairFields op o b)) w h in
     let s = signed-back 64 (pairBytes op) (p .0) (o .offset) (p .1) in
-    let q = word-back (fixed PairRow) (pairFields op o (p .0)) w (p .2) in
+    let q = word-back (fixed Row.PairRow) (pairFields op o (p .0)) w (p .2) in
     let (opc, (mode, (load, (base, (first, (second, (imm7, t))))))) = q .0 in
     let u = unpack
     ((o .first, 5) ∷ (o .base, 5) ∷ (o .second, 5) ∷ (p .0, 7) ∷ (pairLoad op, 1) ∷ (modeCode (o .mode), 2) ∷ (0, 1) ∷ (0, 1) ∷ (5, 3) ∷ (pairOpc op, 2) ∷ [])
     w (omega (arith, q .1)) (first, (base, (second, (imm7, (load, (mode, (omega arith, (omega arith, (omega arith, (opc, tt)))))))))) in
     let (first=, (base=, (second=, (imm7=, (load=, (mode=, (b25, (b26, (b27, (opc=, _)))))))))) = u in (
-      row-is w PairRow (b26, (b27, (b25, tt))),
+      row-is w Row.PairRow (b26, (b27, (b25, tt))),
       simp (opc=, load=, pair-at op, first=, second=, base=, mode=, mode-at (o .mode), imm7=, s .1),
       omega (arith, q .1, opc, mode, load, base, first, second, imm7),
     )
@@ -88,7 +85,7 @@ module _ (op : SizedOp) (o : OffsetOperands) (w a b d : ℕ) (ha : a < 8) (hb : 
     operands : signedIn w ≡ o
     word : w < 2 ^ 32
 
-  signed-back-from : {f : ℕ} → f ≡ a * 2 ^ 27 + b * 2 ^ 24 + d * 2 ^ 10 → signedWord f op o ≡ Holds w → Signed
+  signed-back-from : {f : ℕ} → f ≡ a * 2 ^ 27 + b * 2 ^ 24 + d * 2 ^ 10 → signedWord f op o ≡ Field.Holds w → Signed
   unfolding signedWord signedIn
   signed-back-from {f} e h =
       let p = with-back (bitsOf 256 1 (o .offset)) (λ b. wordWith f (sizedFields op (o .base) (o .target) (bits 20 12 b ∷ []))) w h in
@@ -106,67 +103,67 @@ module _ (op : SizedOp) (o : OffsetOperands) (w a b d : ℕ) (ha : a < 8) (hb : 
         word = omega (arith, q .1, e, size, opc, base, target, imm9);
       }
 
-  signed-family : (l : Row) (F : SizedOp → OffsetOperands → Family) {f : ℕ} → f ≡ a * 2 ^ 27 + b * 2 ^ 24 + d * 2 ^ 10 → signedWord f op o ≡ Holds w
+  signed-family : (l : Row) (F : SizedOp → OffsetOperands → Family) {f : ℕ} → f ≡ a * 2 ^ 27 + b * 2 ^ 24 + d * 2 ^ 10 → signedWord f op o ≡ Field.Holds w
       → (Has w (bits 26 26 0 ∷ bits 29 27 a ∷ bits 25 24 b ∷ bits 21 21 0 ∷ bits 11 10 d ∷ []) → rowOf w ≡ l)
       → columnsOf l .family w ≡ F (sizedIn w) (signedIn w) → Back w l (F op o)
   signed-family l F e h line q =
       let s = signed-back-from e h in
       (line (s .has), q ∙ ap (λ (x : SizedOp). F x (signedIn w)) (s .op=) ∙ ap (F op) (s .operands), s .word)
 
-index-back : (op : SizedOp) (o : IndexOperands) (w : ℕ) → indexWord op o ≡ Holds w → Back w RegisterRow (Register op o)
+index-back : (op : SizedOp) (o : IndexOperands) (w : ℕ) → indexWord op o ≡ Field.Holds w → Back w Row.RegisterRow (Family.Register op o)
 unfolding indexWord indexIn
 index-back op o w h =
-    let q = word-back (fixed RegisterRow) (sizedFields op (o .base) (o .target) (indexFields o)) w h in
+    let q = word-back (fixed Row.RegisterRow) (sizedFields op (o .base) (o .target) (indexFields o)) w h in
     let (size, (opc, (base, (target, (index, (option, (scaled, t))))))) = q .0 in
     let u = unpack
     ((o .target, 5) ∷ (o .base, 5) ∷ (2, 2) ∷ (o .scaled, 1) ∷ (o .option, 3) ∷ (o .index, 5) ∷ (1, 1) ∷ (opcOf op, 2) ∷ (0, 2) ∷ (0, 1) ∷ (7, 3) ∷ (sizeOf op, 2) ∷ [])
     w (omega (arith, q .1))
     (target, (base, (omega arith, (scaled, (option, (index, (omega arith, (opc, (omega arith, (omega arith, (omega arith, (size, tt)))))))))))) in
     let (target=, (base=, (b10, (scaled=, (option=, (index=, (b21, (opc=, (b24, (b26, (b27, (size=, _)))))))))))) = u in (
-      row-is w RegisterRow (b26, (b27, (b24, (b21, (b10, tt))))),
+      row-is w Row.RegisterRow (b26, (b27, (b24, (b21, (b10, tt))))),
       simp (sized-back op w size= opc=, target=, base=, index=, option=, scaled=),
       omega (arith, q .1, size, opc, base, target, index, option, scaled),
     )
 
-unsigned-back : (op : SizedOp) (o : OffsetOperands) (w : ℕ) → unsignedWord op o ≡ Holds w → Back w UnsignedRow (Unsigned op o)
+unsigned-back : (op : SizedOp) (o : OffsetOperands) (w : ℕ) → unsignedWord op o ≡ Field.Holds w → Back w Row.UnsignedRow (Family.Unsigned op o)
 unfolding unsignedWord unsignedIn
 unsigned-back op o w h =
-    let p = with-back (plainBitsOf 4096 (sizedBytes op) (o .offset)) (λ b. wordWith (fixed UnsignedRow) (sizedFields op (o .base) (o .target) (bits 21 10 b ∷ []))) w h in
+    let p = with-back (plainBitsOf 4096 (sizedBytes op) (o .offset)) (λ b. wordWith (fixed Row.UnsignedRow) (sizedFields op (o .base) (o .target) (bits 21 10 b ∷ []))) w h in
     let s = plain-is 4096 (sizedBytes op) (p .0) (o .offset) (p .1) in
-    let q = word-back (fixed UnsignedRow) (sizedFields op (o .base) (o .target) (bits 21 10 (p .0) ∷ [])) w (p .2) in
+    let q = word-back (fixed Row.UnsignedRow) (sizedFields op (o .base) (o .target) (bits 21 10 (p .0) ∷ [])) w (p .2) in
     let (size, (opc, (base, (target, (imm12, t))))) = q .0 in
     let u = unpack
     ((o .target, 5) ∷ (o .base, 5) ∷ (p .0, 12) ∷ (opcOf op, 2) ∷ (1, 2) ∷ (0, 1) ∷ (7, 3) ∷ (sizeOf op, 2) ∷ [])
     w (omega (arith, q .1)) (target, (base, (imm12, (opc, (omega arith, (omega arith, (omega arith, (size, tt)))))))) in
     let (target=, (base=, (imm12=, (opc=, (b24, (b26, (b27, (size=, _)))))))) = u in (
-      row-is w UnsignedRow (b26, (b27, (b24, tt))),
+      row-is w Row.UnsignedRow (b26, (b27, (b24, tt))),
       simp (sized-back op w size= opc=, target=, base=, imm12=, s .1),
       omega (arith, q .1, size, opc, base, target, imm12),
     )
 
 -- the row of a family
 abbrev pub rowFor : Family → Row
-rowFor Empty = Row.NoRow
-rowFor (Literal op o) = LiteralRow
-rowFor (Pair op o) = PairRow
-rowFor (Ordered op o) = OrderedRow
-rowFor (Unscaled op o) = UnscaledRow
-rowFor (PostIndex op o) = PostRow
-rowFor (PreIndex op o) = PreRow
-rowFor (Register op o) = RegisterRow
-rowFor (Unsigned op o) = UnsignedRow
+rowFor Family.Empty = Row.NoRow
+rowFor (Family.Literal op o) = Row.LiteralRow
+rowFor (Family.Pair op o) = Row.PairRow
+rowFor (Family.Ordered op o) = Row.OrderedRow
+rowFor (Family.Unscaled op o) = Row.UnscaledRow
+rowFor (Family.PostIndex op o) = Row.PostRow
+rowFor (Family.PreIndex op o) = Row.PreRow
+rowFor (Family.Register op o) = Row.RegisterRow
+rowFor (Family.Unsigned op o) = Row.UnsignedRow
 
-pub back : (F : Family) (w : ℕ) → wordOf F ≡ Holds w → Back w (rowFor F) F
-back Empty w h = absurd (unfit h)
-back (Literal op o) w h = literal-back op o w h
-back (Pair op o) w h = pair-back op o w h
-back (Ordered op o) w h =
-    signed-family op o w 3 1 0 (omega arith) (omega arith) (omega arith) OrderedRow Ordered refl h (row-is w OrderedRow) refl
-back (Unscaled op o) w h =
-    signed-family op o w 7 0 0 (omega arith) (omega arith) (omega arith) UnscaledRow Unscaled refl h (row-is w UnscaledRow) refl
-back (PostIndex op o) w h =
-    signed-family op o w 7 0 1 (omega arith) (omega arith) (omega arith) PostRow PostIndex refl h (row-is w PostRow) refl
-back (PreIndex op o) w h =
-    signed-family op o w 7 0 3 (omega arith) (omega arith) (omega arith) PreRow PreIndex refl h (row-is w PreRow) refl
-back (Register op o) w h = index-back op o w h
-back (Unsigned op o) w h = unsigned-back op o w h
+pub back : (F : Family) (w : ℕ) → wordOf F ≡ Field.Holds w → Back w (rowFor F) F
+back Family.Empty w h = absurd (unfit h)
+back (Family.Literal op o) w h = literal-back op o w h
+back (Family.Pair op o) w h = pair-back op o w h
+back (Family.Ordered op o) w h =
+    signed-family op o w 3 1 0 (omega arith) (omega arith) (omega arith) Row.OrderedRow Family.Ordered refl h (row-is w Row.OrderedRow) refl
+back (Family.Unscaled op o) w h =
+    signed-family op o w 7 0 0 (omega arith) (omega arith) (omega arith) Row.UnscaledRow Family.Unscaled refl h (row-is w Row.UnscaledRow) refl
+back (Family.PostIndex op o) w h =
+    signed-family op o w 7 0 1 (omega arith) (omega arith) (omega arith) Row.PostRow Family.PostIndex refl h (row-is w Row.PostRow) refl
+back (Family.PreIndex op o) w h =
+    signed-family op o w 7 0 3 (omega arith) (omega arith) (omega arith) Row.PreRow Family.PreIndex refl h (row-is w Row.PreRow) refl
+back (Family.Register op o) w h = index-back op o w h
+back (Family.Unsigned op o) w h = unsigned-back op o w h

@@ -8,9 +8,8 @@ use native.Mathlib.Omega.{arith}
 use borrow.Author.Tests.{not-true}
 use Rattle.bits.specs.Choice.{pick}
 use Rattle.bits.specs.declared.Field.{Field}
-use Rattle.bits.specs.declared.Field.the-variants.{Holds, Unfit}
 use Rattle.bits.proofs.Choices.{both}
-use Rattle.instruction.specs.declared.answer.Answer.the-variants.{Done, NoSuchInstruction}
+use Rattle.instruction.specs.declared.answer.Answer.{Answer}
 use Rattle.instruction.specs.declared.answer.Encoded.{Encoded}
 use Rattle.instruction.specs.declared.family.Family.{Family}
 use Rattle.instruction.specs.declared.family.Instruction.{Instruction}
@@ -21,7 +20,7 @@ use Rattle.encoder.specs.Exact.{encoded, noWord, Word, Exact}
 use Rattle.encoder.proofs.There.{there}
 use Rattle.encoder.proofs.Back.{back}
 
-allocated-there : (w : ℕ) → w < 2 ^ 32 → allocated w ≡ true → wordOf (instructionOf w .family) ≡ Holds w
+allocated-there : (w : ℕ) → w < 2 ^ 32 → allocated w ≡ true → wordOf (instructionOf w .family) ≡ Field.Holds w
 unfolding allocated undefined instructionOf
 allocated-there w h a =
     let p = both (inSet w) (not (columnsOf (rowOf w) .undefined w)) a in
@@ -35,23 +34,23 @@ encode-decoded w h a = rw (allocated-there w h a, a)
 -- ---- what encoding can give
 
 abbrev Given : Field → Encoded → Type 0
-Given f e = ((w : ℕ) × (e ≡ encoded w) × (f ≡ Holds w) × (allocated w ≡ true)) ⊎ (e ≡ noWord)
+Given f e = ((w : ℕ) × (e ≡ encoded w) × (f ≡ Field.Holds w) × (allocated w ≡ true)) ⊎ (e ≡ noWord)
 
-given-word : (v : ℕ) (a : Bool) → allocated v ≡ a → Given (Holds v) (record { answer = pick a Done NoSuchInstruction; word = pick a v 0 })
+given-word : (v : ℕ) (a : Bool) → allocated v ≡ a → Given (Field.Holds v) (record { answer = pick a Answer.Done Answer.NoSuchInstruction; word = pick a v 0 })
 given-word v true p = inl (v, refl, refl, p)
 given-word v false p = inr refl
 
 given : (f : Field) → Given f (encodedAs f)
-given (Holds v) = given-word v (allocated v) refl
-given Unfit = inr refl
+given (Field.Holds v) = given-word v (allocated v) refl
+given Field.Unfit = inr refl
 
 pub not-encoded : {w : ℕ} → ¬ (noWord ≡ encoded w)
 not-encoded e =
-    let z : NoSuchInstruction ≡ Done = ap (λ (x : Encoded). x .answer) e in
+    let z : Answer.NoSuchInstruction ≡ Answer.Done = ap (λ (x : Encoded). x .answer) e in
     let y : _≡_ {A = ℕ} 0 1 = cc in
     omega arith
 
-word-of : (i : Instruction) (w : ℕ) → wordOf (i .family) ≡ Holds w → allocated w ≡ true → Word i w
+word-of : (i : Instruction) (w : ℕ) → wordOf (i .family) ≡ Field.Holds w → allocated w ≡ true → Word i w
 word-of i w h a =
     let b = back (i .family) w h in
     record {

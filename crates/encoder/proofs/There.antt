@@ -6,13 +6,12 @@ use mathlib.Core.List.{[], _∷_}
 use native.Mathlib.Omega.{arith}
 use lib.Dec.{eqb}
 use borrow.Author.Tests.{lt-ltb, eqb-true, eqb-false}
-use Rattle.bits.specs.declared.Field.the-variants.{Holds}
+use Rattle.bits.specs.declared.Field.{Field}
 use Rattle.bits.specs.Fields.{part, field, bits}
 use Rattle.bits.proofs.Choices.{neither}
 use Rattle.bits.proofs.Parts.{part-lt, top, split, Has}
 use Rattle.bits.proofs.Offsets.{bits-back, plain-back}
 use Rattle.instruction.specs.declared.row.Row.{Row}
-use Rattle.instruction.specs.declared.row.Row.the-variants.{NoRow, LiteralRow, PairRow, OrderedRow, UnscaledRow, PostRow, PreRow, RegisterRow, UnsignedRow}
 use Rattle.instruction.specs.Undefined.{sizeOpc, undefinedSize, undefinedPair}
 use Rattle.instruction.specs.Operands.{sizedIn, literalIn, pairOpIn, pairIn, signedIn, indexIn, unsignedIn}
 use Rattle.instruction.specs.Table.{columnsOf}
@@ -66,7 +65,7 @@ pairs w u =
 -- ---- the word of each family
 
 module _ (w : ℕ) (h : w < 2 ^ 32) where
-  literal-there : Has w (columnsOf LiteralRow .fixed) → literalWord (literalAt (field 31 30 w)) (literalIn w) ≡ Holds w
+  literal-there : Has w (columnsOf Row.LiteralRow .fixed) → literalWord (literalAt (field 31 30 w)) (literalIn w) ≡ Field.Holds w
   unfolding literalWord literalIn
   literal-there g =
       let c = literal-code (part 30 2 w) (part-lt 30 2 w) in
@@ -74,7 +73,7 @@ module _ (w : ℕ) (h : w < 2 ^ 32) where
       (sym (word-is _ _ (simp (c, lt-ltb _ _ (part-lt 30 2 w), lt-ltb _ _ (part-lt 0 5 w), lt-ltb _ _ (part-lt 5 19 w)))
       (omega (arith, split (5 ∷ 19 ∷ 2 ∷ 1 ∷ 3 ∷ 2 ∷ []) w, top w 32 h))))
 
-  pair-there : Has w (columnsOf PairRow .fixed) → undefinedPair w ≡ false → pairWord (pairOpIn w) (pairIn (pairOpIn w) w) ≡ Holds w
+  pair-there : Has w (columnsOf Row.PairRow .fixed) → undefinedPair w ≡ false → pairWord (pairOpIn w) (pairIn (pairOpIn w) w) ≡ Field.Holds w
   unfolding pairWord pairIn
   pair-there g u =
       let p = pairs w u in
@@ -97,7 +96,7 @@ module _ (w : ℕ) (h : w < 2 ^ 32) where
 
   -- the four families with imm9, over what tells them apart: bits 29..27, 25..24 and 11..10
   signed-there : (a b d : ℕ) {f : ℕ} → Has w (bits 26 26 0 ∷ bits 29 27 a ∷ bits 25 24 b ∷ bits 21 21 0 ∷ bits 11 10 d ∷ [])
-      → f ≡ a * 2 ^ 27 + b * 2 ^ 24 + d * 2 ^ 10 → undefinedSize w ≡ false → signedWord f (sizedIn w) (signedIn w) ≡ Holds w
+      → f ≡ a * 2 ^ 27 + b * 2 ^ 24 + d * 2 ^ 10 → undefinedSize w ≡ false → signedWord f (sizedIn w) (signedIn w) ≡ Field.Holds w
   unfolding signedWord signedIn
   signed-there a b d g e u =
       let s = sizes w u in
@@ -114,7 +113,7 @@ module _ (w : ℕ) (h : w < 2 ^ 32) where
       ))
       (rw (s .size, s .opc) (omega (arith, split (5 ∷ 5 ∷ 2 ∷ 9 ∷ 1 ∷ 2 ∷ 2 ∷ 1 ∷ 3 ∷ 2 ∷ []) w, top w 32 h)))))
 
-  index-there : Has w (columnsOf RegisterRow .fixed) → undefinedSize w ≡ false → indexWord (sizedIn w) (indexIn w) ≡ Holds w
+  index-there : Has w (columnsOf Row.RegisterRow .fixed) → undefinedSize w ≡ false → indexWord (sizedIn w) (indexIn w) ≡ Field.Holds w
   unfolding indexWord indexIn
   index-there g u =
       let s = sizes w u in
@@ -132,7 +131,7 @@ module _ (w : ℕ) (h : w < 2 ^ 32) where
       ))
       (omega (arith, split (5 ∷ 5 ∷ 2 ∷ 1 ∷ 3 ∷ 5 ∷ 1 ∷ 2 ∷ 2 ∷ 1 ∷ 3 ∷ 2 ∷ []) w, top w 32 h)))
 
-  unsigned-there : Has w (columnsOf UnsignedRow .fixed) → undefinedSize w ≡ false → unsignedWord (sizedIn w) (unsignedIn (sizedIn w) w) ≡ Holds w
+  unsigned-there : Has w (columnsOf Row.UnsignedRow .fixed) → undefinedSize w ≡ false → unsignedWord (sizedIn w) (unsignedIn (sizedIn w) w) ≡ Field.Holds w
   unfolding unsignedWord unsignedIn
   unsigned-there g u =
       let s = sizes w u in
@@ -149,13 +148,13 @@ module _ (w : ℕ) (h : w < 2 ^ 32) where
       ))
       (omega (arith, split (5 ∷ 5 ∷ 12 ∷ 2 ∷ 2 ∷ 1 ∷ 3 ∷ 2 ∷ []) w, top w 32 h))))
 
-  pub there : (r : Row) → Has w (columnsOf r .fixed) → columnsOf r .undefined w ≡ false → wordOf (columnsOf r .family w) ≡ Holds w
-  there NoRow g u = absurd (omega arith)
-  there LiteralRow g u = literal-there g
-  there PairRow g u = pair-there g u
-  there OrderedRow g u = signed-there 3 1 0 g refl (prefetch-no w u .0)
-  there UnscaledRow g u = signed-there 7 0 0 g refl u
-  there PostRow g u = signed-there 7 0 1 g refl (prefetch-no w u .0)
-  there PreRow g u = signed-there 7 0 3 g refl (prefetch-no w u .0)
-  there RegisterRow g u = index-there g (option-no w u .0)
-  there UnsignedRow g u = unsigned-there g u
+  pub there : (r : Row) → Has w (columnsOf r .fixed) → columnsOf r .undefined w ≡ false → wordOf (columnsOf r .family w) ≡ Field.Holds w
+  there Row.NoRow g u = absurd (omega arith)
+  there Row.LiteralRow g u = literal-there g
+  there Row.PairRow g u = pair-there g u
+  there Row.OrderedRow g u = signed-there 3 1 0 g refl (prefetch-no w u .0)
+  there Row.UnscaledRow g u = signed-there 7 0 0 g refl u
+  there Row.PostRow g u = signed-there 7 0 1 g refl (prefetch-no w u .0)
+  there Row.PreRow g u = signed-there 7 0 3 g refl (prefetch-no w u .0)
+  there Row.RegisterRow g u = index-there g (option-no w u .0)
+  there Row.UnsignedRow g u = unsigned-there g u

@@ -7,7 +7,6 @@ use native.Mathlib.Omega.{arith}
 use lib.Dec.{ltb}
 use borrow.Author.Tests.{lt-ltb}
 use Rattle.bits.specs.declared.Field.{Field}
-use Rattle.bits.specs.declared.Field.the-variants.{Holds, Unfit}
 use Rattle.bits.specs.Choice.{pick}
 use Rattle.bits.specs.Fields.{Bits, fit, placed}
 use Rattle.instruction.specs.declared.answer.Answer.{Answer}
@@ -24,19 +23,19 @@ use Rattle.encoder.specs.route.Sized.{sizedWord}
 
 -- ---- with an offset's bits or without
 
-pub holds-is : {F g r : Field} (f : ℕ → Field) {b : ℕ} → g ≡ F → g ≡ Holds b → r ≡ f b → r ≡ withBits F f
+pub holds-is : {F g r : Field} (f : ℕ → Field) {b : ℕ} → g ≡ F → g ≡ Field.Holds b → r ≡ f b → r ≡ withBits F f
 holds-is f e h p = p ∙ ap (λ (x : Field). withBits x f) (sym h ∙ e)
 
-pub unfit-is : {F g : Field} (f : ℕ → Field) → g ≡ F → g ≡ Unfit → Unfit ≡ withBits F f
+pub unfit-is : {F g : Field} (f : ℕ → Field) → g ≡ F → g ≡ Field.Unfit → Field.Unfit ≡ withBits F f
 unfit-is f e h = ap (λ (x : Field). withBits x f) (sym h ∙ e)
 
 -- ---- fields that have room, or one that has none
 
-pub word-is : (f : ℕ) (fs : List Bits) {w : ℕ} → fit fs ≡ true → w ≡ f + placed fs → Holds w ≡ wordWith f fs
+pub word-is : (f : ℕ) (fs : List Bits) {w : ℕ} → fit fs ≡ true → w ≡ f + placed fs → Field.Holds w ≡ wordWith f fs
 unfolding wordWith
-word-is f fs t e = rw t (ap Holds e)
+word-is f fs t e = rw t (ap Field.Holds e)
 
-pub word-not : (f : ℕ) (fs : List Bits) → fit fs ≡ false → Unfit ≡ wordWith f fs
+pub word-not : (f : ℕ) (fs : List Bits) → fit fs ≡ false → Field.Unfit ≡ wordWith f fs
 unfolding wordWith
 word-not f fs t = rw t
 
@@ -47,9 +46,9 @@ module _ (f : ℕ) (op : SizedOp) (base target : ℕ) (own : List Bits) where
   sized-is {w} t e =
       let s = sized op in
       simp (lt-ltb _ _ (s .size), lt-ltb _ _ (s .opc), t, and-true)
-      (ap (λ (n : ℕ). pick (ltb base 32 && ltb target 32) (Holds n) Unfit) (omega arith))
+      (ap (λ (n : ℕ). pick (ltb base 32 && ltb target 32) (Field.Holds n) Field.Unfit) (omega arith))
 
-  pub sized-not : fit own ≡ false → Unfit ≡ wordWith f (sizedFields op base target own)
+  pub sized-not : fit own ≡ false → Field.Unfit ≡ wordWith f (sizedFields op base target own)
   sized-not t = word-not f (sizedFields op base target own) (simp (t, and-false))
 
 module _ (op : SizedOp) (o : IndexOperands) where
@@ -58,7 +57,7 @@ module _ (op : SizedOp) (o : IndexOperands) where
   unfolding indexWord
   index-is t e = sized-is (fixed Row.RegisterRow) op (o .base) (o .target) (indexFields o) t e
 
-  pub index-not : fit (indexFields o) ≡ false → Unfit ≡ indexWord op o
+  pub index-not : fit (indexFields o) ≡ false → Field.Unfit ≡ indexWord op o
   unfolding indexWord
   index-not t = sized-not (fixed Row.RegisterRow) op (o .base) (o .target) (indexFields o) t
 
@@ -68,10 +67,10 @@ pub by-family : {family f : Family} {r : Field} → family ≡ f → r ≡ wordO
 by-family e p = p ∙ ap wordOf (sym e)
 
 module _ (w : ℕ) {a : Bool} (e : a ≡ allocated w) where
-  pub done-is : a ≡ true → record { answer = Answer.Done; word = w } ≡ encodedAs (Holds w)
+  pub done-is : a ≡ true → record { answer = Answer.Done; word = w } ≡ encodedAs (Field.Holds w)
   done-is t = rw (sym e ∙ t)
 
-  pub refused-is : a ≡ false → {r : Encoded} → r ≡ encodedAs Unfit → r ≡ encodedAs (Holds w)
+  pub refused-is : a ≡ false → {r : Encoded} → r ≡ encodedAs Field.Unfit → r ≡ encodedAs (Field.Holds w)
   refused-is t p = rw (sym e ∙ t) p
 
 pub encoded-is : (i : Instruction) {g f : Field} {r : Encoded} → g ≡ wordOf (i .family) → g ≡ f → r ≡ encodedAs f → r ≡ encodeOf i

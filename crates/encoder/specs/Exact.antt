@@ -4,16 +4,16 @@ use Prim.Native.Nat.{ℕ, _^_, _<_}
 use mathlib.Core.Path.{_≡_}
 use mathlib.Core.Bool.{true}
 use mathlib.Core.Logic.{_⊎_}
-use Rattle.instruction.specs.declared.answer.Answer.the-variants.{Done, NoSuchInstruction}
+use Rattle.instruction.specs.declared.answer.Answer.{Answer}
 use Rattle.instruction.specs.declared.answer.Encoded.{Encoded}
 use Rattle.instruction.specs.declared.family.Instruction.{Instruction}
 use Rattle.instruction.specs.Table.{allocated, instructionOf}
 
 abbrev pub encoded : ℕ → Encoded
-encoded w = record { answer = Done; word = w }
+encoded w = record { answer = Answer.Done; word = w }
 
 abbrev pub noWord : Encoded
-noWord = record { answer = NoSuchInstruction; word = 0 }
+noWord = record { answer = Answer.NoSuchInstruction; word = 0 }
 
 -- an instruction is that of the allocated word w
 pub record Word (i : Instruction) (w : ℕ) : Type 0 where

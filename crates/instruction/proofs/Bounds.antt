@@ -5,7 +5,7 @@ use native.Mathlib.Omega.{arith}
 use Rattle.bits.specs.Fields.{field}
 use Rattle.bits.proofs.Parts.{part-lt}
 use Rattle.bits.proofs.Offsets.{signed-most}
-use Rattle.instruction.specs.Types.{Row, NoRow, LiteralRow, PairRow, OrderedRow, UnscaledRow, PostRow, PreRow, RegisterRow, UnsignedRow, SizedOp, OffsetOperands}
+use Rattle.instruction.specs.Types.{Row, SizedOp, OffsetOperands}
 use Rattle.instruction.specs.Operations.{sizedBytes, pairBytes}
 use Rattle.instruction.specs.Operands.{sizedIn, literalIn, pairOpIn, pairIn, signedIn, indexIn, unsignedIn}
 use Rattle.instruction.specs.Table.{columnsOf}
@@ -45,12 +45,12 @@ module _ (w : ℕ) where
       record { target = part-lt 0 5 w; base = part-lt 5 5 w; offset = omega arith }
 
   pub bounded-in : (r : Row) → Bounded (columnsOf r .family w)
-  bounded-in NoRow = tt
-  bounded-in LiteralRow = literal-bounds
-  bounded-in PairRow = pair-bounds
-  bounded-in OrderedRow = signed-bounds
-  bounded-in UnscaledRow = signed-bounds
-  bounded-in PostRow = signed-bounds
-  bounded-in PreRow = signed-bounds
-  bounded-in RegisterRow = index-bounds
-  bounded-in UnsignedRow = unsigned-bounds (sizedIn w)
+  bounded-in Row.NoRow = tt
+  bounded-in Row.LiteralRow = literal-bounds
+  bounded-in Row.PairRow = pair-bounds
+  bounded-in Row.OrderedRow = signed-bounds
+  bounded-in Row.UnscaledRow = signed-bounds
+  bounded-in Row.PostRow = signed-bounds
+  bounded-in Row.PreRow = signed-bounds
+  bounded-in Row.RegisterRow = index-bounds
+  bounded-in Row.UnsignedRow = unsigned-bounds (sizedIn w)

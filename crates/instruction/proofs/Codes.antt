@@ -8,55 +8,55 @@ use lib.Dec.{eqb, ltb}
 use borrow.Author.Tests.{eqb-true, ne-eqb, ltb-true}
 use Rattle.bits.specs.Choice.{byCode}
 use Rattle.bits.proofs.Choices.{pick-by, tested, every, each}
-use Rattle.instruction.specs.Types.{SizedOp, StoreByte, LoadByte, LoadSignedByte64, LoadSignedByte32, StoreHalf, LoadHalf, LoadSignedHalf64, LoadSignedHalf32, StoreWord, LoadWord, LoadSignedWord64, StoreDouble, LoadDouble, Prefetch, PairOp, StoreWords, LoadWords, LoadSignedWords, StoreDoubles, LoadDoubles, LiteralOp, LiteralWord, LiteralDouble, LiteralSignedWord, LiteralPrefetch, PairMode, NoAllocate, Post, Offset, Pre}
+use Rattle.instruction.specs.Types.{SizedOp, PairOp, LiteralOp, PairMode}
 use Rattle.instruction.specs.Operations.{sizedCode, sizeOf, opcOf, scaleOf, sizedBytes, sizedOps, sizedAt, literalOpc, literalOps, literalAt, pairCode, pairOpc, pairLoad, pairBytes, pairOps, pairAt, modeCode, modes, modeAt}
 
 -- ---- from an operation to its code and back: each is found by its code, so a test that is computed for all shows a fact of each
 
 pub sized-at : (op : SizedOp) → sizedAt (sizeOf op * 4 + opcOf op) ≡ op
 unfolding sizedAt
-sized-at StoreByte = refl
-sized-at LoadByte = refl
-sized-at LoadSignedByte64 = refl
-sized-at LoadSignedByte32 = refl
-sized-at StoreHalf = refl
-sized-at LoadHalf = refl
-sized-at LoadSignedHalf64 = refl
-sized-at LoadSignedHalf32 = refl
-sized-at StoreWord = refl
-sized-at LoadWord = refl
-sized-at LoadSignedWord64 = refl
-sized-at StoreDouble = refl
-sized-at LoadDouble = refl
-sized-at Prefetch = refl
+sized-at SizedOp.StoreByte = refl
+sized-at SizedOp.LoadByte = refl
+sized-at SizedOp.LoadSignedByte64 = refl
+sized-at SizedOp.LoadSignedByte32 = refl
+sized-at SizedOp.StoreHalf = refl
+sized-at SizedOp.LoadHalf = refl
+sized-at SizedOp.LoadSignedHalf64 = refl
+sized-at SizedOp.LoadSignedHalf32 = refl
+sized-at SizedOp.StoreWord = refl
+sized-at SizedOp.LoadWord = refl
+sized-at SizedOp.LoadSignedWord64 = refl
+sized-at SizedOp.StoreDouble = refl
+sized-at SizedOp.LoadDouble = refl
+sized-at SizedOp.Prefetch = refl
 
 pub literal-at : (op : LiteralOp) → literalAt (literalOpc op) ≡ op
 unfolding literalAt
-literal-at LiteralWord = refl
-literal-at LiteralDouble = refl
-literal-at LiteralSignedWord = refl
-literal-at LiteralPrefetch = refl
+literal-at LiteralOp.LiteralWord = refl
+literal-at LiteralOp.LiteralDouble = refl
+literal-at LiteralOp.LiteralSignedWord = refl
+literal-at LiteralOp.LiteralPrefetch = refl
 
 pub pair-at : (op : PairOp) → pairAt (pairOpc op * 2 + pairLoad op) ≡ op
 unfolding pairAt
-pair-at StoreWords = refl
-pair-at LoadWords = refl
-pair-at LoadSignedWords = refl
-pair-at StoreDoubles = refl
-pair-at LoadDoubles = refl
+pair-at PairOp.StoreWords = refl
+pair-at PairOp.LoadWords = refl
+pair-at PairOp.LoadSignedWords = refl
+pair-at PairOp.StoreDoubles = refl
+pair-at PairOp.LoadDoubles = refl
 
 pub mode-at : (m : PairMode) → modeAt (modeCode m) ≡ m
 unfolding modeAt
-mode-at NoAllocate = refl
-mode-at Post = refl
-mode-at Offset = refl
-mode-at Pre = refl
+mode-at PairMode.NoAllocate = refl
+mode-at PairMode.Post = refl
+mode-at PairMode.Offset = refl
+mode-at PairMode.Pre = refl
 
 -- ---- bounds
 
-pub each-sized : (p : SizedOp → Bool) → every p Prefetch (byCode sizedCode sizedOps) ≡ true → (op : SizedOp) → p op ≡ true
+pub each-sized : (p : SizedOp → Bool) → every p SizedOp.Prefetch (byCode sizedCode sizedOps) ≡ true → (op : SizedOp) → p op ≡ true
 unfolding sizedAt
-each-sized p h op = each Prefetch (byCode sizedCode sizedOps) (λ x. sizeOf x * 4 + opcOf x) sized-at p h op
+each-sized p h op = each SizedOp.Prefetch (byCode sizedCode sizedOps) (λ x. sizeOf x * 4 + opcOf x) sized-at p h op
 
 code-below : (op : SizedOp) → sizedCode op < 16
 code-below op = ltb-true (sizedCode op) 16 (each-sized (λ x. ltb (sizedCode x) 16) refl op)
@@ -81,12 +81,12 @@ pub literal-below : (op : LiteralOp) → literalOpc op < 4
 unfolding literalAt
 literal-below op =
     ltb-true (literalOpc op) 4
-    (each LiteralPrefetch (byCode literalOpc literalOps) literalOpc literal-at (λ x. ltb (literalOpc x) 4) refl op)
+    (each LiteralOp.LiteralPrefetch (byCode literalOpc literalOps) literalOpc literal-at (λ x. ltb (literalOpc x) 4) refl op)
 
 pair-below : (op : PairOp) → pairCode op < 6
 unfolding pairAt
 pair-below op =
-    ltb-true (pairCode op) 6 (each LoadDoubles (byCode pairCode pairOps) (λ x. pairOpc x * 2 + pairLoad x) pair-at (λ x. ltb (pairCode x) 6) refl op)
+    ltb-true (pairCode op) 6 (each PairOp.LoadDoubles (byCode pairCode pairOps) (λ x. pairOpc x * 2 + pairLoad x) pair-at (λ x. ltb (pairCode x) 6) refl op)
 
 pub record Paired (op : PairOp) : Type 0 where
   pub opc : pairOpc op < 4
@@ -106,7 +106,7 @@ paired op =
 pub mode-below : (mode : PairMode) → modeCode mode < 4
 unfolding modeAt
 mode-below mode =
-    ltb-true (modeCode mode) 4 (each Pre (byCode modeCode modes) modeCode mode-at (λ x. ltb (modeCode x) 4) refl mode)
+    ltb-true (modeCode mode) 4 (each PairMode.Pre (byCode modeCode modes) modeCode mode-at (λ x. ltb (modeCode x) 4) refl mode)
 
 -- ---- from a code to its operation and back
 

@@ -6,7 +6,7 @@ use mathlib.Core.List.{List, [], _∷_}
 use lib.IntN.{pos, negsuc}
 use Rattle.bits.specs.Fields.{part}
 use Rattle.bits.specs.Signed.{signedOf}
-use Rattle.instruction.specs.Types.{Family, Literal, Pair, Ordered, Unscaled, PostIndex, Register, Unsigned, LoadByte, LoadDouble, LoadSignedByte32, LoadSignedByte64, StoreDoubles, LiteralDouble, Pre, Prefetch, StoreByte}
+use Rattle.instruction.specs.Types.{Family, SizedOp, PairOp, LiteralOp, PairMode}
 use Rattle.instruction.specs.Operations.{sizedAt, literalAt, pairAt, modeAt}
 use Rattle.instruction.specs.Undefined.{undefinedSize, undefinedPrefetch, undefinedOption, undefinedPair}
 use Rattle.instruction.specs.Unpredictable.{baseIs, unpredictablePair}
@@ -19,15 +19,15 @@ Decodes (e ∷ es) = (instructionOf (e .0) ≡ record { family = e .1 }) × Deco
 
 abbrev examples : List (ℕ × Family)
 examples =
-    (0x385ff020, Unscaled LoadByte (record { target = 0; base = 1; offset = negsuc 0 }))
-    ∷ (0xf9400420, Unsigned LoadDouble (record { target = 0; base = 1; offset = pos 8 }))
-    ∷ (0xf84107e0, PostIndex LoadDouble (record { target = 0; base = 31; offset = pos 16 }))
-    ∷ (0xa9bf7bfd, Pair StoreDoubles (record { first = 29; second = 30; base = 31; mode = Pre; offset = negsuc 15 }))
-    ∷ (0x38e4c862, Register LoadSignedByte32 (record { target = 2; base = 3; index = 4; option = 6; scaled = 0 }))
-    ∷ (0x198000c5, Ordered LoadSignedByte64 (record { target = 5; base = 6; offset = pos 0 }))
-    ∷ (0x58ffffe7, Literal LiteralDouble (record { target = 7; offset = negsuc 3 }))
-    ∷ (0xf8800020, Unscaled Prefetch (record { target = 0; base = 1; offset = pos 0 }))
-    ∷ (0x390003ff, Unsigned StoreByte (record { target = 31; base = 31; offset = pos 0 }))
+    (0x385ff020, Family.Unscaled SizedOp.LoadByte (record { target = 0; base = 1; offset = negsuc 0 }))
+    ∷ (0xf9400420, Family.Unsigned SizedOp.LoadDouble (record { target = 0; base = 1; offset = pos 8 }))
+    ∷ (0xf84107e0, Family.PostIndex SizedOp.LoadDouble (record { target = 0; base = 31; offset = pos 16 }))
+    ∷ (0xa9bf7bfd, Family.Pair PairOp.StoreDoubles (record { first = 29; second = 30; base = 31; mode = PairMode.Pre; offset = negsuc 15 }))
+    ∷ (0x38e4c862, Family.Register SizedOp.LoadSignedByte32 (record { target = 2; base = 3; index = 4; option = 6; scaled = 0 }))
+    ∷ (0x198000c5, Family.Ordered SizedOp.LoadSignedByte64 (record { target = 5; base = 6; offset = pos 0 }))
+    ∷ (0x58ffffe7, Family.Literal LiteralOp.LiteralDouble (record { target = 7; offset = negsuc 3 }))
+    ∷ (0xf8800020, Family.Unscaled SizedOp.Prefetch (record { target = 0; base = 1; offset = pos 0 }))
+    ∷ (0x390003ff, Family.Unsigned SizedOp.StoreByte (record { target = 31; base = 31; offset = pos 0 }))
     ∷ []
 
 pub starred-instructions : Decodes examples

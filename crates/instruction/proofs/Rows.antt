@@ -9,31 +9,31 @@ use Rattle.bits.specs.Choice.{any}
 use Rattle.bits.specs.Fields.{part, field}
 use Rattle.bits.proofs.Choices.{pick-by, neither}
 use Rattle.bits.proofs.Parts.{part-lt, cut, Has, has-true}
-use Rattle.instruction.specs.Types.{Row, NoRow, LiteralRow, PairRow, OrderedRow, UnscaledRow, PostRow, PreRow, RegisterRow, UnsignedRow}
+use Rattle.instruction.specs.Types.{Row}
 use Rattle.instruction.specs.Undefined.{sizeOpc, undefinedSize, undefinedPrefetch, undefinedOption}
 use Rattle.instruction.specs.Table.{columnsOf, rows, matches, inSet, firstOf, rowOf, undefined, unpredictable, instructionOf}
 
 -- ---- the row of a word
 
-pub no-row : (w : ℕ) → matches w NoRow ≡ false
-no-row w = go (matches w NoRow) refl
+pub no-row : (w : ℕ) → matches w Row.NoRow ≡ false
+no-row w = go (matches w Row.NoRow) refl
   where
-    go : (b : Bool) → matches w NoRow ≡ b → matches w NoRow ≡ false
-    go true e = let h = has-true w (columnsOf NoRow .fixed) e in absurd (omega arith)
+    go : (b : Bool) → matches w Row.NoRow ≡ b → matches w Row.NoRow ≡ false
+    go true e = let h = has-true w (columnsOf Row.NoRow .fixed) e in absurd (omega arith)
     go false e = e
 
 -- the one row that a word has the bits of
 pub row-is : (w : ℕ) (r : Row) → Has w (columnsOf r .fixed) → rowOf w ≡ r
 unfolding rowOf
-row-is w NoRow h = absurd (omega arith)
-row-is w LiteralRow h = simp (h .0, h .1 .0, h .1 .1 .0)
-row-is w PairRow h = simp (h .0, h .1 .0, h .1 .1 .0)
-row-is w OrderedRow h = simp (h .0, h .1 .0, h .1 .1 .0, h .1 .1 .1 .0, h .1 .1 .1 .1 .0)
-row-is w UnscaledRow h = simp (h .0, h .1 .0, h .1 .1 .0, h .1 .1 .1 .0, h .1 .1 .1 .1 .0)
-row-is w PostRow h = simp (h .0, h .1 .0, h .1 .1 .0, h .1 .1 .1 .0, h .1 .1 .1 .1 .0)
-row-is w PreRow h = simp (h .0, h .1 .0, h .1 .1 .0, h .1 .1 .1 .0, h .1 .1 .1 .1 .0)
-row-is w RegisterRow h = simp (h .0, h .1 .0, h .1 .1 .0, h .1 .1 .1 .0, h .1 .1 .1 .1 .0)
-row-is w UnsignedRow h = simp (h .0, h .1 .0, h .1 .1 .0)
+row-is w Row.NoRow h = absurd (omega arith)
+row-is w Row.LiteralRow h = simp (h .0, h .1 .0, h .1 .1 .0)
+row-is w Row.PairRow h = simp (h .0, h .1 .0, h .1 .1 .0)
+row-is w Row.OrderedRow h = simp (h .0, h .1 .0, h .1 .1 .0, h .1 .1 .1 .0, h .1 .1 .1 .1 .0)
+row-is w Row.UnscaledRow h = simp (h .0, h .1 .0, h .1 .1 .0, h .1 .1 .1 .0, h .1 .1 .1 .1 .0)
+row-is w Row.PostRow h = simp (h .0, h .1 .0, h .1 .1 .0, h .1 .1 .1 .0, h .1 .1 .1 .1 .0)
+row-is w Row.PreRow h = simp (h .0, h .1 .0, h .1 .1 .0, h .1 .1 .1 .0, h .1 .1 .1 .1 .0)
+row-is w Row.RegisterRow h = simp (h .0, h .1 .0, h .1 .1 .0, h .1 .1 .1 .0, h .1 .1 .1 .1 .0)
+row-is w Row.UnsignedRow h = simp (h .0, h .1 .0, h .1 .1 .0)
 
 -- the rows never overlap
 pub never-overlap : (w : ℕ) (a b : Row) → matches w a ≡ true → matches w b ≡ true → a ≡ b
@@ -56,17 +56,17 @@ pub row-has : (w : ℕ) → inSet w ≡ true → Has w (columnsOf (rowOf w) .fix
 row-has w t = has-true w (columnsOf (rowOf w) .fixed) (sym (set-matches w) ∙ t)
 
 -- other words have no row
-none-of : (rs : List Row) (w : ℕ) → any (matches w) rs ≡ false → firstOf rs w ≡ NoRow
+none-of : (rs : List Row) (w : ℕ) → any (matches w) rs ≡ false → firstOf rs w ≡ Row.NoRow
 none-of [] w e = refl
 none-of (r ∷ rs) w e =
     let n = neither (matches w r) (any (matches w) rs) e in
     rw (n .0) (none-of rs w (n .1))
 
-pub set-none : (w : ℕ) → inSet w ≡ false → rowOf w ≡ NoRow
+pub set-none : (w : ℕ) → inSet w ≡ false → rowOf w ≡ Row.NoRow
 unfolding inSet rowOf
 set-none w e = none-of rows w e
 
-pub of-set : (w : ℕ) {r : Row} → rowOf w ≡ r → (r ≡ NoRow → _≡_ {A = Bool} false true) → inSet w ≡ true
+pub of-set : (w : ℕ) {r : Row} → rowOf w ≡ r → (r ≡ Row.NoRow → _≡_ {A = Bool} false true) → inSet w ≡ true
 of-set w e n = go (inSet w) refl
   where
     go : (b : Bool) → inSet w ≡ b → inSet w ≡ true
@@ -103,15 +103,15 @@ abbrev pub form : ℕ → ℕ
 form w = field 21 21 w * 4 + field 11 10 w
 
 abbrev pub Keys : ℕ → Row → Type 0
-Keys w NoRow = ⊥
-Keys w LiteralRow = (field 29 25 w ≡ 0b01100) × (field 24 24 w ≡ 0)
-Keys w PairRow = field 29 25 w ≡ 0b10100
-Keys w OrderedRow = (field 29 25 w ≡ 0b01100) × (field 24 24 w ≡ 1) × (form w ≡ 0b000)
-Keys w UnscaledRow = (field 29 25 w ≡ 0b11100) × (field 24 24 w ≡ 0) × (form w ≡ 0b000)
-Keys w PostRow = (field 29 25 w ≡ 0b11100) × (field 24 24 w ≡ 0) × (form w ≡ 0b001)
-Keys w PreRow = (field 29 25 w ≡ 0b11100) × (field 24 24 w ≡ 0) × (form w ≡ 0b011)
-Keys w RegisterRow = (field 29 25 w ≡ 0b11100) × (field 24 24 w ≡ 0) × (form w ≡ 0b110)
-Keys w UnsignedRow = (field 29 25 w ≡ 0b11100) × (field 24 24 w ≡ 1)
+Keys w Row.NoRow = ⊥
+Keys w Row.LiteralRow = (field 29 25 w ≡ 0b01100) × (field 24 24 w ≡ 0)
+Keys w Row.PairRow = field 29 25 w ≡ 0b10100
+Keys w Row.OrderedRow = (field 29 25 w ≡ 0b01100) × (field 24 24 w ≡ 1) × (form w ≡ 0b000)
+Keys w Row.UnscaledRow = (field 29 25 w ≡ 0b11100) × (field 24 24 w ≡ 0) × (form w ≡ 0b000)
+Keys w Row.PostRow = (field 29 25 w ≡ 0b11100) × (field 24 24 w ≡ 0) × (form w ≡ 0b001)
+Keys w Row.PreRow = (field 29 25 w ≡ 0b11100) × (field 24 24 w ≡ 0) × (form w ≡ 0b011)
+Keys w Row.RegisterRow = (field 29 25 w ≡ 0b11100) × (field 24 24 w ≡ 0) × (form w ≡ 0b110)
+Keys w Row.UnsignedRow = (field 29 25 w ≡ 0b11100) × (field 24 24 w ≡ 1)
 
 module _ (w : ℕ) where
   -- how the keys and the columns of the table cut the same bits
@@ -137,33 +137,33 @@ module _ (w : ℕ) where
       }
 
   keys-of : (r : Row) → Has w (columnsOf r .fixed) → Keys w r
-  keys-of NoRow h = omega arith
-  keys-of LiteralRow h = omega (arith, cuts)
-  keys-of PairRow h = omega (arith, cuts)
-  keys-of OrderedRow h = omega (arith, cuts)
-  keys-of UnscaledRow h = omega (arith, cuts)
-  keys-of PostRow h = omega (arith, cuts)
-  keys-of PreRow h = omega (arith, cuts)
-  keys-of RegisterRow h = omega (arith, cuts)
-  keys-of UnsignedRow h = omega (arith, cuts)
+  keys-of Row.NoRow h = omega arith
+  keys-of Row.LiteralRow h = omega (arith, cuts)
+  keys-of Row.PairRow h = omega (arith, cuts)
+  keys-of Row.OrderedRow h = omega (arith, cuts)
+  keys-of Row.UnscaledRow h = omega (arith, cuts)
+  keys-of Row.PostRow h = omega (arith, cuts)
+  keys-of Row.PreRow h = omega (arith, cuts)
+  keys-of Row.RegisterRow h = omega (arith, cuts)
+  keys-of Row.UnsignedRow h = omega (arith, cuts)
 
   has-of : (r : Row) → Keys w r → Has w (columnsOf r .fixed)
-  has-of NoRow k = absurd k
-  has-of LiteralRow k = omega (arith, cuts)
-  has-of PairRow k = omega (arith, cuts)
-  has-of OrderedRow k = omega (arith, cuts)
-  has-of UnscaledRow k = omega (arith, cuts)
-  has-of PostRow k = omega (arith, cuts)
-  has-of PreRow k = omega (arith, cuts)
-  has-of RegisterRow k = omega (arith, cuts)
-  has-of UnsignedRow k = omega (arith, cuts)
+  has-of Row.NoRow k = absurd k
+  has-of Row.LiteralRow k = omega (arith, cuts)
+  has-of Row.PairRow k = omega (arith, cuts)
+  has-of Row.OrderedRow k = omega (arith, cuts)
+  has-of Row.UnscaledRow k = omega (arith, cuts)
+  has-of Row.PostRow k = omega (arith, cuts)
+  has-of Row.PreRow k = omega (arith, cuts)
+  has-of Row.RegisterRow k = omega (arith, cuts)
+  has-of Row.UnsignedRow k = omega (arith, cuts)
 
   pub keyed : (r : Row) → Keys w r → rowOf w ≡ r
   keyed r k = row-is w r (has-of r k)
 
-  pub unkeyed : ((r : Row) → Keys w r → ⊥) → rowOf w ≡ NoRow
+  pub unkeyed : ((r : Row) → Keys w r → ⊥) → rowOf w ≡ Row.NoRow
   unkeyed n = go (inSet w) refl
     where
-      go : (b : Bool) → inSet w ≡ b → rowOf w ≡ NoRow
+      go : (b : Bool) → inSet w ≡ b → rowOf w ≡ Row.NoRow
       go true e = absurd (n (rowOf w) (keys-of (rowOf w) (row-has w e)))
       go false e = set-none w e

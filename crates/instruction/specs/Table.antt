@@ -5,7 +5,7 @@ use mathlib.Core.Bool.{Bool, false, _&&_, not}
 use mathlib.Core.List.{List, [], _∷_}
 use Rattle.bits.specs.Choice.{pick, any}
 use Rattle.bits.specs.Fields.{Bits, bits, field, has}
-use Rattle.instruction.specs.Types.{Row, NoRow, LiteralRow, PairRow, OrderedRow, UnscaledRow, PostRow, PreRow, RegisterRow, UnsignedRow, Family, Empty, Literal, Pair, Ordered, Unscaled, PostIndex, PreIndex, Register, Unsigned, Instruction}
+use Rattle.instruction.specs.Types.{Row, Family, Instruction}
 use Rattle.instruction.specs.Operations.{literalAt}
 use Rattle.instruction.specs.Operands.{sizedIn, literalIn, pairOpIn, pairIn, signedIn, indexIn, unsignedIn}
 use Rattle.instruction.specs.Undefined.{undefinedSize, undefinedPrefetch, undefinedOption, undefinedPair}
@@ -26,34 +26,34 @@ columns others undefined unpredictable family =
 abbrev pub never : ℕ → Bool
 never w = false
 
--- bit 26 is never 1 too, so no word matches NoRow
+-- NoRow asks that bit 26 be 0 and 1, so no word matches it
 abbrev pub columnsOf : Row → Columns
-columnsOf NoRow = columns (bits 26 26 1 ∷ []) never never (λ w. Empty)
-columnsOf LiteralRow =
-    columns (bits 29 27 0b011 ∷ bits 25 24 0b00 ∷ []) never never (λ w. Literal (literalAt (field 31 30 w)) (literalIn w))
-columnsOf PairRow =
-    columns (bits 29 27 0b101 ∷ bits 25 25 0 ∷ []) undefinedPair unpredictablePair (λ w. Pair (pairOpIn w) (pairIn (pairOpIn w) w))
-columnsOf OrderedRow =
+columnsOf Row.NoRow = columns (bits 26 26 1 ∷ []) never never (λ w. Family.Empty)
+columnsOf Row.LiteralRow =
+    columns (bits 29 27 0b011 ∷ bits 25 24 0b00 ∷ []) never never (λ w. Family.Literal (literalAt (field 31 30 w)) (literalIn w))
+columnsOf Row.PairRow =
+    columns (bits 29 27 0b101 ∷ bits 25 25 0 ∷ []) undefinedPair unpredictablePair (λ w. Family.Pair (pairOpIn w) (pairIn (pairOpIn w) w))
+columnsOf Row.OrderedRow =
     columns (bits 29 27 0b011 ∷ bits 25 24 0b01 ∷ bits 21 21 0 ∷ bits 11 10 0b00 ∷ [])
-    undefinedPrefetch never (λ w. Ordered (sizedIn w) (signedIn w))
-columnsOf UnscaledRow =
+    undefinedPrefetch never (λ w. Family.Ordered (sizedIn w) (signedIn w))
+columnsOf Row.UnscaledRow =
     columns (bits 29 27 0b111 ∷ bits 25 24 0b00 ∷ bits 21 21 0 ∷ bits 11 10 0b00 ∷ [])
-    undefinedSize never (λ w. Unscaled (sizedIn w) (signedIn w))
-columnsOf PostRow =
+    undefinedSize never (λ w. Family.Unscaled (sizedIn w) (signedIn w))
+columnsOf Row.PostRow =
     columns (bits 29 27 0b111 ∷ bits 25 24 0b00 ∷ bits 21 21 0 ∷ bits 11 10 0b01 ∷ [])
-    undefinedPrefetch unpredictableBase (λ w. PostIndex (sizedIn w) (signedIn w))
-columnsOf PreRow =
+    undefinedPrefetch unpredictableBase (λ w. Family.PostIndex (sizedIn w) (signedIn w))
+columnsOf Row.PreRow =
     columns (bits 29 27 0b111 ∷ bits 25 24 0b00 ∷ bits 21 21 0 ∷ bits 11 10 0b11 ∷ [])
-    undefinedPrefetch unpredictableBase (λ w. PreIndex (sizedIn w) (signedIn w))
-columnsOf RegisterRow =
+    undefinedPrefetch unpredictableBase (λ w. Family.PreIndex (sizedIn w) (signedIn w))
+columnsOf Row.RegisterRow =
     columns (bits 29 27 0b111 ∷ bits 25 24 0b00 ∷ bits 21 21 1 ∷ bits 11 10 0b10 ∷ [])
-    undefinedOption never (λ w. Register (sizedIn w) (indexIn w))
-columnsOf UnsignedRow =
-    columns (bits 29 27 0b111 ∷ bits 25 24 0b01 ∷ []) undefinedSize never (λ w. Unsigned (sizedIn w) (unsignedIn (sizedIn w) w))
+    undefinedOption never (λ w. Family.Register (sizedIn w) (indexIn w))
+columnsOf Row.UnsignedRow =
+    columns (bits 29 27 0b111 ∷ bits 25 24 0b01 ∷ []) undefinedSize never (λ w. Family.Unsigned (sizedIn w) (unsignedIn (sizedIn w) w))
 
 abbrev pub rows : List Row
 rows =
-    LiteralRow ∷ PairRow ∷ OrderedRow ∷ UnscaledRow ∷ PostRow ∷ PreRow ∷ RegisterRow ∷ UnsignedRow ∷ []
+    Row.LiteralRow ∷ Row.PairRow ∷ Row.OrderedRow ∷ Row.UnscaledRow ∷ Row.PostRow ∷ Row.PreRow ∷ Row.RegisterRow ∷ Row.UnsignedRow ∷ []
 
 abbrev pub matches : ℕ → Row → Bool
 matches w r = has w (columnsOf r .fixed)
@@ -63,7 +63,7 @@ unfoldable pub inSet : ℕ → Bool
 inSet w = any (matches w) rows
 
 abbrev pub firstOf : List Row → ℕ → Row
-firstOf [] w = NoRow
+firstOf [] w = Row.NoRow
 firstOf (r ∷ rs) w = pick (matches w r) r (firstOf rs w)
 
 -- the row that a word matches

@@ -1,7 +1,7 @@
 -- How large the numbers of an instruction are that a word stands for: registers, and the offset of each family.
 use Prim.Native.Nat.{ℕ, _≤_, _<_}
 use lib.IntN.{natAbs}
-use Rattle.instruction.specs.Types.{Family, Empty, Literal, Pair, Ordered, Unscaled, PostIndex, PreIndex, Register, Unsigned, LiteralOperands, PairOperands, OffsetOperands, IndexOperands}
+use Rattle.instruction.specs.Types.{Family, LiteralOperands, PairOperands, OffsetOperands, IndexOperands}
 
 -- imm19, times 4
 pub record LiteralBounds (o : LiteralOperands) : Type 0 where
@@ -28,12 +28,12 @@ pub record IndexBounds (o : IndexOperands) : Type 0 where
   pub scaled : o .scaled < 2
 
 abbrev pub Bounded : Family → Type 0
-Bounded Empty = Unit {0}
-Bounded (Literal op o) = LiteralBounds o
-Bounded (Pair op o) = PairBounds o
-Bounded (Ordered op o) = OffsetBounds 256 o
-Bounded (Unscaled op o) = OffsetBounds 256 o
-Bounded (PostIndex op o) = OffsetBounds 256 o
-Bounded (PreIndex op o) = OffsetBounds 256 o
-Bounded (Register op o) = IndexBounds o
-Bounded (Unsigned op o) = OffsetBounds 32760 o
+Bounded Family.Empty = Unit {0}
+Bounded (Family.Literal op o) = LiteralBounds o
+Bounded (Family.Pair op o) = PairBounds o
+Bounded (Family.Ordered op o) = OffsetBounds 256 o
+Bounded (Family.Unscaled op o) = OffsetBounds 256 o
+Bounded (Family.PostIndex op o) = OffsetBounds 256 o
+Bounded (Family.PreIndex op o) = OffsetBounds 256 o
+Bounded (Family.Register op o) = IndexBounds o
+Bounded (Family.Unsigned op o) = OffsetBounds 32760 o
