@@ -4,8 +4,9 @@ use mathlib.Core.Path.{_≡_, refl, sym, ap, _∙_}
 use mathlib.Core.List.{List, [], _∷_, _++_}
 use native.Mathlib.Nat.{pow-suc, pow-succ', mul-assoc, zero-add, suc-add, div-one, div-div-eq-div-mul}
 use native.Mathlib.Omega.{arith}
-use lib.ListN.{length, drop, replicate}
-use Rattle.bits.specs.Bytes.{bytesOf}
+use lib.ListN.{length, take, drop, replicate}
+use lib.Seq.{take-at}
+use Rattle.bits.specs.Bytes.{bytesOf, joined}
 
 pub length-bytes : (n v : ℕ) → length (bytesOf n v) ≡ n
 unfolding bytesOf
@@ -32,10 +33,23 @@ unfolding bytesOf
 bytes-drop zero k v = rw (div-one v, zero-add k)
 bytes-drop (suc j) k v = rw (pow-succ' 256 j, ← div-div-eq-div-mul v 256 (256 ^ j), suc-add j k) (bytes-drop j k (v / 256))
 
+-- the bytes in front alone
+pub bytes-take : (n k v : ℕ) → take n (bytesOf (n + k) v) ≡ bytesOf n v
+bytes-take n k v = ap (take n) (bytes-more n k v) ∙ take-at (bytesOf n v) (bytesOf k (v / 256 ^ n)) n (length-bytes n v)
+
 pub bytes-none : (k : ℕ) → bytesOf k 0 ≡ replicate k 0
 unfolding bytesOf
 bytes-none zero = refl
 bytes-none (suc k) = ap (λ (r : List ℕ). 0 ∷ r) (bytes-none k)
+
+-- the number that the bytes of a number make
+pub joined-bytes : (n v : ℕ) → v < 256 ^ n → joined (bytesOf n v) ≡ v
+unfolding bytesOf joined
+joined-bytes zero v h = omega arith
+joined-bytes (suc n) v h =
+    let m = 256 ^ n in
+    let l : v < m * 256 = rw (pow-suc 256 n) at h in
+    rw (joined-bytes n (v / 256) (omega arith)) (omega arith)
 
 -- ---- eight bytes, by halves
 

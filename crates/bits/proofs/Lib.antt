@@ -4,3 +4,5 @@ pub mod Offsets
 pub mod Signs
 pub mod Bytes
 pub mod Lists
+pub mod Spans
+pub mod Joining

@@ -3,3 +3,4 @@ pub mod Fields
 pub mod Signed
 pub mod Bytes
 pub mod Extension
+pub mod route
