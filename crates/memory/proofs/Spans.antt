@@ -1,16 +1,16 @@
 -- Laws of bytes stored and joined one by one, and of a part that is lent from an index to the end. Assumes nothing.
-use Prim.Native.Nat.{ℕ, zero, suc, _+_, _-_, _*_, _/_, _%_, _^_, _≤_, _<_}
-use mathlib.Core.Path.{_≡_, refl}
+use Prim.Native.Nat.{ℕ, zero, suc, _+_, _-_, _*_, _/_, _%_, _^_, _≤_, _<_, min}
+use mathlib.Core.Path.{_≡_, refl, sym, ap, _∙_}
 use mathlib.Core.List.{List, [], _∷_, _++_, append-nil}
-use mathlib.Core.Bool.{true}
-use native.Mathlib.Nat.{pow-suc, pow-le-pow-right, lt-of-lt-of-le, add-suc, add-zero}
+use mathlib.Core.Bool.{true, not}
+use native.Mathlib.Nat.{pow-le-pow-right, lt-of-lt-of-le, add-suc, add-zero}
 use native.Mathlib.Omega.{arith}
-use lib.Arith.{digits-lt}
-use lib.Dec.{lit<}
+use borrow.Author.Tests.{ne-eqb}
+use lib.Dec.{eqb, lit<}
 use lib.ListN.{length, take, drop, getD, set, replicate, take-append-drop, length-drop, drop-of-length-le}
 use lib.Seq.{sets, drop-set-add, take-set-le, getD-drop, take-all}
 use borrow.Rule.Slice.PartMut.{midOf, putMid}
-use Rattle.bits.specs.Bytes.{bytesOf, spanOf}
+use Rattle.bits.specs.Bytes.{bytesOf, joined, spanOf}
 use Rattle.memory.specs.Taints.{anyTainted}
 
 -- one turn fewer is left
@@ -28,21 +28,7 @@ pub span-left : (xs : List ℕ) {n i : ℕ} → i < n → spanOf xs i (n - i) �
 unfolding spanOf
 span-left xs h = rw (left h)
 
--- the span from one byte lower
-pub span-down : (xs : List ℕ) (n i : ℕ) → 0 < i → i ≤ n → spanOf xs (i - 1) (n - (i - 1)) ≡ getD xs (i - 1) 0 ∷ spanOf xs i (n - i)
-unfolding spanOf
-span-down xs n zero p h = absurd (omega arith)
-span-down xs n (suc i) p h =
-    let e : suc i - 1 ≡ i = omega arith in
-    let f : n - i ≡ suc (n - suc i) = omega arith in
-    rw (e, f)
-
--- one byte more under a number of n - i bytes, and a number of at most 8 bytes
-pub room-down : (n i v b : ℕ) → 0 < i → i ≤ n → v < 256 ^ (n - i) → b < 256 → v * 256 + b < 256 ^ (n - (i - 1))
-room-down n i v b p h l m =
-    let e : n - (i - 1) ≡ suc (n - i) = omega arith in
-    rw (e, pow-suc) (digits-lt l m)
-
+-- a number of at most 8 bytes
 pub room-64 : (k : ℕ) {v : ℕ} → k ≤ 8 → v < 256 ^ k → v < 2 ^ 64
 room-64 k h l = lt-of-lt-of-le l (pow-le-pow-right (lit< tt) h)
 
@@ -55,6 +41,35 @@ pub any-more : (k : ℕ) {b : ℕ} (ks : List ℕ) → b ≡ k → ¬ (b ≡ 0) 
 unfolding anyTainted
 any-more zero ks e h = absurd (h e)
 any-more (suc k) ks e h = refl
+
+times : (n : ℕ) → not (eqb (0 + n * 256) 0) ≡ not (eqb n 0)
+times zero = refl
+times (suc n) = ap not (ne-eqb (0 + suc n * 256) 0 (λ e. absurd (omega arith)) ∙ sym (ne-eqb (suc n) 0 (λ e. absurd (omega arith))))
+
+-- the number that taint bytes make is 0 where none is tainted
+any-nonzero : (ks : List ℕ) → not (eqb (joined ks) 0) ≡ anyTainted ks
+unfolding joined anyTainted
+any-nonzero [] = refl
+any-nonzero (zero ∷ ks) = times (joined ks) ∙ any-nonzero ks
+any-nonzero (suc k ∷ ks) = ap not (ne-eqb (suc k + joined ks * 256) 0 (λ e. absurd (omega arith)))
+
+pub any-joined : {r : ℕ} (xs : List ℕ) (at n : ℕ) → n ≤ 8 → r ≡ joined (spanOf xs at (min n 8)) → not (eqb r 0) ≡ anyTainted (spanOf xs at n)
+any-joined xs at n h e =
+    let few : min n 8 ≡ n = omega arith in
+    rw (e, few) (any-nonzero (spanOf xs at n))
+
+-- of bytes that are all the same, the first ones
+few-bytes : (n k v b : ℕ) → n ≤ k → bytesOf k v ≡ replicate k b → bytesOf n v ≡ replicate n b
+unfolding bytesOf
+few-bytes zero k v b h e = refl
+few-bytes (suc n) zero v b h e = absurd (omega arith)
+few-bytes (suc n) (suc k) v b h e =
+    let one : v % 256 ≡ b = ap (λ (l : List ℕ). getD l 0 0) e in
+    let rest : bytesOf k (v / 256) ≡ replicate k b = ap (drop 1) e in
+    rw (one, few-bytes n k (v / 256) b (omega arith) rest)
+
+pub same-bytes : {ys : List ℕ} (xs : List ℕ) (n v b : ℕ) → n ≤ 8 → ys ≡ sets xs 0 (bytesOf n v) → bytesOf 8 v ≡ replicate 8 b → ys ≡ sets xs 0 (replicate n b)
+same-bytes xs n v b h e f = e ∙ ap (sets xs 0) (few-bytes n 8 v b h f)
 
 -- stores into a part that starts at an index are stores into the whole
 sets-part : (bs xs : List ℕ) (at i : ℕ) → take at xs ++ sets (drop at xs) i bs ≡ sets xs (at + i) bs

@@ -1,14 +1,28 @@
 // The bytes of a number at the start of a part of memory, and their taints. The part is lent from the first
 // byte of an access to the end of memory. A byte past the end reads 0 and is not written.
+mod eight;
+
 ghost use mathlib.Core.Path.{_≡_};
 ghost use Prim.Native.Nat.{_<_, _^_, min};
-ghost use lib.ListN.{getD, set, replicate};
+ghost use lib.ListN.{set, replicate};
 ghost use lib.Seq.{sets};
 ghost use Rattle.bits.specs.Bytes.{bytesOf, joined, spanOf};
 ghost use Rattle.memory.specs.Taints.{anyTainted, taintByte};
 
 // The low n bytes of a number, the lowest first.
 pub fn store(part: &mut [u8], n: usize, number: u64)
+    ensures { λ _. ⌜ now (part .exit) ≡ sets (now (part .entry)) 0 (bytesOf n number) ⌝ }
+{
+    if part.len() >= 8 {
+        if n <= 8 {
+            eight::put_low(part, n, number);
+            return;
+        }
+    }
+    store_by_byte(part, n, number);
+}
+
+fn store_by_byte(part: &mut [u8], n: usize, number: u64)
     ensures { λ _. ⌜ now (part .exit) ≡ sets (now (part .entry)) 0 (bytesOf n number) ⌝ }
 {
     let mut i = 0;
@@ -24,7 +38,16 @@ pub fn store(part: &mut [u8], n: usize, number: u64)
 pub fn store_taint(part: &mut [u8], n: usize, taint: bool)
     ensures { λ _. ⌜ now (part .exit) ≡ sets (now (part .entry)) 0 (replicate n (taintByte taint)) ⌝ }
 {
-    let byte = taint_byte(taint);
+    if n <= 8 {
+        store(part, n, eight_taints(taint));
+        return;
+    }
+    taint_by_byte(part, n, taint_byte(taint));
+}
+
+fn taint_by_byte(part: &mut [u8], n: usize, byte: u8)
+    ensures { λ _. ⌜ now (part .exit) ≡ sets (now (part .entry)) 0 (replicate n byte) ⌝ }
+{
     let mut i = 0;
     while i < n {
         set_byte(part, i, byte);
@@ -32,26 +55,39 @@ pub fn store_taint(part: &mut [u8], n: usize, taint: bool)
     }
 }
 
+// The taint bytes of eight bytes, as one number.
+fn eight_taints(taint: bool) -> u64
+    ensures { λ r. ⌜ bytesOf 8 r ≡ replicate 8 (taintByte taint) ⌝ }
+{
+    if taint {
+        return 0x101_0101_0101_0101;
+    }
+    0
+}
+
 // The number that the first n bytes make, at most 8 of them.
 pub fn load(part: &[u8], n: usize) -> u64
     ensures { λ r. ⌜ (r ≡ joined (spanOf (now (part .entry)) 0 (min n 8))) × (r < 256 ^ min n 8) ⌝ }
 {
-    let mut i = at_most_8(n);
-    let mut number: u64 = 0;
-    while 0 < i {
-        i -= 1;
-        number = number * 256 + wide(byte_at(part, i));
-    }
-    number
+    eight::cut(eight::first_eight(part), at_most_8(n))
 }
 
 // Whether one of the first n taint bytes is not 0.
 pub fn any_tainted(part: &[u8], n: usize) -> bool
     ensures { λ r. ⌜ r ≡ anyTainted (spanOf (now (part .entry)) 0 n) ⌝ }
 {
+    if n <= 8 {
+        return load(part, n) != 0;
+    }
+    any_by_byte(part, n)
+}
+
+fn any_by_byte(part: &[u8], n: usize) -> bool
+    ensures { λ r. ⌜ r ≡ anyTainted (spanOf (now (part .entry)) 0 n) ⌝ }
+{
     let mut i = 0;
     while i < n {
-        if byte_at(part, i) != 0 {
+        if eight::byte_at(part, i) != 0 {
             return true;
         }
         i += 1;
@@ -65,15 +101,6 @@ fn set_byte(part: &mut [u8], i: usize, byte: u8)
     if i < part.len() {
         part[i] = byte;
     }
-}
-
-fn byte_at(part: &[u8], i: usize) -> u8
-    ensures { λ r. ⌜ r ≡ getD (now (part .entry)) i 0 ⌝ }
-{
-    if i < part.len() {
-        return part[i];
-    }
-    0
 }
 
 fn taint_byte(taint: bool) -> u8
@@ -92,10 +119,4 @@ fn at_most_8(n: usize) -> usize
         return n;
     }
     8
-}
-
-fn wide(byte: u8) -> u64
-    ensures { λ r. ⌜ (r ≡ byte) × (r < 256) ⌝ }
-{
-    byte as u64
 }

@@ -1,4 +1,4 @@
--- `memory::any_tainted` meets its contract. The loop's invariant: the bytes left decide. Assumes nothing.
+-- `memory::any_by_byte` meets its contract. The loop's invariant: the bytes left decide. Assumes nothing.
 use Prim.Native.Nat.{suc, _≤_, _-_}
 use mathlib.Core.Path.{_≡_, sym, _∙_}
 use lib.ListN.{getD}
@@ -9,8 +9,8 @@ use Rattle.bits.specs.Bytes.{spanOf}
 use Rattle.memory.specs.Taints.{anyTainted}
 use Rattle.memory.proofs.Spans.{span-left, any-zero, any-more}
 use borrow.Author.Needs.{needs}
-use Rattle.memory.proofs.any_tainted.Statement.{statement}
-use Rattle.memory.proofs.any_tainted.Tie as tie
+use Rattle.memory.proofs.any_by_byte.Statement.{statement}
+use Rattle.memory.proofs.any_by_byte.Tie as tie
 
 abbrev Inv-loop : tie.InvT-loop
 Inv-loop part n i₀ i = (i ≤ n) × (anyTainted (spanOf part i (n - i)) ≡ anyTainted (spanOf part 0 n))
@@ -18,9 +18,9 @@ Inv-loop part n i₀ i = (i ≤ n) × (anyTainted (spanOf part i (n - i)) ≡ an
 abbrev μ-loop : tie.MeasureT-loop
 μ-loop part n i₀ i = n - i
 
-pub any-tainted-spec : {M : Type 1} → statement M
+pub any-by-byte-spec : {M : Type 1} → statement M
 unfolding spanOf anyTainted
-any-tainted-spec =
+any-by-byte-spec =
     tie.close
     (tie.spec
     Inv-loop

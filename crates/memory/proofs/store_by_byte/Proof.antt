@@ -1,4 +1,4 @@
--- `memory::store` meets its contract. The loop's invariant: what is still to do gives the whole. Assumes nothing.
+-- `memory::store_by_byte` meets its contract. The loop's invariant: what is still to do gives the whole. Assumes nothing.
 use Prim.Native.Nat.{_≤_, _-_}
 use mathlib.Core.Path.{_≡_, refl}
 use native.Mathlib.Nat.{sub-zero}
@@ -9,8 +9,8 @@ use lib.Seq.{sets}
 use Rattle.bits.specs.Bytes.{bytesOf}
 use Rattle.memory.proofs.Spans.{bytes-left}
 use borrow.Author.Needs.{needs}
-use Rattle.memory.proofs.store.Statement.{statement}
-use Rattle.memory.proofs.store.Tie as tie
+use Rattle.memory.proofs.store_by_byte.Statement.{statement}
+use Rattle.memory.proofs.store_by_byte.Tie as tie
 
 abbrev Inv-loop : tie.InvT-loop
 Inv-loop part₀ n number i₀ rest₀ part i rest = (i ≤ n) × (length part ≡ length part₀) × (sets part i (bytesOf (n - i) rest) ≡ sets part₀ 0 (bytesOf n number))
@@ -18,9 +18,9 @@ Inv-loop part₀ n number i₀ rest₀ part i rest = (i ≤ n) × (length part �
 abbrev μ-loop : tie.MeasureT-loop
 μ-loop part₀ n number i₀ rest₀ part i rest = n - i
 
-pub store-spec : {M : Type 1} → statement M
+pub store-by-byte-spec : {M : Type 1} → statement M
 unfolding bytesOf
-store-spec =
+store-by-byte-spec =
     tie.close
     (tie.spec
     Inv-loop
