@@ -3,19 +3,14 @@ use Prim.Native.Nat.{ℕ, suc, _+_, _≤_, _<_, min, max}
 use mathlib.Core.Path.{_≡_, refl, sym, ap, _∙_}
 use mathlib.Core.Bool.{Bool, true, false}
 use mathlib.Core.List.{List, [], _∷_, _++_}
-use native.Mathlib.Nat.{add-zero, add-suc, suc-add}
 use native.Mathlib.Numerals.{add-one}
 use native.Mathlib.Omega.{arith}
 use borrow.Author.Tests.{leb-true, leb-false}
 use lib.Dec.{leb}
 use lib.ListN.{length, take, getD, set, length-append}
 use lib.Seq.{sets, length-sets, set-out, take-suc}
+use Rattle.bits.proofs.Lists.{sets-append}
 use Rattle.ascii.specs.route.Puts.{Puts}
-
--- what is put behind a piece is put with it
-pub sets-append : (xs p q : List ℕ) (at : ℕ) → sets (sets xs at p) (at + length p) q ≡ sets xs at (p ++ q)
-sets-append xs [] q at = rw add-zero
-sets-append xs (b ∷ p) q at = rw (add-suc, ← suc-add) (sets-append (set xs at b) p q (suc at))
 
 -- nothing is put behind the end
 sets-out : (xs q : List ℕ) (at : ℕ) → length xs ≤ at → sets xs at q ≡ xs

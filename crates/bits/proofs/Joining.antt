@@ -39,12 +39,14 @@ halves {xs} {at} {x} {y} a b p q =
 some : (n : ℕ) → 0 < 256 ^ n
 some n = one-le-pow n 256 (lit< tt)
 
--- nothing stands behind the end
+-- past the end there is nothing
+pub past : {xs : List ℕ} {at : ℕ} (n : ℕ) → length xs ≤ at → Joins xs at n 0
+past {xs} {at} n h = record { are = bytes-none n ∙ sym (span-past xs at n h); fits = some n }
+
 pub ends : {xs : List ℕ} {at n r : ℕ} (k : ℕ) → length xs ≤ at + n → Joins xs at n r → Joins xs at (n + k) r
 ends {xs} {at} {n} {r} k h j =
-    let none : Joins xs (at + n) k 0 = record { are = bytes-none k ∙ sym (span-past xs (at + n) k h); fits = some k } in
     let e : r + 0 * 256 ^ n ≡ r = omega arith in
-    rw e at (halves n k j none)
+    rw e at (halves n k j (past k h))
 
 -- the low n bytes of a number, and those above them
 low-bytes : (n v : ℕ) → bytesOf n (v % 256 ^ n) ≡ bytesOf n v

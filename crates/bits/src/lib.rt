@@ -1,6 +1,10 @@
-// Fields of instruction words and signed numbers. The definitions are in specs/, their laws in proofs/.
+// Fields of instruction words, signed numbers, and numbers of bytes. The definitions are in specs/, their laws in proofs/.
+mod join;
 mod number;
 
+pub use join::byte_at;
+pub use join::eight_at;
+pub use join::four_at;
 pub use number::magnitude;
 pub use number::twos_complement;
 

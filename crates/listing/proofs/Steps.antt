@@ -9,6 +9,7 @@ use borrow.Author.Tests.{ne-eqb, le-ltb, le-leb, lt-leb, leb-true, leb-false}
 use lib.Dec.{eqb, leb}
 use lib.ListN.{length, take, drop, getD, length-append, length-drop}
 use lib.Seq.{drop-cons}
+use Rattle.bits.specs.Bytes.{joined, spanOf}
 use Rattle.bits.specs.Choice.{pick}
 use Rattle.bits.proofs.Lists.{sets-front}
 use Rattle.instruction.specs.declared.answer.Answer.the-variants.{Done, NotInSet, Undefined, Unpredictable}
@@ -38,9 +39,13 @@ drop-four bs i h =
     (drop-cons bs (suc (suc i)) 0 (omega arith)
     ∙ ap (λ (l : List ℕ). getD bs (suc (suc i)) 0 ∷ l) (drop-cons bs (suc (suc (suc i))) 0 (omega arith)))))
 
+four-joined : (bs : List ℕ) (i : ℕ) → joined (spanOf bs i 4) ≡ wordOf (getD bs i 0) (getD bs (i + 1) 0) (getD bs (i + 2) 0) (getD bs (i + 3) 0)
+unfolding joined spanOf wordOf
+four-joined bs i = rw (add-one i, add-two i, add-three i) (omega arith)
+
 pub next-word : (bs : List ℕ) (i : ℕ) → i + 4 ≤ length bs → listingOf (drop i bs) ≡ lineText (wordAt bs i) ++ listingOf (drop (i + 4) bs)
 unfolding wordAt
-next-word bs i h = rw (drop-four bs i h, le-ltb (length bs) (i + 4) h)
+next-word bs i h = rw (drop-four bs i h, four-joined bs i)
 
 -- ---- what is left over
 

@@ -4,7 +4,6 @@ mod line;
 use instruction::Answer;
 use text::TEXT_MAX;
 ghost use mathlib.Core.Path.{_≡_};
-ghost use Prim.Native.Nat.{_<_};
 ghost use lib.Dec.{leb};
 ghost use lib.ListN.{length};
 ghost use Rattle.ascii.specs.route.Puts.{Puts};
@@ -82,24 +81,9 @@ fn measured(bytes: &[u8], room: usize) -> bool
     line::short_length(bytes.len() - at) <= left
 }
 
-// The little-endian word at an index; 0 where the bytes end before it does.
+// The little-endian word at an index.
 fn word_at(bytes: &[u8], at: usize) -> u32
     ensures { λ r. ⌜ r ≡ wordAt (now (bytes .entry)) at ⌝ }
 {
-    if bytes.len() < 4 {
-        return 0;
-    }
-    if bytes.len() - 4 < at {
-        return 0;
-    }
-    wide(bytes[at])
-        + wide(bytes[at + 1]) * 0x100
-        + wide(bytes[at + 2]) * 0x1_0000
-        + wide(bytes[at + 3]) * 0x100_0000
-}
-
-fn wide(byte: u8) -> u32
-    ensures { λ r. ⌜ (r ≡ byte) × (r < 256) ⌝ }
-{
-    byte as u32
+    bits::four_at(bytes, at) as u32
 }

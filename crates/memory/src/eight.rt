@@ -1,78 +1,11 @@
-// Eight bytes of a part as one number, joined by halves of halves and without a loop, and stored as one. The compiler
-// makes one load or store of it. A width below 8 is cut from it.
+// A number of eight bytes cut to a width, and stored in the eight bytes at the start of a part, of which the compiler makes
+// one store.
 ghost use mathlib.Core.Path.{_≡_};
-ghost use Prim.Native.Nat.{_+_, _-_, _%_, _^_, _<_, _≤_};
-ghost use lib.ListN.{length, getD};
+ghost use Prim.Native.Nat.{_-_, _%_, _^_, _≤_};
+ghost use lib.ListN.{length};
 ghost use lib.Seq.{sets};
 ghost use Rattle.bits.specs.Bytes.{bytesOf};
-ghost use Rattle.bits.specs.route.Joins.{Joins, under};
-
-// The first eight bytes. Those past the end are 0.
-pub fn first_eight(part: &[u8]) -> u64
-    ensures { λ r. ⌜ Joins (now (part .entry)) 0 8 r ⌝ }
-{
-    if part.len() >= 8 {
-        return eight(part, 0);
-    }
-    if part.len() >= 4 {
-        let low = four(part, 0);
-        return low + last_four(part, 4) * 0x1_0000_0000;
-    }
-    last_four(part, 0)
-}
-
-// Eight, four, two bytes that are all there, and one.
-fn eight(part: &[u8], at: usize) -> u64
-    requires { ⌜ at + 8 ≤ length (now part) ⌝ }
-    ensures { λ r. ⌜ Joins (now (part .entry)) at 8 r ⌝ }
-{
-    let low = four(part, at);
-    low + four(part, at + 4) * 0x1_0000_0000
-}
-
-fn four(part: &[u8], at: usize) -> u64
-    requires { ⌜ at + 4 ≤ length (now part) ⌝ }
-    ensures { λ r. ⌜ Joins (now (part .entry)) at 4 r ⌝ }
-{
-    let low = two(part, at);
-    low + two(part, at + 2) * 0x1_0000
-}
-
-fn two(part: &[u8], at: usize) -> u64
-    requires { ⌜ at + 2 ≤ length (now part) ⌝ }
-    ensures { λ r. ⌜ Joins (now (part .entry)) at 2 r ⌝ }
-{
-    let low = wide(part[at]);
-    low + wide(part[at + 1]) * 0x100
-}
-
-// Four bytes of which the last are past the end.
-fn last_four(part: &[u8], at: usize) -> u64
-    requires { ⌜ (at ≤ 4) × (length (now part) < at + 4) ⌝ }
-    ensures { λ r. ⌜ Joins (now (part .entry)) at 4 r ⌝ }
-{
-    if part.len() >= at + 2 {
-        let low = two(part, at);
-        return low + wide(byte_at(part, at + 2)) * 0x1_0000;
-    }
-    wide(byte_at(part, at))
-}
-
-// A byte, or 0 past the end.
-pub fn byte_at(part: &[u8], i: usize) -> u8
-    ensures { λ r. ⌜ r ≡ getD (now (part .entry)) i 0 ⌝ }
-{
-    if i < part.len() {
-        return part[i];
-    }
-    0
-}
-
-fn wide(byte: u8) -> u64
-    ensures { λ r. ⌜ (r ≡ byte) × (r < 256) ⌝ }
-{
-    byte as u64
-}
+ghost use Rattle.bits.specs.route.Joins.{under};
 
 // The low n bytes of a number.
 pub fn cut(number: u64, n: usize) -> u64
@@ -98,7 +31,7 @@ pub fn put_low(part: &mut [u8], n: usize, number: u64)
     requires { ⌜ (n ≤ 8) × (8 ≤ length (now part)) ⌝ }
     ensures { λ _. ⌜ now (part .exit) ≡ sets (now (part .entry)) 0 (bytesOf n number) ⌝ }
 {
-    let old = eight(part, 0);
+    let old = bits::eight_at(part, 0);
     put_eight(part, merged(old, n, number));
 }
 

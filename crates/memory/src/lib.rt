@@ -69,7 +69,7 @@ fn eight_taints(taint: bool) -> u64
 pub fn load(part: &[u8], n: usize) -> u64
     ensures { λ r. ⌜ (r ≡ joined (spanOf (now (part .entry)) 0 (min n 8))) × (r < 256 ^ min n 8) ⌝ }
 {
-    eight::cut(eight::first_eight(part), at_most_8(n))
+    eight::cut(bits::eight_at(part, 0), at_most_8(n))
 }
 
 // Whether one of the first n taint bytes is not 0.
@@ -87,7 +87,7 @@ fn any_by_byte(part: &[u8], n: usize) -> bool
 {
     let mut i = 0;
     while i < n {
-        if eight::byte_at(part, i) != 0 {
+        if bits::byte_at(part, i) != 0 {
             return true;
         }
         i += 1;

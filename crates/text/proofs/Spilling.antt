@@ -4,12 +4,13 @@ use mathlib.Core.Path.{_≡_, refl, sym, ap, _∙_}
 use mathlib.Core.List.{List, [], _∷_, _++_, append-assoc, append-nil}
 use native.Mathlib.Nat.{sub-zero, div-eq-of-lt}
 use native.Mathlib.Omega.{arith}
-use lib.ListN.{length, drop, getD, set, replicate, length-append, length-replicate, replicate-append-replicate}
-use lib.Seq.{sets, set-set, set-comm, set-getD, getD-set-other}
+use lib.ListN.{length, drop, set, replicate, length-append, length-replicate, replicate-append-replicate}
+use lib.Seq.{sets, set-set, set-comm}
 use Rattle.bits.specs.Bytes.{bytesOf, spanOf}
 use Rattle.bits.proofs.Bytes.{bytes-more, bytes-none}
 use Rattle.ascii.specs.route.Puts.{Puts}
-use Rattle.ascii.proofs.Pieces.{sets-append}
+use Rattle.bits.proofs.Lists.{sets-append}
+use Rattle.bits.proofs.Spans.{length-span, span-stays, span-behind}
 use Rattle.text.specs.declared.piece.Piece.{Piece}
 use Rattle.text.specs.declared.store.Pieces.{Pieces}
 use Rattle.text.specs.route.Pieces.{textIn, Fit, Spills}
@@ -83,25 +84,6 @@ flow {xs} {t} {ys} {u} {zs} {at} {m} {n} a b =
 -- ---- what stood behind a text
 
 -- a line is as it was where what it holds is put
-span-stays : (ws : List ℕ) (m n : ℕ) → sets ws m (spanOf ws m n) ≡ ws
-unfolding spanOf
-span-stays ws m zero = refl
-span-stays ws m (suc n) = ap (λ (v : List ℕ). sets v (suc m) (spanOf ws (suc m) n)) (set-getD ws m 0) ∙ span-stays ws (suc m) n
-
-getD-behind : (t xs : List ℕ) (at i : ℕ) → at + length t ≤ i → getD (sets xs at t) i 0 ≡ getD xs i 0
-getD-behind [] xs at i h = refl
-getD-behind (b ∷ t) xs at i h = getD-behind t (set xs at b) (suc at) i (omega arith) ∙ getD-set-other xs at i b 0 (λ e. absurd (omega arith))
-
-span-behind : (t xs : List ℕ) (at i n : ℕ) → at + length t ≤ i → spanOf (sets xs at t) i n ≡ spanOf xs i n
-unfolding spanOf
-span-behind t xs at i zero h = refl
-span-behind t xs at i (suc n) h = rw (getD-behind t xs at i h, span-behind t xs at (suc i) n (omega arith))
-
-length-span : (xs : List ℕ) (i n : ℕ) → length (spanOf xs i n) ≡ n
-unfolding spanOf
-length-span xs i zero = refl
-length-span xs i (suc n) = ap suc (length-span xs (suc i) n)
-
 pub restored : {xs t ys zs : List ℕ} {at m r : ℕ} (v : ℕ) → Spills xs at t ys r → m ≡ at + length t → m ≤ length xs → bytesOf 8 v ≡ spanOf xs m 8 → zs ≡ sets ys m (bytesOf 8 v)
     → Puts xs at t zs m
 restored {xs} {t} {ys} {zs} {at} {m} {r} v a e h q b =

@@ -2,10 +2,10 @@
 // last is put back.
 use crate::piece::Piece;
 ghost use mathlib.Core.Path.{_≡_};
-ghost use Prim.Native.Nat.{_+_, _^_, _<_, _≤_};
+ghost use Prim.Native.Nat.{_+_, _≤_};
 ghost use lib.ListN.{length};
 ghost use lib.Seq.{sets};
-ghost use Rattle.bits.specs.Bytes.{bytesOf, spanOf};
+ghost use Rattle.bits.specs.Bytes.{bytesOf};
 ghost use Rattle.ascii.specs.route.Puts.{Puts};
 ghost use Rattle.text.specs.route.Pieces.{textIn, Fit, Spills};
 ghost use Rattle.text.specs.route.Lines.{Sound, whole, totalOf};
@@ -52,32 +52,10 @@ fn put_in_room(line: &mut [u8], at: usize, p: Pieces) -> usize
     ensures { λ r. ⌜ Puts (now (line .entry)) at (whole p) (now (line .exit)) r ⌝ }
 {
     let end = at + total(p);
-    let behind = eight_at(line, end);
+    let behind = bits::eight_at(line, end);
     spill_pieces(line, at, p);
     put_number(line, end, behind);
     end
-}
-
-// Eight bytes of a line as one number, the first lowest.
-fn eight_at(line: &[u8], at: usize) -> u64
-    requires { ⌜ at + 8 ≤ length (now line) ⌝ }
-    ensures { λ r. ⌜ bytesOf 8 r ≡ spanOf (now (line .entry)) at 8 ⌝ }
-{
-    four_at(line, at) + four_at(line, at + 4) * 0x1_0000_0000
-}
-
-fn four_at(line: &[u8], at: usize) -> u64
-    requires { ⌜ at + 4 ≤ length (now line) ⌝ }
-    ensures { λ r. ⌜ (bytesOf 4 r ≡ spanOf (now (line .entry)) at 4) × (r < 2 ^ 32) ⌝ }
-{
-    wide(line[at])
-        + (wide(line[at + 1]) + (wide(line[at + 2]) + wide(line[at + 3]) * 256) * 256) * 256
-}
-
-fn wide(byte: u8) -> u64
-    ensures { λ r. ⌜ (r ≡ byte) × (r < 256) ⌝ }
-{
-    byte as u64
 }
 
 fn spill_pieces(line: &mut [u8], at: usize, p: Pieces) -> usize

@@ -1,13 +1,8 @@
 -- The words of some bytes, as the code reads them.
-use Prim.Native.Nat.{ℕ, _+_}
+use Prim.Native.Nat.{ℕ}
 use mathlib.Core.List.{List}
-use lib.Dec.{ltb}
-use lib.ListN.{length, getD}
-use Rattle.bits.specs.Choice.{pick}
-use Rattle.listing.specs.Listing.{wordOf}
+use Rattle.bits.specs.Bytes.{joined, spanOf}
 
--- the word at an index; 0 where the bytes end before it does
+-- the word at an index; a byte past the end is 0
 unfoldable pub wordAt : List ℕ → ℕ → ℕ
-wordAt bytes at =
-    pick (ltb (length bytes) (at + 4)) 0
-    (wordOf (getD bytes at 0) (getD bytes (at + 1) 0) (getD bytes (at + 2) 0) (getD bytes (at + 3) 0))
+wordAt bytes at = joined (spanOf bytes at 4)

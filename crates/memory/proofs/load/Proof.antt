@@ -16,5 +16,5 @@ load-spec =
     (λ c.
     let m = min (c .before .before .before .before .args .n) 8 in
     let few : m ≤ 8 = omega arith in
-    let joins = low m few (c .before .before .first-eight .ensures) in
+    let joins = low m few (c .before .before .eight-at .ensures) in
     rw (c .cut .ensures, c .before .at-most-8 .ensures) (number joins, joins .fits)))

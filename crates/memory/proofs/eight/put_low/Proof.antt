@@ -15,7 +15,7 @@ put-low-spec =
     (λ c. search needs)
     (λ c.
     let entry = c .before .before .before .before .before .before .before .before in
-    let old = c .before .before .before .before .before .eight .ensures in
+    let old = c .before .before .before .before .before .eight-at .ensures in
     let merged = c .before .before .before .merged .ensures in
     let put = c .before .before .put-eight .ensures in
     put ∙ rw merged (put-under (entry .args .n) (entry .args .number) (entry .pre .0) old)))

@@ -17,4 +17,4 @@ put-in-room-spec =
     (λ c. search needs)
     (λ c.
     let e = c .before .before .before .before .before .before .before .before .before .before .total .ensures .0 in
-    restored _ (c .before .before .before .before .before .before .spill-pieces .ensures) (omega (arith, e, whole-length (c .before .before .before .before .before .before .before .before .before .before .before .before .args .p))) (omega (arith, e, c .before .before .before .before .before .before .before .before .before .before .before .before .pre .1)) (c .before .before .before .before .before .before .before .before .eight-at .ensures) (c .before .before .put-number .ensures)))
+    restored _ (c .before .before .before .before .before .before .spill-pieces .ensures) (omega (arith, e, whole-length (c .before .before .before .before .before .before .before .before .before .before .before .before .args .p))) (omega (arith, e, c .before .before .before .before .before .before .before .before .before .before .before .before .pre .1)) (c .before .before .before .before .before .before .before .before .eight-at .ensures .are) (c .before .before .put-number .ensures)))

@@ -1,10 +1,10 @@
--- `memory::eight::last_four` meets its contract. Assumes nothing.
+-- `bits::join::last_four` meets its contract. Assumes nothing.
 use mathlib.Core.Path.{_∙_}
 use native.Mathlib.Omega.{arith}
 use Rattle.bits.proofs.Joining.{byte, halves, ends}
 use borrow.Author.Needs.{needs}
-use Rattle.memory.proofs.eight.last_four.Statement.{statement}
-use Rattle.memory.proofs.eight.last_four.Tie as tie
+use Rattle.bits.proofs.join.last_four.Statement.{statement}
+use Rattle.bits.proofs.join.last_four.Tie as tie
 
 pub last-four-spec : {M : Type 1} → statement M
 last-four-spec =

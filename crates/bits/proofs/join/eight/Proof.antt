@@ -1,8 +1,8 @@
--- `memory::eight::eight` meets its contract. Assumes nothing.
+-- `bits::join::eight` meets its contract. Assumes nothing.
 use Rattle.bits.proofs.Joining.{halves}
 use borrow.Author.Needs.{needs}
-use Rattle.memory.proofs.eight.eight.Statement.{statement}
-use Rattle.memory.proofs.eight.eight.Tie as tie
+use Rattle.bits.proofs.join.eight.Statement.{statement}
+use Rattle.bits.proofs.join.eight.Tie as tie
 
 pub eight-spec : {M : Type 1} → statement M
 eight-spec =

@@ -1,8 +1,8 @@
--- `memory::eight::two` meets its contract. Assumes nothing.
+-- `bits::join::two` meets its contract. Assumes nothing.
 use Rattle.bits.proofs.Joining.{byte, halves}
 use borrow.Author.Needs.{needs}
-use Rattle.memory.proofs.eight.two.Statement.{statement}
-use Rattle.memory.proofs.eight.two.Tie as tie
+use Rattle.bits.proofs.join.two.Statement.{statement}
+use Rattle.bits.proofs.join.two.Tie as tie
 
 pub two-spec : {M : Type 1} → statement M
 two-spec =

@@ -1,8 +1,8 @@
--- `memory::eight::four` meets its contract. Assumes nothing.
+-- `bits::join::four` meets its contract. Assumes nothing.
 use Rattle.bits.proofs.Joining.{halves}
 use borrow.Author.Needs.{needs}
-use Rattle.memory.proofs.eight.four.Statement.{statement}
-use Rattle.memory.proofs.eight.four.Tie as tie
+use Rattle.bits.proofs.join.four.Statement.{statement}
+use Rattle.bits.proofs.join.four.Tie as tie
 
 pub four-spec : {M : Type 1} → statement M
 four-spec =

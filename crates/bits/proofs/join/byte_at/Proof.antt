@@ -1,8 +1,8 @@
--- `memory::eight::byte_at` meets its contract. Assumes nothing.
+-- `bits::join::byte_at` meets its contract. Assumes nothing.
 use lib.ListN.{List·getD-eq-default}
 use borrow.Author.Needs.{needs}
-use Rattle.memory.proofs.eight.byte_at.Statement.{statement}
-use Rattle.memory.proofs.eight.byte_at.Tie as tie
+use Rattle.bits.proofs.join.byte_at.Statement.{statement}
+use Rattle.bits.proofs.join.byte_at.Tie as tie
 
 pub byte-at-spec : {M : Type 1} → statement M
 byte-at-spec =
