@@ -10,19 +10,21 @@ use borrow.Author.Tests.{ltb-false}
 use Rattle.bits.specs.Choice.{pick}
 use Rattle.bits.proofs.Choices.{neither}
 use Rattle.bits.proofs.Parts.{Has}
-use Rattle.instruction.specs.declared.answer.Answer.the-variants.{Done, BadWindow, NotInSet, Undefined, Unpredictable}
+use Rattle.instruction.specs.declared.answer.Answer.the-variants.{BadWindow, NotInSet, Undefined, Unpredictable}
 use Rattle.instruction.specs.declared.row.Row.{Row}
 use Rattle.instruction.specs.declared.row.Row.the-variants.{NoRow, LiteralRow, PairRow, OrderedRow, UnscaledRow, PostRow, PreRow, RegisterRow, UnsignedRow}
-use Rattle.instruction.specs.Answers.{answerNumber}
 use Rattle.instruction.specs.Table.{columnsOf, inSet, rowOf, undefined, allocated, unpredictable, instructionOf}
-use Rattle.decoder.specs.Decoding.{decodeOf, classOf}
 use Rattle.instruction.proofs.Rows.{row-has}
+use Rattle.decoder.specs.Decoding.{decodeOf}
 use Rattle.access.specs.Accesses.{familyAccess, accessOf, wordAccess}
 use Rattle.plan.specs.declared.window.Window.{Window}
 use Rattle.plan.specs.Window.{badWindow}
 use Rattle.plan.specs.Admission.{admitOf}
 use Rattle.machine.specs.Machine.{Machine}
-use Rattle.machine.specs.Step.{Step, stopped, bad, wordStep, stepOf}
+use Rattle.machine.specs.Refusals.{bad}
+use Rattle.machine.specs.Step.{Step, stopped, stepOf}
+use Rattle.machine.specs.route.Parts.{wordStep, accessStep}
+use Rattle.machine.proofs.Answers.{step-bad}
 use Rattle.arm.specs.Real.{Real}
 use Rattle.arm.specs.Pages.{pageOf}
 use Rattle.arm.specs.Choices.{badStart, armOf, armStep}
@@ -78,14 +80,13 @@ top-is w m h = ltb-false (2 ^ 64) (w .origin + length (m .memory)) (first _ _ _ 
 
 -- ---- answers 2 to 4
 
-chosen-is : (x y : Step Machine) (member wrong loose : Bool) → (member ≡ true → wrong ≡ false → loose ≡ false → x ≡ y)
-    → let class = pick member (pick wrong Undefined (pick loose Unpredictable Done)) NotInSet in
-    pick (eqb (answerNumber class) 0) x (stopped class 0)
+after-class : (x y : Step Machine) (member wrong loose : Bool) → (member ≡ true → wrong ≡ false → loose ≡ false → x ≡ y)
+    → pick (not member) (stopped NotInSet 0) (pick wrong (stopped Undefined 0) (pick loose (stopped Unpredictable 0) x))
     ≡ pick (not member) (stopped NotInSet 0) (pick wrong (stopped Undefined 0) (pick loose (stopped Unpredictable 0) y))
-chosen-is x y false wrong loose f = refl
-chosen-is x y true true loose f = refl
-chosen-is x y true false true f = refl
-chosen-is x y true false false f = f refl refl refl
+after-class x y false wrong loose f = refl
+after-class x y true true loose f = refl
+after-class x y true false true f = refl
+after-class x y true false false f = f refl refl refl
 
 -- ---- the step
 
@@ -94,8 +95,9 @@ after-bad x y true f = refl
 after-bad x y false f = f refl
 
 pub step-as-arm : (w : Window) (word : ℕ) (m : Machine) → Real m → stepOf w word m ≡ armStep w word m
-unfolding stepOf wordStep armStep classOf
+unfolding wordStep accessStep armStep
 step-as-arm w word m r =
-    ap (λ (b : Bool). pick b (stopped BadWindow 0) (wordStep (w .origin) (admitOf w (length (m .memory))) word m)) (bad-is w m)
+    step-bad w word m
+    ∙ ap (λ (b : Bool). pick b (stopped BadWindow 0) (wordStep (w .origin) (admitOf w (length (m .memory))) word m)) (bad-is w m)
     ∙ after-bad _ _ (badStart w m)
-    (λ e. chosen-is _ _ (inSet word) (undefined word) (unpredictable word) (page-step w m (record { real = r; top = top-is w m e }) word))
+    (λ e. after-class _ _ (inSet word) (undefined word) (unpredictable word) (page-step w m (record { real = r; top = top-is w m e }) word))

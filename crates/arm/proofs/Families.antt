@@ -45,7 +45,7 @@ use Rattle.arm.specs.Choices.{marked, crosses, armOf}
 use Rattle.arm.proofs.Bits.{add-is, imm9-is, imm12-is, imm19-is, index-is, extended-is}
 use Rattle.arm.proofs.Places.{base-is, x-is}
 use Rattle.arm.proofs.Marks.{mark-is}
-use Rattle.arm.proofs.Steps.{Ready, Steps, same-block}
+use Rattle.arm.proofs.Steps.{Ready, Steps, hints-step, same-block}
 use Rattle.arm.proofs.Singles.{four, Form, one-load, extended-none, all-sizes}
 
 -- ---- what the tests of a word say
@@ -318,5 +318,5 @@ module _ (w : Window) (m : Machine) (r : Ready w m) (word : ℕ) where
       (λ e. literal-load 4 4 32 (λ v. v) (λ v h. extended-none 4 v) (omega arith) (omega arith) e)
       (λ e. literal-load 8 8 64 (λ v. v) (λ v h. extended-none 8 v) (omega arith) (omega arith) e)
       (λ e. literal-load 4 8 64 (SignExtend 32 64) (λ v. extended-is 3 8 v (omega arith)) (omega arith) (omega arith) e)
-      (λ e. rw e)
+      (λ e. hints-step w m LiteralRow word e)
       (field 31 30 word) size-lt e

@@ -4,29 +4,26 @@ use mathlib.Core.Path.{_≡_, refl}
 use mathlib.Core.Bool.{Bool, false}
 use mathlib.Core.List.{List, [], _∷_}
 use native.Mathlib.Omega.{arith}
-use lib.Dec.{ltb, eqb}
+use lib.Dec.{ltb}
 use lib.ListN.{length, getD, set, replicate, length-set}
 use lib.Seq.{sets}
 use Rattle.bits.specs.Bytes.{bytesOf, joined, spanOf}
 use Rattle.bits.proofs.Choices.{pick-by}
 use Rattle.bits.specs.Extension.{largest, extendedOf}
 use Rattle.memory.proofs.Spans.{room-64}
-use Rattle.instruction.specs.declared.answer.Answer.{Answer}
-use Rattle.instruction.specs.Answers.{answerNumber}
-use Rattle.decoder.specs.Decoding.{decodeOf, classOf}
+use Rattle.decoder.specs.Decoding.{decodeOf}
 use Rattle.access.specs.declared.transfer.Transfer.{Transfer}
 use Rattle.access.specs.declared.Access.{Access}
 use Rattle.access.specs.declared.Access.the-variants.{Nothing, Moves}
 use Rattle.access.proofs.Bounds.{Bounded, Within, bounded}
 use Rattle.plan.specs.declared.window.Window.{Window}
-use Rattle.plan.specs.declared.Plan.{Plan}
 use Rattle.plan.specs.Address.{sumOf, addressOf}
-use Rattle.plan.specs.Admission.{admitOf}
-use Rattle.plan.specs.Plans.{planOf}
+use Rattle.plan.proofs.Refusals.{each, first-by}
 use Rattle.access.specs.Accesses.{wordAccess}
 use Rattle.machine.specs.Rule.{moveRule}
 use Rattle.machine.specs.Machine.{Machine, operandsOf, effectOf}
-use Rattle.machine.specs.Step.{Step, stopped, moved, performOf, accessStep, wordStep, bad, stepOf, performed}
+use Rattle.machine.specs.Refusals.{refusals}
+use Rattle.machine.specs.Step.{Step, stopped, moved, performOf, stepOf, performed}
 use Rattle.machine.proofs.Extensions.{room}
 use Rattle.arm.specs.Real.{Real}
 use Rattle.arm.proofs.Places.{joined-lt}
@@ -80,20 +77,16 @@ module _ (m : Machine) (r : Real m) where
   RealStep (stopped answer address) = Unit {0}
   RealStep (moved n code address) = Real n
 
-  real-access : (origin : ℕ) (admit : Transfer → ℕ → Answer) (x : Access) → Within x → RealStep (accessStep origin admit x m)
-  unfolding planOf sumOf
-  real-access origin admit Nothing b = record { registers = r .registers; marks = r .marks; values = r .values; bytes = r .bytes }
-  real-access origin admit (Moves t a) b =
-      let o = operandsOf a m in
-      let effect = real-effect t b (a .written) (addressOf a o - origin) (sumOf a o) (omega arith) in
-      pick-by (λ (p : Plan). RealStep (performOf origin t a m p)) (o .tainted) (λ e. tt)
-      (λ e. pick-by (λ (p : Plan). RealStep (performOf origin t a m p)) (eqb (answerNumber (admit t (addressOf a o))) 0) (λ f. effect) (λ f. tt))
+  real-perform : (origin : ℕ) (x : Access) → Within x → RealStep (performOf origin x m)
+  unfolding sumOf
+  real-perform origin Nothing b = record { registers = r .registers; marks = r .marks; values = r .values; bytes = r .bytes }
+  real-perform origin (Moves t a) b = real-effect t b (a .written) (addressOf a (operandsOf a m) - origin) (sumOf a (operandsOf a m)) (omega arith)
 
   pub real-moved : (w : Window) (word : ℕ) → RealStep (stepOf w word m)
-  unfolding stepOf wordStep
+  unfolding stepOf
   real-moved w word =
-      let access = real-access (w .origin) (admitOf w (length (m .memory))) (wordAccess word) (bounded (decodeOf word .instruction)) in
-      pick-by RealStep (bad w m) (λ e. tt) (λ e. pick-by RealStep (eqb (answerNumber (classOf word)) 0) (λ f. access) (λ f. tt))
+      first-by RealStep stopped (performOf (w .origin) (wordAccess word) m) (refusals w word m) (each (λ e. tt) (refusals w word m))
+      (λ p. real-perform (w .origin) (wordAccess word) (bounded (decodeOf word .instruction)))
 
   performed-real : (s : Step Machine) → RealStep s → Real (performed m s .machine)
   performed-real (stopped answer address) h = r

@@ -30,7 +30,7 @@ use Rattle.arm.specs.Choices.{marked, crosses, armOf}
 use Rattle.arm.proofs.Bits.{zero-extend, extended-is}
 use Rattle.arm.proofs.Places.{x-is, set-x, set-base, mem-is, withMemory, set-mem, low-bytes, joined-lt}
 use Rattle.arm.proofs.Marks.{single, one-marks}
-use Rattle.arm.proofs.Steps.{Ready, Steps, loads-step, stores-step}
+use Rattle.arm.proofs.Steps.{Ready, Steps, hints-step, loads-step, stores-step}
 
 -- a fact of each number of two bits
 pub four : (P : ℕ → Type 0) → P 0 → P 1 → P 2 → P 3 → (k : ℕ) → k < 4 → P k
@@ -225,5 +225,5 @@ module _ (w : Window) (m : Machine) (r : Ready w m) (l : Row) (word : ℕ) (a : 
           four (Paged 3)
           (λ p q e. one-store 8 8 (omega arith) (omega arith) e)
           (λ p q e. one-load 8 8 64 (Extend false 64 64) (omega arith) (omega arith) (zeros 8 64) e)
-          (λ p q e. rw e)
+          (λ p q e. hints-step w m l word e)
           (λ p q e. absurd (q refl))

@@ -1,5 +1,5 @@
 -- The step of one access is that of a page, from a record of what the two agree on (`Agreed`): the tests by cases, then the
--- effect. `loads-step` and `stores-step` are what the families use. Assumes nothing.
+-- effect. `hints-step`, `loads-step` and `stores-step` are what the families use. Assumes nothing.
 use Prim.Native.Nat.{ℕ, _+_, _-_, _/_, _%_, _^_, _≤_, _<_}
 use mathlib.Core.Path.{_≡_, refl, ap, _∙_}
 use mathlib.Core.Bool.{Bool, true, false, _&&_, not}
@@ -9,22 +9,21 @@ use lib.ListN.{length}
 use borrow.Author.Tests.{ltb-true, ltb-false, lt-ltb, le-ltb, leb-true, leb-false, eqb-true, eqb-false, not-false}
 use Rattle.bits.specs.Choice.{pick}
 use Rattle.bits.proofs.Choices.{both}
-use Rattle.instruction.specs.declared.answer.Answer.the-variants.{Done, TaintedAddress, Misaligned, OutOfWindow, ReadOnly}
+use Rattle.instruction.specs.declared.answer.Answer.the-variants.{TaintedAddress, Misaligned, OutOfWindow, ReadOnly}
 use Rattle.instruction.specs.declared.row.Row.{Row}
 use Rattle.access.specs.declared.transfer.Transfer.{Transfer}
 use Rattle.access.specs.declared.addressing.Addressing.{Addressing}
-use Rattle.access.specs.declared.Access.the-variants.{Moves}
+use Rattle.access.specs.declared.Access.the-variants.{Nothing, Moves}
 use Rattle.plan.specs.declared.window.Window.{Window}
-use Rattle.plan.specs.declared.Plan.the-variants.{Refuse}
 use Rattle.plan.specs.Address.{sumOf, addressOf}
 use Rattle.plan.specs.Admission.{totalOf, misaligned, outside, guarded, admitOf}
-use Rattle.plan.specs.Plans.{admitted, planOf}
 use Rattle.plan.proofs.Tests.{same-test}
 use Rattle.access.specs.Accesses.{wordAccess}
 use Rattle.machine.specs.Rule.{moveRule}
 use Rattle.machine.specs.Machine.{Machine, operandsOf, basedValues, loadedValues, storedBytes, effectOf, codeOf}
-use Rattle.machine.specs.Step.{Step, stopped, moved, performOf, accessStep}
-use Rattle.arm.specs.Pseudocode.{Arm, Operation, loads, stores}
+use Rattle.machine.specs.Step.{Step, stopped, moved}
+use Rattle.machine.specs.route.Parts.{accessStep}
+use Rattle.arm.specs.Pseudocode.{Arm, Operation, hint, loads, stores}
 use Rattle.arm.specs.Marks.{marksOf}
 use Rattle.arm.specs.Pages.{pageOf}
 use Rattle.arm.specs.Choices.{marked, crosses, outOf, shut, afterPage, chosen}
@@ -83,20 +82,20 @@ same-block a n h k = go (ltb 16 (a % 16 + n)) refl (eqb (a / 16) ((a + n - 1) / 
 
 -- ---- the plan
 
-module _ (origin : ℕ) (t : Transfer) (a : Addressing) (m n : Machine) (x s : ℕ) where
-  planned : (tainted across out guard test : Bool) → (out ≡ false → guard ≡ test) → (out ≡ false → effectOf t (a .written) (x - origin) s m ≡ n)
-      → let answer = pick across Misaligned (pick out OutOfWindow (pick guard ReadOnly Done)) in
-      performOf origin t a m (pick tainted (Refuse TaintedAddress 0) (admitted answer x s))
-      ≡ pick tainted (stopped TaintedAddress 0)
-      (pick across (stopped Misaligned x)
-      (pick out (stopped OutOfWindow x)
-      (pick test (stopped ReadOnly x)
-      (moved n (codeOf t) x))))
-  planned true across out guard test g f = refl
-  planned false true out guard test g f = refl
-  planned false false true guard test g f = refl
-  planned false false false true test g f = rw (← g refl)
-  planned false false false false test g f = rw (← g refl, f refl)
+-- the tests of an access before what it comes to
+abbrev tested : Bool → Bool → Bool → Bool → ℕ → ℕ → Machine → Step Machine
+tested tainted across out guard x code n =
+    pick tainted (stopped TaintedAddress 0)
+    (pick across (stopped Misaligned x)
+    (pick out (stopped OutOfWindow x)
+    (pick guard (stopped ReadOnly x)
+    (moved n code x))))
+
+planned : (x code : ℕ) (m n : Machine) (tainted across out guard test : Bool) → (out ≡ false → guard ≡ test) → (out ≡ false → m ≡ n) → tested tainted across out guard x code m ≡ tested tainted across out test x code n
+planned x code m n true across out guard test g f = refl
+planned x code m n false true out guard test g f = refl
+planned x code m n false false true guard test g f = refl
+planned x code m n false false false guard test g f = rw (g refl, f refl)
 
 same-plan : (F : Bool → Bool → Bool → ℕ → Step Machine) {p p′ q q′ r r′ : Bool} {x x′ : ℕ} → p ≡ p′ → q ≡ q′ → r ≡ r′ → x ≡ x′
     → F p q r x ≡ F p′ q′ r′ x′
@@ -105,6 +104,10 @@ same-plan F e f g h = rw (e, f, g, h)
 -- the step of a word is that of its page
 abbrev pub Steps : Window → Machine → Row → ℕ → Operation → Type 0
 Steps w m l word o = accessStep (w .origin) (admitOf w (length (m .memory))) (wordAccess word) m ≡ chosen w word m (pageOf l word) o
+
+pub hints-step : (w : Window) (m : Machine) (l : Row) (word : ℕ) → wordAccess word ≡ Nothing → Steps w m l word hint
+unfolding accessStep
+hints-step w m l word e = rw e
 
 -- what an access and a page agree on
 pub record Agreed (w : Window) (m : Machine) (l : Row) (word : ℕ) (t : Transfer) (a : Addressing) (address size : ℕ) (after : Arm) : Type 0 where
@@ -152,22 +155,13 @@ module _ (w : Window) (m : Machine) (top : w .origin + length (m .memory) ≤ 2 
       ∙ out-is w m address size
 
   step : accessStep (w .origin) (admitOf w (length (m .memory))) (wordAccess word) m
-      ≡ pick (marked (pageOf l word) word m) (stopped TaintedAddress 0)
-      (pick (crosses (pageOf l word) address size) (stopped Misaligned address)
-      (pick o (stopped OutOfWindow address)
-      (pick (shut w (t .store) address) (stopped ReadOnly address)
-      (moved left (codeOf t) address))))
-  unfolding planOf admitOf
+      ≡ tested (marked (pageOf l word) word m) (crosses (pageOf l word) address size) o (shut w (t .store) address) address (codeOf t) left
+  unfolding accessStep admitOf
   step =
       let next = sumOf a (operandsOf a m) in
       ap (λ x. accessStep (w .origin) (admitOf w (length (m .memory))) x m) (g .access)
-      ∙ same-plan
-      (λ tainted across out x.
-      performOf (w .origin) t a m
-      (pick tainted (Refuse TaintedAddress 0)
-      (admitted (pick across Misaligned (pick out OutOfWindow (pick (guarded (t .store) x w) ReadOnly Done))) x next)))
-      (g .mark) across out (g .first)
-      ∙ planned (w .origin) t a m left address next (marked (pageOf l word) word m) (crosses (pageOf l word) address size) o
+      ∙ same-plan (λ tainted across out x. tested tainted across out (guarded (t .store) x w) x (codeOf t) (effectOf t (a .written) (x - w .origin) next m)) (g .mark) across out (g .first)
+      ∙ planned address (codeOf t) (effectOf t (a .written) (address - w .origin) next m) left (marked (pageOf l word) word m) (crosses (pageOf l word) address size) o
       (guarded (t .store) address w) (shut w (t .store) address) guard effect
 
   pub loads-step : t .store ≡ false → Steps w m l word (loads address size after)

@@ -3,24 +3,18 @@ use Prim.Native.Nat.{ℕ}
 use mathlib.Core.Path.{_≡_, refl, ap}
 use mathlib.Core.Bool.{Bool}
 use mathlib.Core.List.{List}
-use lib.Dec.{eqb}
 use lib.ListN.{length, length-set}
 use Rattle.bits.proofs.Choices.{pick-by}
-use Rattle.instruction.specs.Answers.{answerNumber}
-use Rattle.decoder.specs.Decoding.{classOf}
 use Rattle.access.specs.declared.transfer.Transfer.{Transfer}
-use Rattle.access.specs.declared.addressing.Addressing.{Addressing}
 use Rattle.access.specs.declared.Access.{Access}
 use Rattle.access.specs.declared.Access.the-variants.{Nothing, Moves}
 use Rattle.plan.specs.declared.window.Window.{Window}
-use Rattle.plan.specs.declared.Plan.{Plan}
-use Rattle.plan.specs.declared.Plan.the-variants.{Refuse, Touch}
-use Rattle.plan.specs.Admission.{admitOf}
-use Rattle.plan.specs.Plans.{planOf}
+use Rattle.plan.proofs.Refusals.{each, first-by}
 use Rattle.access.specs.Accesses.{wordAccess}
 use Rattle.machine.specs.Rule.{moveRule}
-use Rattle.machine.specs.Machine.{Machine, operandsOf, effectOf}
-use Rattle.machine.specs.Step.{Step, performOf, accessStep, wordStep, bad, stepOf}
+use Rattle.machine.specs.Machine.{Machine, effectOf}
+use Rattle.machine.specs.Refusals.{bad, refusals}
+use Rattle.machine.specs.Step.{Step, stopped, performOf, stepOf}
 use Rattle.machine.proofs.Taints.{Follows}
 use Rattle.execution.specs.Run.{machineRun}
 use Rattle.execution.proofs.Walks.{run-leaves}
@@ -40,17 +34,14 @@ module _ (w : Window) (m : Machine) where
   abbrev Kept : Step Machine → Type 0
   Kept s = Follows sizes (λ a b. b) m s
 
-  perform-keeps : (t : Transfer) (a : Addressing) (p : Plan) → Kept (performOf (w .origin) t a m p)
-  perform-keeps t a (Refuse answer address) = tt
-  perform-keeps t a (Touch address next) = effect-keeps t (a .written) _ next m
-
-  access-keeps : (x : Access) → Kept (accessStep (w .origin) (admitOf w (length (m .memory))) x m)
-  access-keeps Nothing = refl
-  access-keeps (Moves t a) = perform-keeps t a (planOf (admitOf w (length (m .memory))) t a (operandsOf a m))
+  perform-keeps : (x : Access) → Kept (performOf (w .origin) x m)
+  perform-keeps Nothing = refl
+  perform-keeps (Moves t a) = effect-keeps t (a .written) _ _ m
 
   step-keeps : (word : ℕ) → Kept (stepOf w word m)
-  unfolding stepOf wordStep
-  step-keeps word = pick-by Kept (bad w m) (λ e. tt) (λ e. pick-by Kept (eqb (answerNumber (classOf word)) 0) (λ d. access-keeps (wordAccess word)) (λ d. tt))
+  unfolding stepOf
+  step-keeps word =
+      first-by Kept stopped (performOf (w .origin) (wordAccess word) m) (refusals w word m) (each (λ e. tt) (refusals w word m)) (λ p. perform-keeps (wordAccess word))
 
 module _ (w : Window) (words : List ℕ) (m : Machine) (trace : List ℕ) where
   kept : sizes (machineRun w words m trace .machine) ≡ sizes m

@@ -1,5 +1,5 @@
 -- Answers 1 and 10 are given before the first step alone, and then nothing is changed. Assumes nothing.
-use Prim.Native.Nat.{ℕ, suc, _+_, _*_, _%_, _^_, _≤_, _<_}
+use Prim.Native.Nat.{ℕ, _+_, _*_, _%_, _^_, _<_}
 use mathlib.Core.Path.{_≡_, refl, ap}
 use mathlib.Core.Bool.{Bool, true, false, not}
 use mathlib.Core.List.{List, [], _∷_}
@@ -10,52 +10,44 @@ use lib.Dec.{ltb, eqb}
 use lib.ListN.{length}
 use lib.Seq.{length-sets}
 use Rattle.bits.specs.Choice.{pick}
-use Rattle.bits.proofs.Choices.{pick-by}
 use Rattle.instruction.specs.declared.answer.Answer.{Answer}
+use Rattle.instruction.specs.declared.answer.Answer.the-variants.{Done}
 use Rattle.instruction.specs.Answers.{answerNumber}
-use Rattle.instruction.specs.Table.{inSet, undefined, unpredictable}
-use Rattle.decoder.specs.Decoding.{classOf}
 use Rattle.access.specs.declared.transfer.Transfer.{Transfer}
-use Rattle.access.specs.declared.addressing.Addressing.{Addressing}
 use Rattle.access.specs.declared.Access.{Access}
 use Rattle.access.specs.declared.Access.the-variants.{Nothing, Moves}
 use Rattle.plan.specs.declared.window.Window.{Window}
-use Rattle.plan.specs.declared.Plan.{Plan}
-use Rattle.plan.specs.declared.Plan.the-variants.{Refuse, Touch}
 use Rattle.plan.specs.Window.{badWindow}
 use Rattle.plan.specs.Admission.{admitOf}
-use Rattle.plan.specs.Plans.{planOf}
+use Rattle.plan.proofs.Refusals.{each, each-map, first-by}
 use Rattle.access.specs.Accesses.{wordAccess}
 use Rattle.machine.specs.Rule.{moveRule, storedTaints}
-use Rattle.machine.specs.Machine.{Machine, operandsOf, nextPc, storedBytes, effectOf}
-use Rattle.machine.specs.Step.{Step, stopped, moved, performOf, accessStep, wordStep, bad, stepOf, performed}
-use Rattle.machine.specs.Tests.{accessTests, lowest}
-use Rattle.machine.proofs.Answers.{answers-exact}
+use Rattle.machine.specs.Machine.{Machine, nextPc, storedBytes, effectOf}
+use Rattle.machine.specs.Refusals.{bad, wordRefusals, refusals}
+use Rattle.machine.specs.Step.{Step, stopped, moved, performOf, stepOf, performed}
+use Rattle.machine.proofs.Answers.{answers-exact, Later, word-later}
 use Rattle.execution.specs.Walk.{Walked, goOn, walkOf, notBegun, runOf}
 use Rattle.execution.specs.Ends.{Early}
 use Rattle.execution.specs.Run.{machineRun}
 
 -- ---- a step in a window that is not bad answers neither
 
--- of tests from n on, below 10, none holds, or one does and gives its number
-lowest-other : (n : ℕ) (ts : List Bool) → 1 < n → n + length ts ≤ 10 → ¬ Early (lowest n ts)
-lowest-other n [] l h (inl e) = omega arith
-lowest-other n [] l h (inr e) = omega arith
-lowest-other n (true ∷ ts) l h (inl e) = omega arith
-lowest-other n (true ∷ ts) l h (inr e) = omega arith
-lowest-other n (false ∷ ts) l h e = lowest-other (suc n) ts (omega arith) (omega arith) e
-
-at-most-four : (w : Window) (x : Access) (m : Machine) → length (accessTests w x m) ≤ 4
-at-most-four w Nothing m = omega arith
-at-most-four w (Moves t a) m = omega arith
-
 abbrev Begun : Answer → Type 0
 Begun answer = ¬ Early (answerNumber answer)
 
+not-early : (n : ℕ) → 1 < n → n < 9 → ¬ Early n
+not-early n l h (inl e) = omega arith
+not-early n l h (inr e) = omega arith
+
+done-begun : Begun Done
+done-begun (inl e) = omega arith
+done-begun (inr e) = omega arith
+
 step-begun : (w : Window) (word : ℕ) (m : Machine) → bad w m ≡ false → Begun (performed m (stepOf w word m) .answer)
 step-begun w word m e =
-    let further = not (inSet word) ∷ undefined word ∷ unpredictable word ∷ accessTests w (wordAccess word) m in
-    rw (answers-exact w word m, e) (lowest-other 2 further (omega arith) (omega (arith, at-most-four w (wordAccess word) m)))
+    let further = wordRefusals (admitOf w (length (m .memory))) word m in
+    rw (answers-exact w word m, e)
+    (first-by Begun (λ answer address. answer) Done further (each-map {P = Later} {Q = λ e. Begun (e .answer)} (λ e l. not-early (answerNumber (e .answer)) (l .0) (l .1)) further (word-later w word m)) (λ p. done-begun))
 
 -- ---- a window that is not bad stays so: lengths are kept, and pc stays a multiple of 4
 
@@ -93,17 +85,14 @@ Stays w (stopped answer address) = Unit {0}
 Stays w (moved n code address) = bad w n ≡ false
 
 module _ (w : Window) (m : Machine) (e : bad w m ≡ false) where
-  perform-stays : (t : Transfer) (a : Addressing) (p : Plan) → Stays w (performOf (w .origin) t a m p)
-  perform-stays t a (Refuse answer address) = tt
-  perform-stays t a (Touch address next) = effect-good w t (a .written) _ next m e
-
-  access-stays : (x : Access) → Stays w (accessStep (w .origin) (admitOf w (length (m .memory))) x m)
-  access-stays Nothing = good-next w (length (m .memory)) (length (m .taints .bytes)) (m .pc) e
-  access-stays (Moves t a) = perform-stays t a (planOf (admitOf w (length (m .memory))) t a (operandsOf a m))
+  perform-stays : (x : Access) → Stays w (performOf (w .origin) x m)
+  perform-stays Nothing = good-next w (length (m .memory)) (length (m .taints .bytes)) (m .pc) e
+  perform-stays (Moves t a) = effect-good w t (a .written) _ _ m e
 
   step-stays : (word : ℕ) → Stays w (stepOf w word m)
-  unfolding stepOf wordStep
-  step-stays word = rw e (pick-by (Stays w) (eqb (answerNumber (classOf word)) 0) (λ d. access-stays (wordAccess word)) (λ d. tt))
+  unfolding stepOf
+  step-stays word =
+      first-by (Stays w) stopped (performOf (w .origin) (wordAccess word) m) (refusals w word m) (each (λ e. tt) (refusals w word m)) (λ p. perform-stays (wordAccess word))
 
 -- ---- the walk and the run
 
@@ -115,8 +104,7 @@ module _ (w : Window) where
 
   walk-begun : (ws : List ℕ) (m : Machine) (c a : ℕ) → bad w m ≡ false → Begun (walkOf (stepOf w) ws m c a .answer)
   unfolding walkOf
-  walk-begun [] m c a e (inl h) = omega arith
-  walk-begun [] m c a e (inr h) = omega arith
+  walk-begun [] m c a e h = done-begun h
   walk-begun (word ∷ ws) m c a e h = go-begun m (walkOf (stepOf w) ws) (walk-begun ws) (stepOf w word m) (step-begun w word m e) (step-stays w m e word) h
 
   module _ (ws : List ℕ) (m : Machine) (trace : List ℕ) where

@@ -12,7 +12,8 @@ use Rattle.plan.specs.declared.window.Window.{Window}
 use Rattle.plan.proofs.Tests.{same-lengths}
 use Rattle.machine.specs.Rule.{Taints, wordRule}
 use Rattle.machine.specs.Machine.{Machine}
-use Rattle.machine.specs.Step.{Step, stopped, moved, bad, stepOf}
+use Rattle.machine.specs.Refusals.{bad}
+use Rattle.machine.specs.Step.{Step, stopped, moved, stepOf}
 use Rattle.machine.proofs.Taints.{taintsIn, taints-by-rule}
 use Rattle.secrecy.specs.Agree.{Shows}
 use Rattle.secrecy.specs.route.Alike.{Alike}

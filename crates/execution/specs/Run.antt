@@ -3,7 +3,8 @@ use Prim.Native.Nat.{ℕ}
 use mathlib.Core.List.{List}
 use Rattle.plan.specs.declared.window.Window.{Window}
 use Rattle.machine.specs.Machine.{Machine, machineOf}
-use Rattle.machine.specs.Step.{bad, stepOf}
+use Rattle.machine.specs.Refusals.{bad}
+use Rattle.machine.specs.Step.{stepOf}
 use Rattle.execution.specs.Walk.{Result, runOf}
 use Rattle.execution.specs.declared.Ran.{Ran}
 

@@ -1,15 +1,15 @@
 -- What a step answers, and that a refused one changes nothing. Assumes nothing.
-use Prim.Native.Nat.{ℕ}
-use mathlib.Core.Path.{_≡_, refl, sym, ap}
+use Prim.Native.Nat.{ℕ, _<_}
+use mathlib.Core.Path.{_≡_, refl, sym, ap, _∙_}
 use mathlib.Core.Bool.{Bool, true, false, not}
+use mathlib.Core.List.{List, _∷_}
+use mathlib.Core.Logic.{_↔_}
 use native.Mathlib.Omega.{arith}
 use lib.Dec.{eqb}
 use lib.ListN.{length}
-use borrow.Author.Tests.{eqb-false}
 use Rattle.bits.specs.Choice.{pick}
-use Rattle.bits.proofs.Choices.{pick-by}
 use Rattle.instruction.specs.declared.answer.Answer.{Answer}
-use Rattle.instruction.specs.declared.answer.Answer.the-variants.{Done, BadWindow, NotInSet, Undefined, Unpredictable, TaintedAddress, Misaligned, OutOfWindow, ReadOnly}
+use Rattle.instruction.specs.declared.answer.Answer.the-variants.{Done, BadWindow, NotInSet, Undefined, Unpredictable, TaintedAddress}
 use Rattle.instruction.specs.Answers.{answerNumber}
 use Rattle.instruction.specs.Table.{inSet, undefined, unpredictable}
 use Rattle.decoder.specs.Decoding.{classOf}
@@ -17,16 +17,18 @@ use Rattle.access.specs.declared.transfer.Transfer.{Transfer}
 use Rattle.access.specs.declared.addressing.Addressing.{Addressing}
 use Rattle.access.specs.declared.Access.{Access}
 use Rattle.access.specs.declared.Access.the-variants.{Nothing, Moves}
+use Rattle.access.specs.Accesses.{wordAccess}
 use Rattle.plan.specs.declared.window.Window.{Window}
 use Rattle.plan.specs.declared.Plan.the-variants.{Refuse, Touch}
 use Rattle.plan.specs.Address.{sumOf, addressOf}
-use Rattle.plan.specs.Admission.{totalOf, misaligned, outside, guarded, admitOf}
-use Rattle.plan.specs.Plans.{planOf}
-use Rattle.plan.proofs.Tests.{plan-tainted}
-use Rattle.access.specs.Accesses.{wordAccess}
+use Rattle.plan.specs.Refusals.{Refusal, firstOf, answerIn, Given}
+use Rattle.plan.specs.Admission.{admitOf}
+use Rattle.plan.specs.Plans.{refusalsOf, planOf}
+use Rattle.plan.proofs.Refusals.{Each, each-map, first-by, first-map, given}
 use Rattle.machine.specs.Machine.{Machine, operandsOf}
-use Rattle.machine.specs.Step.{Step, stopped, moved, performOf, accessStep, wordStep, bad, stepOf, performed}
-use Rattle.machine.specs.Tests.{accessTests, tests, lowest}
+use Rattle.machine.specs.Refusals.{bad, accessRefusals, wordRefusals, refusals}
+use Rattle.machine.specs.Step.{Step, stopped, moved, performOf, stepOf, performed}
+use Rattle.machine.specs.route.Parts.{wordStep, accessStep, planStep}
 
 unchanged : (m : Machine) (s : Step Machine) → ¬ (answerNumber (performed m s .answer) ≡ 0) → performed m s .machine ≡ m
 unchanged m (stopped answer address) h = refl
@@ -36,56 +38,60 @@ unchanged m (moved n code address) h = absurd (h refl)
 pub refused-unchanged : (w : Window) (word : ℕ) (m : Machine) → ¬ (answerNumber (performed m (stepOf w word m) .answer) ≡ 0) → performed m (stepOf w word m) .machine ≡ m
 refused-unchanged w word m h = unchanged m (stepOf w word m) h
 
--- a plan's answer, by its four tests
-plan-answer : (origin : ℕ) (t : Transfer) (a : Addressing) (m : Machine) (x s : ℕ) (tainted unaligned far shut : Bool)
-    → let admit = pick unaligned Misaligned (pick far OutOfWindow (pick shut ReadOnly Done)) in
-    answerNumber (performed m (performOf origin t a m (pick tainted (Refuse TaintedAddress 0) (pick (eqb (answerNumber admit) 0) (Touch x s) (Refuse admit x)))) .answer)
-    ≡ pick tainted 5 (pick unaligned 6 (pick far 7 (pick shut 8 0)))
-plan-answer origin t a m x s true unaligned far shut = refl
-plan-answer origin t a m x s false true far shut = refl
-plan-answer origin t a m x s false false true shut = refl
-plan-answer origin t a m x s false false false true = refl
-plan-answer origin t a m x s false false false false = refl
+-- an access that is not refused is done
+performs : (origin : ℕ) (x : Access) (m : Machine) → performed m (performOf origin x m) .answer ≡ Done
+performs origin Nothing m = refl
+performs origin (Moves t a) m = refl
 
-access-answer : (w : Window) (x : Access) (m : Machine) → answerNumber (performed m (accessStep (w .origin) (admitOf w (length (m .memory))) x m) .answer) ≡ lowest 5 (accessTests w x m)
-unfolding planOf admitOf
-access-answer w Nothing m = refl
-access-answer w (Moves t a) m =
-    let o = operandsOf a m in
-    let x = addressOf a o in
-    plan-answer (w .origin) t a m x (sumOf a o) (o .tainted) (misaligned (t .ordered) (totalOf t) x) (outside (totalOf t) x (w .origin) (length (m .memory))) (guarded (t .store) x w)
-
--- a word's answer, by its three tests, before the access
-word-answer : (m : Machine) (s : Step Machine) (n : ℕ) (member wrong loose : Bool) → answerNumber (performed m s .answer) ≡ n
-    → let class = pick member (pick wrong Undefined (pick loose Unpredictable Done)) NotInSet in
-    answerNumber (performed m (pick (eqb (answerNumber class) 0) s (stopped class 0)) .answer) ≡ pick (not member) 2 (pick wrong 3 (pick loose 4 n))
-word-answer m s n false wrong loose e = refl
-word-answer m s n true true loose e = refl
-word-answer m s n true false true e = refl
-word-answer m s n true false false e = e
-
-window-answer : (m : Machine) (s : Step Machine) (n : ℕ) (bad : Bool) → answerNumber (performed m s .answer) ≡ n → answerNumber (performed m (pick bad (stopped BadWindow 0) s) .answer) ≡ pick bad 1 n
-window-answer m s n true e = refl
-window-answer m s n false e = e
-
--- each answer is given exactly when 01's table says: the lowest-numbered of 1 to 8, and 0 where none holds
-pub answers-exact : (w : Window) (word : ℕ) (m : Machine) → answerNumber (performed m (stepOf w word m) .answer) ≡ lowest 1 (tests w word m)
-unfolding stepOf wordStep classOf
+-- a step answers by the first of its refusals that holds, and 0 where none does
+pub answers-exact : (w : Window) (word : ℕ) (m : Machine) → performed m (stepOf w word m) .answer ≡ answerIn (refusals w word m)
+unfolding stepOf
 answers-exact w word m =
-    window-answer m (wordStep (w .origin) (admitOf w (length (m .memory))) word m) _ (bad w m)
-    (word-answer m (accessStep (w .origin) (admitOf w (length (m .memory))) (wordAccess word) m) _ (inSet word) (undefined word) (unpredictable word) (access-answer w (wordAccess word) m))
+    first-map (λ (s : Step Machine). performed m s .answer) stopped (performOf (w .origin) (wordAccess word) m) (refusals w word m)
+    ∙ ap (λ (d : Answer). firstOf (λ answer address. answer) d (refusals w word m)) (performs (w .origin) (wordAccess word) m)
+
+-- a number of 1 to 8 is answered exactly if its test holds and none before it
+pub answers-given : (w : Window) (word : ℕ) (m : Machine) (n : ℕ) → ¬ (n ≡ 0) → (answerNumber (performed m (stepOf w word m) .answer) ≡ n) ↔ Given n (refusals w word m)
+answers-given w word m n z = rw (answers-exact w word m) (given n z (refusals w word m))
+
+-- ---- the tests of the deciding half
+
+pub step-bad : (w : Window) (word : ℕ) (m : Machine) → stepOf w word m ≡ pick (bad w m) (stopped BadWindow 0) (wordStep (w .origin) (admitOf w (length (m .memory))) word m)
+unfolding stepOf wordStep
+step-bad w word m = refl
+
+class-at : {A : Type 0} (refuse : Answer → ℕ → A) (x : A) (member wrong loose : Bool) → let class = pick member (pick wrong Undefined (pick loose Unpredictable Done)) NotInSet in
+    pick (not member) (refuse NotInSet 0) (pick wrong (refuse Undefined 0) (pick loose (refuse Unpredictable 0) x)) ≡ pick (eqb (answerNumber class) 0) x (refuse class 0)
+class-at refuse x false wrong loose = refl
+class-at refuse x true true loose = refl
+class-at refuse x true false true = refl
+class-at refuse x true false false = refl
+
+-- 2, 3 and 4 are what a word is classified as
+pub step-class : (origin : ℕ) (admit : Transfer → ℕ → List Refusal) (word : ℕ) (m : Machine)
+    → wordStep origin admit word m ≡ pick (eqb (answerNumber (classOf word)) 0) (accessStep origin admit (wordAccess word) m) (stopped (classOf word) 0)
+unfolding wordStep accessStep classOf
+step-class origin admit word m = class-at stopped (accessStep origin admit (wordAccess word) m) (inSet word) (undefined word) (unpredictable word)
+
+-- an access is what is planned
+pub step-planned : (origin : ℕ) (admit : Transfer → ℕ → List Refusal) (t : Transfer) (a : Addressing) (m : Machine)
+    → accessStep origin admit (Moves t a) m ≡ planStep origin t a m (planOf admit t a (operandsOf a m))
+unfolding accessStep planOf
+step-planned origin admit t a m =
+    let o = operandsOf a m in
+    sym (first-map (planStep origin t a m) Refuse (Touch (addressOf a o) (sumOf a o)) (refusalsOf admit t a o))
+
+-- ---- what is never done
 
 -- a base or an index that is tainted is never used for an access; a lower answer comes first
 pub tainted-refused : (w : Window) (word : ℕ) (m : Machine) (t : Transfer) (a : Addressing) → wordAccess word ≡ Moves t a → operandsOf a m .tainted ≡ true
     → stepOf w word m ≡ stopped (pick (bad w m) BadWindow (pick (eqb (answerNumber (classOf word)) 0) TaintedAddress (classOf word))) 0
-unfolding stepOf wordStep
+unfolding accessStep
 tainted-refused w word m t a e h =
-    let refused : accessStep (w .origin) (admitOf w (length (m .memory))) (wordAccess word) m ≡ stopped TaintedAddress 0 = rw e (tainted-plan (admitOf w (length (m .memory)))) in
-    rw refused (stopped-first (bad w m) (eqb (answerNumber (classOf word)) 0))
+    let admit = admitOf w (length (m .memory)) in
+    let refused : accessStep (w .origin) admit (wordAccess word) m ≡ stopped TaintedAddress 0 = rw (e, h) in
+    rw (step-bad w word m, step-class (w .origin) admit word m, refused) (stopped-first (bad w m) (eqb (answerNumber (classOf word)) 0))
   where
-    tainted-plan : (admit : Transfer → ℕ → Answer) → performOf (w .origin) t a m (planOf admit t a (operandsOf a m)) ≡ stopped TaintedAddress 0
-    tainted-plan admit = ap (performOf (w .origin) t a m) (sym (plan-tainted admit t a (operandsOf a m) h))
-
     stopped-first : (bad done : Bool) → _≡_ {A = Step Machine} (pick bad (stopped BadWindow 0) (pick done (stopped TaintedAddress 0) (stopped (classOf word) 0))) (stopped (pick bad BadWindow (pick done TaintedAddress (classOf word))) 0)
     stopped-first true done = refl
     stopped-first false true = refl
@@ -96,21 +102,25 @@ abbrev pub Refuses : {A : Type 0} → Step A → Type 0
 Refuses (stopped answer address) = ¬ (answerNumber answer ≡ 0)
 Refuses (moved n code address) = Unit {0}
 
-plan-refuses : (origin : ℕ) (t : Transfer) (a : Addressing) (m : Machine) (tainted done : Bool) (x s : ℕ) (answer : Answer) → eqb (answerNumber answer) 0 ≡ done
-    → Refuses (performOf origin t a m (pick tainted (Refuse TaintedAddress 0) (pick done (Touch x s) (Refuse answer x))))
-plan-refuses origin t a m true done x s answer e = λ h. omega arith
-plan-refuses origin t a m false true x s answer e = tt
-plan-refuses origin t a m false false x s answer e = eqb-false (answerNumber answer) 0 e
+-- behind the window's, refusals have the numbers 2 to 8
+abbrev pub Later : Refusal → Type 0
+Later e = (1 < answerNumber (e .answer)) × (answerNumber (e .answer) < 9)
 
-access-refuses : (origin : ℕ) (admit : Transfer → ℕ → Answer) (x : Access) (m : Machine) → Refuses (accessStep origin admit x m)
-unfolding planOf
-access-refuses origin admit Nothing m = tt
-access-refuses origin admit (Moves t a) m =
-    let o = operandsOf a m in
-    plan-refuses origin t a m (o .tainted) (eqb (answerNumber (admit t (addressOf a o))) 0) (addressOf a o) (sumOf a o) (admit t (addressOf a o)) refl
+access-later : (w : Window) (x : Access) (m : Machine) → Each Later (accessRefusals (admitOf w (length (m .memory))) x m)
+unfolding admitOf
+access-later w Nothing m = tt
+access-later w (Moves t a) m = ((omega arith, omega arith), ((omega arith, omega arith), ((omega arith, omega arith), ((omega arith, omega arith), tt))))
+
+pub word-later : (w : Window) (word : ℕ) (m : Machine) → Each Later (wordRefusals (admitOf w (length (m .memory))) word m)
+word-later w word m = ((omega arith, omega arith), ((omega arith, omega arith), ((omega arith, omega arith), access-later w (wordAccess word) m)))
 
 pub step-refuses : (w : Window) (word : ℕ) (m : Machine) → Refuses (stepOf w word m)
-unfolding stepOf wordStep
+unfolding stepOf
 step-refuses w word m =
-    pick-by Refuses (bad w m) (λ e h. omega arith)
-    (λ e. pick-by Refuses (eqb (answerNumber (classOf word)) 0) (λ d. access-refuses (w .origin) (admitOf w (length (m .memory))) (wordAccess word) m) (λ d. eqb-false (answerNumber (classOf word)) 0 d))
+    first-by Refuses stopped (performOf (w .origin) (wordAccess word) m) (refusals w word m)
+    ((λ h. omega arith), each-map {P = Later} {Q = λ e. ¬ (answerNumber (e .answer) ≡ 0)} (λ e later h. omega (arith, later .0)) (wordRefusals (admitOf w (length (m .memory))) word m) (word-later w word m))
+    (λ p. moves (w .origin) (wordAccess word) m)
+  where
+    moves : (origin : ℕ) (x : Access) (m : Machine) → Refuses (performOf origin x m)
+    moves origin Nothing m = tt
+    moves origin (Moves t a) m = tt

@@ -5,27 +5,20 @@ use mathlib.Core.Bool.{Bool, false}
 use mathlib.Core.List.{List, [], _∷_}
 use mathlib.Core.Logic.{_⊎_, inl, inr}
 use native.Mathlib.Omega.{arith}
-use lib.Dec.{eqb}
 use lib.ListN.{length, getD, set, replicate, length-replicate}
 use lib.Seq.{sets, getD-set-same, getD-set-other}
 use Rattle.bits.proofs.Choices.{pick-by}
-use Rattle.instruction.specs.declared.answer.Answer.{Answer}
-use Rattle.instruction.specs.Answers.{answerNumber}
-use Rattle.decoder.specs.Decoding.{classOf}
 use Rattle.memory.specs.Taints.{taintByte}
 use Rattle.access.specs.declared.transfer.Transfer.{Transfer}
-use Rattle.access.specs.declared.addressing.Addressing.{Addressing}
 use Rattle.access.specs.declared.Access.{Access}
 use Rattle.access.specs.declared.Access.the-variants.{Nothing, Moves}
 use Rattle.plan.specs.declared.window.Window.{Window}
-use Rattle.plan.specs.declared.Plan.{Plan}
-use Rattle.plan.specs.declared.Plan.the-variants.{Refuse, Touch}
-use Rattle.plan.specs.Admission.{admitOf}
-use Rattle.plan.specs.Plans.{planOf}
+use Rattle.plan.proofs.Refusals.{each, first-by}
 use Rattle.access.specs.Accesses.{wordAccess}
 use Rattle.machine.specs.Rule.{Taints, moveRule, ruleOf, wordRule}
-use Rattle.machine.specs.Machine.{Machine, operandsOf, effectOf}
-use Rattle.machine.specs.Step.{Step, stopped, moved, performOf, accessStep, wordStep, bad, stepOf}
+use Rattle.machine.specs.Machine.{Machine, effectOf}
+use Rattle.machine.specs.Refusals.{refusals}
+use Rattle.machine.specs.Step.{Step, stopped, moved, performOf, stepOf}
 
 -- a step that moves leaves of a part of the machine what a rule gives at the address it reports
 abbrev pub Follows : {A B : Type 0} → (A → B) → (ℕ → B → B) → A → Step A → Type 0
@@ -35,26 +28,17 @@ Follows part rule m (moved n code address) = part n ≡ rule address (part m)
 abbrev pub taintsIn : Machine → Taints
 taintsIn m = m .taints
 
-perform-follows : (origin : ℕ) (t : Transfer) (a : Addressing) (m : Machine) (p : Plan) → Follows taintsIn (λ address. ruleOf (Moves t a) (address - origin)) m (performOf origin t a m p)
+perform-follows : (origin : ℕ) (x : Access) (m : Machine) → Follows taintsIn (λ address. ruleOf x (address - origin)) m (performOf origin x m)
 unfolding effectOf
-perform-follows origin t a m (Refuse answer address) = tt
-perform-follows origin t a m (Touch address next) = refl
-
-access-follows : (origin : ℕ) (admit : Transfer → ℕ → Answer) (x : Access) (m : Machine) → Follows taintsIn (λ address. ruleOf x (address - origin)) m (accessStep origin admit x m)
-access-follows origin admit Nothing m = refl
-access-follows origin admit (Moves t a) m = perform-follows origin t a m (planOf admit t a (operandsOf a m))
-
--- under any admission
-pub word-follows : (origin : ℕ) (admit : Transfer → ℕ → Answer) (word : ℕ) (m : Machine) → Follows taintsIn (wordRule origin word) m (wordStep origin admit word m)
-unfolding wordStep
-word-follows origin admit word m =
-    pick-by (Follows taintsIn (wordRule origin word) m) (eqb (answerNumber (classOf word)) 0) (λ e. access-follows origin admit (wordAccess word) m) (λ e. tt)
+perform-follows origin Nothing m = refl
+perform-follows origin (Moves t a) m = refl
 
 -- the taints after a step are those of the taint rule at its word and the address that it reports
 pub taints-by-rule : (w : Window) (word : ℕ) (m : Machine) → Follows taintsIn (wordRule (w .origin) word) m (stepOf w word m)
 unfolding stepOf
 taints-by-rule w word m =
-    pick-by (Follows taintsIn (wordRule (w .origin) word) m) (bad w m) (λ e. tt) (λ e. word-follows (w .origin) (admitOf w (length (m .memory))) word m)
+    first-by (Follows taintsIn (wordRule (w .origin) word) m) stopped (performOf (w .origin) (wordAccess word) m) (refusals w word m)
+    (each (λ e. tt) (refusals w word m)) (λ p. perform-follows (w .origin) (wordAccess word) m)
 
 -- ---- what the rule changes
 

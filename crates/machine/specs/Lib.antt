@@ -1,5 +1,5 @@
 pub mod Rule
 pub mod Machine
+pub mod Refusals
 pub mod Step
-pub mod Tests
 pub mod route

@@ -18,7 +18,8 @@ ghost use lib.ListN.{length};
 ghost use Rattle.access.proofs.Bounds.{Within, Bounded};
 ghost use Rattle.plan.specs.Admission.{totalOf, admitOf};
 ghost use Rattle.machine.specs.Machine.{machineOf, nextPc, effectOf};
-ghost use Rattle.machine.specs.Step.{moved, accessStep, wordStep, stepOf, outcome, leaves};
+ghost use Rattle.machine.specs.Step.{moved, stepOf, outcome, leaves};
+ghost use Rattle.machine.specs.route.Parts.{wordStep, accessStep};
 ghost use Rattle.machine.specs.route.Writing.{stateOf, passedOn, settledOf, ends, told};
 
 #[repr(C)]

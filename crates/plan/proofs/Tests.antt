@@ -1,13 +1,14 @@
 -- Laws of the tests of a plan. Assumes nothing.
 use Prim.Native.Nat.{ℕ, _+_, _%_, _^_, _≤_, _<_}
-use mathlib.Core.Path.{_≡_, refl, sym, ap, _∙_}
+use mathlib.Core.Path.{_≡_, refl, sym, ap, subst, _∙_}
 use mathlib.Core.Bool.{Bool, true, false, not}
+use mathlib.Core.List.{List}
 use native.Mathlib.Omega.{arith}
-use borrow.Author.Tests.{ltb-true, ltb-false, eqb-true, ne-eqb}
+use borrow.Author.Tests.{ltb-true, ltb-false, eqb-true}
 use lib.Dec.{ltb, eqb}
 use Rattle.bits.specs.Choice.{pick}
 use Rattle.instruction.specs.declared.answer.Answer.{Answer}
-use Rattle.instruction.specs.declared.answer.Answer.the-variants.{Done, TaintedAddress, Misaligned, OutOfWindow, ReadOnly}
+use Rattle.instruction.specs.declared.answer.Answer.the-variants.{TaintedAddress}
 use Rattle.instruction.specs.Answers.{answerNumber}
 use Rattle.access.specs.declared.transfer.Transfer.{Transfer}
 use Rattle.access.specs.declared.addressing.Addressing.{Addressing}
@@ -16,9 +17,11 @@ use Rattle.plan.specs.declared.address.Operands.{Operands}
 use Rattle.plan.specs.declared.Plan.{Plan}
 use Rattle.plan.specs.declared.Plan.the-variants.{Refuse, Touch}
 use Rattle.plan.specs.Window.{badWindow}
-use Rattle.plan.specs.Admission.{totalOf, misaligned, outside, guarded, admitOf}
+use Rattle.plan.specs.Refusals.{Refusal, firstOf, answerIn}
+use Rattle.plan.specs.Admission.{totalOf, outside, admitOf}
 use Rattle.plan.specs.Address.{sumOf, addressOf}
-use Rattle.plan.specs.Plans.{admitted, planOf}
+use Rattle.plan.specs.Plans.{refusalsOf, planOf}
+use Rattle.plan.proofs.Refusals.{Passed, Each, each, first-by, Reports, by-answer}
 
 -- two tests that hold together are one: the code subtracts where the definitions add
 same-at : (a b c d : ℕ) (t u : Bool) → ltb a b ≡ t → ltb c d ≡ u → (a < b → c < d) → (c < d → a < b) → t ≡ u
@@ -43,61 +46,52 @@ pub not-outside : (total a origin len : ℕ) → outside total a origin len ≡ 
 unfolding outside
 not-outside total a origin len h = inside-at total a origin len (ltb a origin) refl h
 
-admit-at : (m o g : Bool) → answerNumber (pick m Misaligned (pick o OutOfWindow (pick g ReadOnly Done))) ≡ 0 → o ≡ false
-admit-at true o g e = absurd (omega arith)
-admit-at false true g e = absurd (omega arith)
-admit-at false false g e = refl
-
 -- an admitted access lies in the window
-pub admit-inside : (w : Window) (len : ℕ) (t : Transfer) (a : ℕ) → answerNumber (admitOf w len t a) ≡ 0 → Inside (totalOf t) a (w .origin) len
+pub admit-inside : (w : Window) (len : ℕ) (t : Transfer) (a : ℕ) → Passed (admitOf w len t a) → Inside (totalOf t) a (w .origin) len
 unfolding admitOf
-admit-inside w len t a e =
-    not-outside (totalOf t) a (w .origin) len
-    (admit-at (misaligned (t .ordered) (totalOf t) a) (outside (totalOf t) a (w .origin) len) (guarded (t .store) a w) e)
-
--- a touch was admitted
-pub record Touched (admit : Transfer → ℕ → Answer) (t : Transfer) (a : ℕ) : Type 0 where
-  pub done : answerNumber (admit t a) ≡ 0
+admit-inside w len t a p = not-outside (totalOf t) a (w .origin) len (p .1 .0)
 
 abbrev address : Plan → ℕ
 address (Refuse answer a) = a
 address (Touch a n) = a
 
-admitted-at : (admit : Transfer → ℕ → Answer) (t : Transfer) (x : ℕ) (b : Bool) → eqb (answerNumber (admit t x)) 0 ≡ b → (s a n : ℕ) → pick b (Touch x s) (Refuse (admit t x) x) ≡ Touch a n → Touched admit t a
-admitted-at admit t x true e s a n h =
-    let same : x ≡ a = ap address h in
-    record { done = ap (λ (y : ℕ). answerNumber (admit t y)) (sym same) ∙ eqb-true (answerNumber (admit t x)) 0 e }
-admitted-at admit t x false e s a n h = absurd (let z : _≡_ {A = ℕ} 0 1 = cc in omega arith)
+-- a touch was admitted
+touched-at : (admit : Transfer → ℕ → List Refusal) (t : Transfer) (x s a n : ℕ) → Passed (admit t x) → Touch x s ≡ Touch a n → Passed (admit t a)
+touched-at admit t x s a n p h = subst (λ (y : ℕ). Passed (admit t y)) (ap address h) p
 
-plan-at : (admit : Transfer → ℕ → Answer) (t : Transfer) (x : ℕ) (b : Bool) (s a n : ℕ) (r : Answer) → pick b (Refuse r 0) (admitted (admit t x) x s) ≡ Touch a n → Touched admit t a
-plan-at admit t x true s a n r h = absurd (let z : _≡_ {A = ℕ} 0 1 = cc in omega arith)
-plan-at admit t x false s a n r h = admitted-at admit t x (eqb (answerNumber (admit t x)) 0) refl s a n h
+not-touched : (answer : Answer) (x a n : ℕ) {B : Type 0} → Refuse answer x ≡ Touch a n → B
+not-touched answer x a n h = absurd (let z : _≡_ {A = ℕ} 0 1 = cc in omega arith)
 
-pub touch-admitted : (admit : Transfer → ℕ → Answer) (t : Transfer) (d : Addressing) (o : Operands) {a n : ℕ} → planOf admit t d o ≡ Touch a n → Touched admit t a
+touch-admitted : (admit : Transfer → ℕ → List Refusal) (t : Transfer) (d : Addressing) (o : Operands) {a n : ℕ} → planOf admit t d o ≡ Touch a n → Passed (admit t a)
 unfolding planOf
-touch-admitted admit t d o {a} {n} h = plan-at admit t (addressOf d o) (o .tainted) (sumOf d o) a n TaintedAddress h
+touch-admitted admit t d o {a} {n} h =
+    first-by (λ (p : Plan). p ≡ Touch a n → Passed (admit t a)) Refuse (Touch (addressOf d o) (sumOf d o)) (refusalsOf admit t d o) (each (λ e. not-touched (e .answer) (e .address) a n) (refusalsOf admit t d o))
+    (λ p. touched-at admit t (addressOf d o) (sumOf d o) a n (p .1)) h
+
+-- a planned touch lies in the window
+pub touch-inside : (w : Window) (len : ℕ) (t : Transfer) (d : Addressing) (o : Operands) {p : Plan} {a n : ℕ} → p ≡ planOf (admitOf w len) t d o → p ≡ Touch a n → Inside (totalOf t) a (w .origin) len
+touch-inside w len t d o {p} {a} e h = admit-inside w len t a (touch-admitted (admitOf w len) t d o (sym e ∙ h))
+
+-- the two ways that planning ends: tainted, or by what the admission answers
+pub plan-tainted : (admit : Transfer → ℕ → List Refusal) (t : Transfer) (d : Addressing) (o : Operands) → o .tainted ≡ true → Refuse TaintedAddress 0 ≡ planOf admit t d o
+unfolding planOf
+plan-tainted admit t d o e = rw e
+
+admit-answers : (w : Window) (len : ℕ) (t : Transfer) (a : ℕ) → Each (Reports a) (admitOf w len t a)
+unfolding admitOf
+admit-answers w len t a = ((refl, λ h. omega arith), ((refl, λ h. omega arith), ((refl, λ h. omega arith), tt)))
 
 passed : (b : Bool) (x : Plan) {y : Plan} → b ≡ false → y ≡ pick b x y
 passed b x e = rw e
 
--- the three ways that planning ends
-pub plan-tainted : (admit : Transfer → ℕ → Answer) (t : Transfer) (d : Addressing) (o : Operands) → o .tainted ≡ true → Refuse TaintedAddress 0 ≡ planOf admit t d o
+pub plan-admitted : (w : Window) (len : ℕ) (t : Transfer) (d : Addressing) (o : Operands) {s x : ℕ} {r : Answer} → o .tainted ≡ false → s ≡ sumOf d o → x ≡ pick (d .post) (o .base) s
+    → r ≡ answerIn (admitOf w len t x) → pick (eqb (answerNumber r) 0) (Touch x s) (Refuse r x) ≡ planOf (admitOf w len) t d o
 unfolding planOf
-plan-tainted admit t d o e = rw e
-
-pub plan-refused : (admit : Transfer → ℕ → Answer) (t : Transfer) (d : Addressing) (o : Operands) {s x : ℕ} {r : Answer} → o .tainted ≡ false → s ≡ sumOf d o → x ≡ pick (d .post) (o .base) s → r ≡ admit t x
-    → ¬ (answerNumber r ≡ 0) → Refuse r x ≡ planOf admit t d o
-unfolding planOf
-plan-refused admit t d o {s} {x} {r} e p q g h =
-    let refused : Refuse r x ≡ admitted (admit t (addressOf d o)) (addressOf d o) (sumOf d o) = rw (← p, ← q, ← g, ne-eqb (answerNumber r) 0 h) in
-    refused ∙ passed (o .tainted) (Refuse TaintedAddress 0) e
-
-pub plan-touches : (admit : Transfer → ℕ → Answer) (t : Transfer) (d : Addressing) (o : Operands) {s x : ℕ} {r : Answer} → o .tainted ≡ false → s ≡ sumOf d o → x ≡ pick (d .post) (o .base) s → r ≡ admit t x
-    → answerNumber r ≡ 0 → Touch x s ≡ planOf admit t d o
-unfolding planOf
-plan-touches admit t d o {s} {x} {r} e p q g h =
-    let touches : Touch x s ≡ admitted (admit t (addressOf d o)) (addressOf d o) (sumOf d o) = rw (← p, ← q, ← g, h) in
-    touches ∙ passed (o .tainted) (Refuse TaintedAddress 0) e
+plan-admitted w len t d o {s} {x} {r} e p q g =
+    let admitted : pick (eqb (answerNumber r) 0) (Touch x s) (Refuse r x) ≡ firstOf Refuse (Touch (addressOf d o) (sumOf d o)) (admitOf w len t (addressOf d o)) =
+    rw (← p, ← q, g) (sym (by-answer Refuse (Touch x s) x (admitOf w len t x) (admit-answers w len t x)))
+    in
+    admitted ∙ passed (o .tainted) (Refuse TaintedAddress 0) e
 
 lengths-at : (a b c : Bool) (taints len : ℕ) → eqb taints len ≡ c → (d : Bool) → pick a true (pick b true (pick (not c) true d)) ≡ false → taints ≡ len
 lengths-at true b c taints len e d h = absurd (let z : _≡_ {A = ℕ} 0 1 = cc in omega arith)
@@ -110,7 +104,3 @@ pub same-lengths : (w : Window) (len taints pc : ℕ) → badWindow w len taints
 unfolding badWindow
 same-lengths w len taints pc h =
     lengths-at (ltb (2 ^ 64) (w .origin + len)) (ltb len (w .readonly)) (eqb taints len) taints len refl (not (eqb (pc % 4) 0)) h
-
--- a planned touch lies in the window
-pub touch-inside : (w : Window) (len : ℕ) (t : Transfer) (d : Addressing) (o : Operands) {p : Plan} {a n : ℕ} → p ≡ planOf (admitOf w len) t d o → p ≡ Touch a n → Inside (totalOf t) a (w .origin) len
-touch-inside w len t d o {p} {a} e h = admit-inside w len t a (touch-admitted (admitOf w len) t d o (sym e ∙ h) .done)

@@ -1,12 +1,13 @@
 -- Answers 6, 7 and 8: 01, "Answer numbers". All as whole numbers.
 use Prim.Native.Nat.{ℕ, _+_, _%_}
 use mathlib.Core.Bool.{Bool, true, false}
+use mathlib.Core.List.{List, [], _∷_}
 use lib.Dec.{ltb}
 use Rattle.bits.specs.Choice.{pick}
-use Rattle.instruction.specs.declared.answer.Answer.{Answer}
-use Rattle.instruction.specs.declared.answer.Answer.the-variants.{Done, Misaligned, OutOfWindow, ReadOnly}
+use Rattle.instruction.specs.declared.answer.Answer.the-variants.{Misaligned, OutOfWindow, ReadOnly}
 use Rattle.access.specs.declared.transfer.Transfer.{Transfer}
 use Rattle.plan.specs.declared.window.Window.{Window}
+use Rattle.plan.specs.Refusals.{Refusal, refusal}
 
 -- a pair is one access
 abbrev pub totalOf : Transfer → ℕ
@@ -24,9 +25,9 @@ outside total a origin len = pick (ltb a origin) true (ltb (origin + len) (a + t
 unfoldable pub guarded : Bool → ℕ → Window → Bool
 guarded store a w = pick store (ltb a (w .origin + w .readonly)) false
 
-unfoldable pub admitOf : Window → ℕ → Transfer → ℕ → Answer
+unfoldable pub admitOf : Window → ℕ → Transfer → ℕ → List Refusal
 admitOf w len t a =
-    pick (misaligned (t .ordered) (totalOf t) a) Misaligned
-    (pick (outside (totalOf t) a (w .origin) len) OutOfWindow
-    (pick (guarded (t .store) a w) ReadOnly
-    Done))
+    refusal Misaligned (misaligned (t .ordered) (totalOf t) a) a
+    ∷ refusal OutOfWindow (outside (totalOf t) a (w .origin) len) a
+    ∷ refusal ReadOnly (guarded (t .store) a w) a
+    ∷ []

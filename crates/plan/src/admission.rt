@@ -4,10 +4,11 @@ use access::Transfer;
 use instruction::Answer;
 ghost use mathlib.Core.Path.{_≡_};
 ghost use Prim.Native.Nat.{_≤_, _+_};
+ghost use Rattle.plan.specs.Refusals.{answerIn};
 ghost use Rattle.plan.specs.Admission.{misaligned, outside, guarded, admitOf};
 
 pub fn admission(t: Transfer, address: u64, window: Window, len: u64) -> Answer
-    ensures { λ r. ⌜ r ≡ admitOf window len t address ⌝ }
+    ensures { λ r. ⌜ r ≡ answerIn (admitOf window len t address) ⌝ }
 {
     let total = t.bytes as u64 + t.more as u64;
     if is_misaligned(t.ordered, total, address) {

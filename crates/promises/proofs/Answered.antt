@@ -1,29 +1,27 @@
 -- Every entry answers, with a number of 01's table. Assumes nothing.
 use Prim.Native.Nat.{ℕ, _*_}
 use mathlib.Core.Path.{_≡_, refl, sym, ap, _∙_}
-use mathlib.Core.Bool.{Bool, true, false, not}
+use mathlib.Core.Bool.{Bool, true, false}
 use mathlib.Core.List.{List, [], _∷_, _++_}
 use mathlib.Core.Logic.{inl, inr}
 use native.Mathlib.Omega.{arith}
-use borrow.Author.Tests.{eq-eqb}
 use lib.Dec.{ltb, eqb}
 use lib.ListN.{length, getD}
 use Rattle.bits.specs.Choice.{pick}
+use Rattle.bits.proofs.Choices.{tested}
+use Rattle.instruction.specs.declared.answer.Answer.{Answer}
+use Rattle.instruction.specs.declared.answer.Answer.the-variants.{Done}
 use Rattle.instruction.specs.declared.answer.Encoded.{Encoded}
 use Rattle.instruction.specs.declared.family.Instruction.{Instruction}
 use Rattle.instruction.specs.Answers.{answerNumber}
-use Rattle.instruction.specs.Table.{inSet, undefined, unpredictable}
 use Rattle.encoder.specs.Encoding.{encodeOf}
-use Rattle.access.specs.declared.Access.{Access}
-use Rattle.access.specs.declared.Access.the-variants.{Nothing, Moves}
 use Rattle.plan.specs.declared.window.Window.{Window}
-use Rattle.plan.specs.Address.{addressOf}
-use Rattle.plan.specs.Admission.{totalOf, misaligned, outside, guarded}
-use Rattle.access.specs.Accesses.{wordAccess}
-use Rattle.machine.specs.Machine.{Machine, operandsOf}
-use Rattle.machine.specs.Step.{Outcome, bad, stepOf, performed}
-use Rattle.machine.specs.Tests.{accessTests, lowest}
-use Rattle.machine.proofs.Answers.{answers-exact, step-refuses}
+use Rattle.plan.specs.Admission.{admitOf}
+use Rattle.plan.proofs.Refusals.{each-map, first-by}
+use Rattle.machine.specs.Machine.{Machine}
+use Rattle.machine.specs.Refusals.{bad, wordRefusals, refusals}
+use Rattle.machine.specs.Step.{Outcome, stepOf, performed}
+use Rattle.machine.proofs.Answers.{answers-exact, step-refuses, Later, word-later}
 use Rattle.execution.specs.Walk.{runOf}
 use Rattle.execution.specs.Ends.{alone, Ends, lastOf}
 use Rattle.execution.specs.Run.{machineRun}
@@ -43,50 +41,25 @@ pub by-definition : {R : Type 0} (x : R) {number : R → ℕ} {numbers : List �
 by-definition x {number} {numbers} h =
     record { some = (x, refl); one = λ r s e g. e ∙ sym g; answer = λ r e. ap (λ y. oneOf numbers (number y)) e ∙ h }
 
--- ---- the number of the first test that holds is among the tests' numbers, and 0 where none does
-
-abbrev pub firstNumber : List (Bool × ℕ) → ℕ
-firstNumber [] = 0
-firstNumber (e ∷ es) = pick (e .0) (e .1) (firstNumber es)
-
-abbrev pub numbersOf : List (Bool × ℕ) → List ℕ
-numbersOf [] = []
-numbersOf (e ∷ es) = e .1 ∷ numbersOf es
-
-either-way : (z a b : Bool) → (a ≡ true → b ≡ true) → pick z true a ≡ true → pick z true b ≡ true
-either-way true a b h e = refl
-either-way false a b h e = h e
-
-or-else : (z a : Bool) → a ≡ true → pick z true a ≡ true
-or-else true a h = refl
-or-else false a h = h
-
-first-from : (z : Bool) (k n : ℕ) (ks : List ℕ) → oneOf (0 ∷ ks) n ≡ true → oneOf (0 ∷ k ∷ ks) (pick z k n) ≡ true
-first-from true k n ks h = or-else (eqb k 0) _ (rw (eq-eqb k k refl))
-first-from false k n ks h = either-way (eqb n 0) (oneOf ks n) (oneOf (k ∷ ks) n) (or-else (eqb n k) (oneOf ks n)) h
-
-pub first-one : (es : List (Bool × ℕ)) → oneOf (0 ∷ numbersOf es) (firstNumber es) ≡ true
-first-one [] = refl
-first-one (e ∷ es) = first-from (e .0) (e .1) (firstNumber es) (numbersOf es) (first-one es)
-
 -- ---- steps and runs
 
 abbrev pub stepNumbers : List ℕ
 stepNumbers = 0 ∷ 1 ∷ 2 ∷ 3 ∷ 4 ∷ 5 ∷ 6 ∷ 7 ∷ 8 ∷ []
 
--- a prefetch passes 5 to 8
-lowest-one : (w : Window) (x : Access) (m : Machine) (a b c d : Bool) → oneOf stepNumbers (lowest 1 (a ∷ b ∷ c ∷ d ∷ accessTests w x m)) ≡ true
-lowest-one w Nothing m a b c d = first-one ((a, 1) ∷ (b, 2) ∷ (c, 3) ∷ (d, 4) ∷ (false, 5) ∷ (false, 6) ∷ (false, 7) ∷ (false, 8) ∷ [])
-lowest-one w (Moves t x) m a b c d =
-    let at = addressOf x (operandsOf x m) in
-    let tainted = operandsOf x m .tainted in
-    let unaligned = misaligned (t .ordered) (totalOf t) at in
-    let far = outside (totalOf t) at (w .origin) (length (m .memory)) in
-    let shut = guarded (t .store) at w in
-    first-one ((a, 1) ∷ (b, 2) ∷ (c, 3) ∷ (d, 4) ∷ (tainted, 5) ∷ (unaligned, 6) ∷ (far, 7) ∷ (shut, 8) ∷ [])
+abbrev Stepwise : Answer → Type 0
+Stepwise answer = oneOf stepNumbers (answerNumber answer) ≡ true
 
-pub step-number : (w : Window) (word : ℕ) (m : Machine) → oneOf stepNumbers (answerNumber (performed m (stepOf w word m) .answer)) ≡ true
-step-number w word m = rw (answers-exact w word m) (lowest-one w (wordAccess word) m (bad w m) (not (inSet word)) (undefined word) (unpredictable word))
+pub step-number : (w : Window) (word : ℕ) (m : Machine) → Stepwise (performed m (stepOf w word m) .answer)
+step-number w word m =
+    let further = wordRefusals (admitOf w (length (m .memory))) word m in
+    rw (answers-exact w word m)
+    (first-by Stepwise (λ answer address. answer) Done (refusals w word m)
+    (refl, each-map {P = Later} {Q = λ e. Stepwise (e .answer)} (λ e l. tested 9 (oneOf stepNumbers) refl (answerNumber (e .answer)) (l .1)) further (word-later w word m))
+    (λ p. refl))
+
+either-way : (z a b : Bool) → (a ≡ true → b ≡ true) → pick z true a ≡ true → pick z true b ≡ true
+either-way true a b h e = refl
+either-way false a b h e = h e
 
 with-more : (ks : List ℕ) (k n : ℕ) → oneOf ks n ≡ true → oneOf (ks ++ (k ∷ [])) n ≡ true
 with-more [] k n h = absurd (let z : _≡_ {A = ℕ} 0 1 = cc in omega arith)

@@ -7,7 +7,7 @@ use mathlib.Core.Logic.{_↔_, inl, inr}
 use native.Mathlib.Omega.{arith}
 use borrow.Author.Tests.{ne-eqb}
 use lib.Dec.{ltb, eqb}
-use lib.ListN.{length}
+use lib.ListN.{length, take}
 use lib.Seq.{sets}
 use Rattle.bits.specs.Choice.{pick}
 use Rattle.bits.proofs.Choices.{pick-by}
@@ -19,11 +19,12 @@ use Rattle.decoder.specs.Decoding.{decodeOf, classOf}
 use Rattle.encoder.specs.Encoding.{encodeOf}
 use Rattle.instruction.proofs.Rows.{never-overlap}
 use Rattle.instruction.proofs.Sorts.{exactly-one}
+use Rattle.plan.proofs.Refusals.{first-by}
 use Rattle.machine.specs.Rule.{Taints, wordRule}
 use Rattle.machine.specs.Machine.{Machine}
-use Rattle.machine.specs.Step.{Step, stopped, moved, bad, stepOf, performed}
-use Rattle.machine.specs.Tests.{lowest}
-use Rattle.machine.proofs.Answers.{answers-exact, refused-unchanged, tainted-refused, Refuses, step-refuses}
+use Rattle.machine.specs.Refusals.{bad, classRefusals}
+use Rattle.machine.specs.Step.{Step, stopped, moved, stepOf, performed}
+use Rattle.machine.proofs.Answers.{answers-exact, answers-given, refused-unchanged, tainted-refused, Refuses, step-refuses}
 use Rattle.machine.proofs.Taints.{Follows, taintsIn, taints-by-rule}
 use Rattle.execution.specs.Walk.{runOf}
 use Rattle.execution.specs.Run.{machineRun}
@@ -50,14 +51,15 @@ use Rattle.host.proofs.Runs.{refused-unchanged as refused-calls}
 use Rattle.host.proofs.Secrecy.{hosted-taints, hosted-same}
 use Rattle.promises.specs.Answered.{oneOf}
 use Rattle.promises.specs.Demands.{Demand1, Demand2, Demand3, Library, Requests}
-use Rattle.promises.proofs.Answered.{by-definition, first-one, step-number, run-number, encode-number, read-answered, call-number, word-answered}
+use Rattle.promises.proofs.Answered.{by-definition, step-number, run-number, encode-number, read-answered, call-number, word-answered}
 
-decode-answer : (member wrong : Bool) → answerNumber (pick member (pick wrong Undefined Done) NotInSet) ≡ lowest 2 (not member ∷ wrong ∷ [])
+decode-answer : (member wrong : Bool) → answerNumber (pick member (pick wrong Undefined Done) NotInSet) ≡ answerNumber (pick (not member) NotInSet (pick wrong Undefined Done))
 decode-answer true true = refl
 decode-answer true false = refl
 decode-answer false wrong = refl
 
-class-answer : (member wrong loose : Bool) → answerNumber (pick member (pick wrong Undefined (pick loose Unpredictable Done)) NotInSet) ≡ lowest 2 (not member ∷ wrong ∷ loose ∷ [])
+class-answer : (member wrong loose : Bool) → answerNumber (pick member (pick wrong Undefined (pick loose Unpredictable Done)) NotInSet)
+    ≡ answerNumber (pick (not member) NotInSet (pick wrong Undefined (pick loose Unpredictable Done)))
 class-answer true true loose = refl
 class-answer true false true = refl
 class-answer true false false = refl
@@ -126,15 +128,33 @@ list-answer : (short : Bool) → answerNumber (pick short NoRoom Done) ≡ pick 
 list-answer true = refl
 list-answer false = refl
 
-written-number : (word : ℕ) (buffer : List ℕ) → oneOf (0 ∷ 2 ∷ 3 ∷ 10 ∷ []) (answerNumber (writeOf word buffer .answer)) ≡ true
-written-number word buffer =
-    ap (oneOf (0 ∷ 2 ∷ 3 ∷ 10 ∷ [])) (write-number word buffer) ∙ first-one ((not (inSet word), 2) ∷ (undefined word, 3) ∷ (ltb (length buffer) (length (wordText word)), 10) ∷ [])
+-- ---- the numbers that are answered
 
-listed-number : (bytes output : List ℕ) → oneOf (0 ∷ 10 ∷ []) (answerNumber (listOf bytes output .answer)) ≡ true
+abbrev Among : List ℕ → ℕ → Type 0
+Among numbers n = oneOf numbers n ≡ true
+
+decoded-number : (word : ℕ) → Among (0 ∷ 2 ∷ 3 ∷ []) (answerNumber (decodeOf word .answer))
+unfolding decodeOf
+decoded-number word =
+    rw (decode-answer (inSet word) (undefined word))
+    (first-by (λ a. Among (0 ∷ 2 ∷ 3 ∷ []) (answerNumber a)) (λ answer address. answer) Done (take 2 (classRefusals word)) (refl, (refl, tt)) (λ p. refl))
+
+class-number : (word : ℕ) → Among (0 ∷ 2 ∷ 3 ∷ 4 ∷ []) (answerNumber (classOf word))
+unfolding classOf
+class-number word =
+    rw (class-answer (inSet word) (undefined word) (unpredictable word))
+    (first-by (λ a. Among (0 ∷ 2 ∷ 3 ∷ 4 ∷ []) (answerNumber a)) (λ answer address. answer) Done (classRefusals word) (refl, (refl, (refl, tt))) (λ p. refl))
+
+written-number : (word : ℕ) (buffer : List ℕ) → Among (0 ∷ 2 ∷ 3 ∷ 10 ∷ []) (answerNumber (writeOf word buffer .answer))
+written-number word buffer =
+    let among = Among (0 ∷ 2 ∷ 3 ∷ 10 ∷ []) in
+    rw (write-number word buffer)
+    (pick-by among (not (inSet word)) (λ e. refl)
+    (λ e. pick-by among (undefined word) (λ f. refl) (λ f. pick-by among (ltb (length buffer) (length (wordText word))) (λ g. refl) (λ g. refl))))
+
+listed-number : (bytes output : List ℕ) → Among (0 ∷ 10 ∷ []) (answerNumber (listOf bytes output .answer))
 unfolding listOf copied
-listed-number bytes output =
-    let short = ltb (length output) (length (listingOf bytes)) in
-    ap (oneOf (0 ∷ 10 ∷ [])) (list-answer short) ∙ first-one ((short, 10) ∷ [])
+listed-number bytes output = pick-by (λ a. Among (0 ∷ 10 ∷ []) (answerNumber a)) (ltb (length output) (length (listingOf bytes))) (λ e. refl) (λ e. refl)
 
 -- ---- steps
 
@@ -152,17 +172,16 @@ pub demand-1 : Demand1
 unfolding decodeOf classOf listOf copied runOf
 demand-1 =
     record {
-      decoded = λ word. by-definition (decodeOf word) (ap (oneOf (0 ∷ 2 ∷ 3 ∷ [])) (decode-answer (inSet word) (undefined word)) ∙ first-one ((not (inSet word), 2) ∷ (undefined word, 3) ∷ []));
-      classified =
-          λ word. by-definition (classOf word)
-          (ap (oneOf (0 ∷ 2 ∷ 3 ∷ 4 ∷ [])) (class-answer (inSet word) (undefined word) (unpredictable word)) ∙ first-one ((not (inSet word), 2) ∷ (undefined word, 3) ∷ (unpredictable word, 4) ∷ []));
+      decoded = λ word. by-definition (decodeOf word) (decoded-number word);
+      classified = λ word. by-definition (classOf word) (class-number word);
       encoded = λ i. by-definition (encodeOf i) (encode-number i);
       written = λ word buffer. by-definition (writeOf word buffer) (written-number word buffer);
       read = read-answered;
       listed = λ bytes output. by-definition (listOf bytes output) (listed-number bytes output);
       step = λ w word m. by-definition (performed m (stepOf w word m)) (step-number w word m);
       run = λ w words m trace. by-definition (machineRun w words m trace) (run-number w words m trace);
-      step-answers = answers-exact;
+      step-answers = λ w word m. ap answerNumber (answers-exact w word m);
+      step-given = answers-given;
       decode-answers = λ word. decode-answer (inSet word) (undefined word);
       class-answers = λ word. class-answer (inSet word) (undefined word) (unpredictable word);
       write-answers = write-number;

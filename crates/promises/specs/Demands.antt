@@ -15,18 +15,19 @@ use Rattle.instruction.specs.declared.answer.Answer.the-variants.{Done, BadWind
 use Rattle.instruction.specs.declared.family.Instruction.{Instruction}
 use Rattle.instruction.specs.declared.row.Row.{Row}
 use Rattle.instruction.specs.Answers.{answerNumber}
-use Rattle.instruction.specs.Table.{matches, inSet, undefined, allocated, unpredictable, instructionOf}
+use Rattle.instruction.specs.Table.{matches, inSet, undefined, allocated, instructionOf}
 use Rattle.decoder.specs.Decoding.{decodeOf, classOf}
 use Rattle.encoder.specs.Encoding.{encodeOf}
 use Rattle.access.specs.declared.transfer.Transfer.{Transfer}
 use Rattle.access.specs.declared.addressing.Addressing.{Addressing}
 use Rattle.access.specs.declared.Access.the-variants.{Moves}
 use Rattle.plan.specs.declared.window.Window.{Window}
+use Rattle.plan.specs.Refusals.{answerIn, Given}
 use Rattle.access.specs.Accesses.{wordAccess}
 use Rattle.machine.specs.Rule.{wordRule}
 use Rattle.machine.specs.Machine.{Machine, operandsOf}
-use Rattle.machine.specs.Step.{Outcome, bad, stepOf, performed}
-use Rattle.machine.specs.Tests.{tests, lowest}
+use Rattle.machine.specs.Refusals.{bad, classRefusals, refusals}
+use Rattle.machine.specs.Step.{Outcome, stepOf, performed}
 use Rattle.secrecy.specs.Agree.{Shows}
 use Rattle.execution.specs.Walk.{notBegun, runOf, afterSteps}
 use Rattle.execution.specs.Ends.{Kept, Ends, lastOf, Early}
@@ -66,11 +67,13 @@ pub record Demand1 : Type 0 where
   pub step : (w : Window) (word : ℕ) (m : Machine) → Answered (Is (stepped w word m)) (λ r. answerNumber (r .answer)) (0 ∷ 1 ∷ 2 ∷ 3 ∷ 4 ∷ 5 ∷ 6 ∷ 7 ∷ 8 ∷ [])
   pub run : (w : Window) (words : List ℕ) (m : Machine) (trace : List ℕ)
       → Answered (Is (machineRun w words m trace)) (λ r. answerNumber (r .answer)) (0 ∷ 1 ∷ 2 ∷ 3 ∷ 4 ∷ 5 ∷ 6 ∷ 7 ∷ 8 ∷ 10 ∷ [])
-  -- "Each refusal has its number in document 01 and is given exactly when 01 says": of a step, the lowest of 1 to 8
-  pub step-answers : (w : Window) (word : ℕ) (m : Machine) → stepAnswer w word m ≡ lowest 1 (tests w word m)
+  -- "Each refusal has its number in document 01 and is given exactly when 01 says": of a step, the first of 1 to 8 that
+  -- holds, and 0 where none does; so that a number is answered exactly if its refusal holds and none before it
+  pub step-answers : (w : Window) (word : ℕ) (m : Machine) → stepAnswer w word m ≡ answerNumber (answerIn (refusals w word m))
+  pub step-given : (w : Window) (word : ℕ) (m : Machine) (n : ℕ) → ¬ (n ≡ 0) → (stepAnswer w word m ≡ n) ↔ Given n (refusals w word m)
   -- of decoding, 2 and 3, and of a listing's line, 4 too
-  pub decode-answers : (word : ℕ) → answerNumber (decodeOf word .answer) ≡ lowest 2 (not (inSet word) ∷ undefined word ∷ [])
-  pub class-answers : (word : ℕ) → answerNumber (classOf word) ≡ lowest 2 (not (inSet word) ∷ undefined word ∷ unpredictable word ∷ [])
+  pub decode-answers : (word : ℕ) → answerNumber (decodeOf word .answer) ≡ answerNumber (answerIn (ListN.take 2 (classRefusals word)))
+  pub class-answers : (word : ℕ) → answerNumber (classOf word) ≡ answerNumber (answerIn (classRefusals word))
   -- of writing a text, 2, 3 and 10 in that order; refused, its length is 0 and the buffer is as it was
   pub write-answers : (word : ℕ) (buffer : List ℕ)
       → answerNumber (writeOf word buffer .answer) ≡ pick (not (inSet word)) 2 (pick (undefined word) 3 (pick (ltb (ListN.length buffer) (ListN.length (wordText word))) 10 0))

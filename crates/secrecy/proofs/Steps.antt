@@ -3,16 +3,13 @@
 use Prim.Native.Nat.{ℕ, _+_, _-_}
 use mathlib.Core.Path.{_≡_, refl, sym, ap, _∙_}
 use mathlib.Core.Bool.{Bool, true, false}
-use mathlib.Core.List.{List}
+use mathlib.Core.List.{List, [], _∷_, _++_}
 use native.Mathlib.Omega.{arith}
-use lib.Dec.{eqb}
 use lib.ListN.{length, set, getD, replicate, length-set}
 use lib.Seq.{sets, length-sets}
 use Rattle.bits.specs.Choice.{pick}
 use Rattle.instruction.specs.declared.answer.Answer.{Answer}
 use Rattle.instruction.specs.declared.answer.Answer.the-variants.{BadWindow}
-use Rattle.instruction.specs.Answers.{answerNumber}
-use Rattle.decoder.specs.Decoding.{classOf}
 use Rattle.bits.specs.Bytes.{joined, spanOf}
 use Rattle.bits.specs.Extension.{extendedOf}
 use Rattle.memory.specs.Taints.{taintByte, anyTainted}
@@ -21,15 +18,20 @@ use Rattle.access.specs.declared.addressing.Addressing.{Addressing}
 use Rattle.access.specs.declared.Access.{Access}
 use Rattle.access.specs.declared.Access.the-variants.{Nothing, Moves}
 use Rattle.plan.specs.declared.window.Window.{Window}
-use Rattle.plan.specs.declared.Plan.{Plan}
-use Rattle.plan.specs.declared.Plan.the-variants.{Refuse, Touch}
+use Rattle.plan.specs.declared.address.Operands.{Operands}
+use Rattle.plan.specs.Address.{sumOf, addressOf}
+use Rattle.plan.specs.Refusals.{Refusal, firstOf}
 use Rattle.plan.specs.Admission.{totalOf, admitOf}
-use Rattle.plan.specs.Plans.{planOf}
-use Rattle.plan.proofs.Tests.{plan-tainted, touch-admitted, same-lengths}
+use Rattle.plan.specs.Plans.{refusalsOf}
+use Rattle.plan.proofs.Refusals.{Passed}
+use Rattle.plan.proofs.Tests.{same-lengths}
 use Rattle.access.specs.Accesses.{wordAccess}
 use Rattle.machine.specs.Rule.{moveRule}
-use Rattle.machine.specs.Machine.{Machine, operandsOf, effectOf}
-use Rattle.machine.specs.Step.{stopped, performOf, accessStep, wordStep, bad, stepOf}
+use Rattle.machine.specs.Machine.{Machine, operandsOf, effectOf, codeOf}
+use Rattle.machine.specs.Refusals.{bad, classRefusals, accessRefusals}
+use Rattle.machine.specs.Step.{Step, stopped, moved, stepOf}
+use Rattle.machine.specs.route.Parts.{wordStep, accessStep}
+use Rattle.machine.proofs.Answers.{step-bad}
 use Rattle.secrecy.specs.Agree.{Shows}
 use Rattle.secrecy.specs.route.Alike.{Alike}
 use Rattle.secrecy.proofs.Agreement.{agree-sets, Seen, span-taints, store-alike, span-alike, set-alike}
@@ -38,6 +40,21 @@ use Rattle.secrecy.proofs.Agreement.{agree-sets, Seen, span-taints, sto
 pub untainted-parts : (b c : Bool) → pick b true c ≡ false → (b ≡ false) × (c ≡ false)
 untainted-parts true c e = absurd (let z : _≡_ {A = ℕ} 0 1 = cc in omega arith)
 untainted-parts false c e = (refl, e)
+
+-- the same refusal stops both
+shows-at : {A : Type 0} (R : A → A → Type 0) (b : Bool) (answer : Answer) (address : ℕ) (x y : Step A) → (b ≡ false → Shows R x y) → Shows R (pick b (stopped answer address) x) (pick b (stopped answer address) y)
+shows-at R true answer address x y h = (refl, refl)
+shows-at R false answer address x y h = h refl
+
+-- two steps by the same refusals
+first-shows : {A : Type 0} (R : A → A → Type 0) (x y : Step A) (es : List Refusal) → (Passed es → Shows R x y) → Shows R (firstOf stopped x es) (firstOf stopped y es)
+first-shows R x y [] h = h tt
+first-shows R x y (e ∷ es) h = shows-at R (e .holds) (e .answer) (e .address) _ _ (λ f. first-shows R x y es (λ p. h (f, p)))
+
+-- and by the same before others
+first-after : {A : Type 0} (R : A → A → Type 0) (x y : Step A) (es fs gs : List Refusal) → Shows R (firstOf stopped x fs) (firstOf stopped y gs) → Shows R (firstOf stopped x (es ++ fs)) (firstOf stopped y (es ++ gs))
+first-after R x y [] fs gs h = h
+first-after R x y (e ∷ es) fs gs h = shows-at R (e .holds) (e .answer) (e .address) _ _ (λ f. first-after R x y es fs gs h)
 
 -- `none`: what is untainted is clear
 module _ (sees : ℕ → Type 0) (clear : Bool → Type 0) (none : clear false) (each : (b c : Bool) → clear (pick b true c) → clear b × clear c) where
@@ -52,14 +69,6 @@ module _ (sees : ℕ → Type 0) (clear : Bool → Type 0) (none : clear false) 
     operands-same a e =
         let (base, index) = untainted-parts (getD (m .taints .registers) (a .base) false) (getD (m .taints .registers) (a .index) false) e in
         rw (value (a .base) (rw base none), value (a .index) (rw index none), h .pc, h .registers)
-
-    plan-at : (admit : Transfer → ℕ → Answer) (t : Transfer) (a : Addressing) (z : Bool) → operandsOf a m .tainted ≡ z → planOf admit t a (operandsOf a m) ≡ planOf admit t a (operandsOf a n)
-    plan-at admit t a true e = sym (plan-tainted admit t a (operandsOf a m) e) ∙ plan-tainted admit t a (operandsOf a n) (sym (tainted-same a) ∙ e)
-    plan-at admit t a false e = ap (planOf admit t a) (operands-same a e)
-
-    -- both plan the same
-    plan-alike : (admit : Transfer → ℕ → Answer) (t : Transfer) (a : Addressing) → planOf admit t a (operandsOf a m) ≡ planOf admit t a (operandsOf a n)
-    plan-alike admit t a = plan-at admit t a (operandsOf a m .tainted) refl
 
     -- both make the same access, and a load is allowed to look at its bytes
     module _ (long : length (m .memory) ≡ length (m .taints .bytes)) (t : Transfer) (written at next : ℕ) (seen : t .store ≡ false → Seen sees at (totalOf t)) where
@@ -112,29 +121,36 @@ module _ (sees : ℕ → Type 0) (clear : Bool → Type 0) (none : clear false) 
       pub effect-alike : Kept
       effect-alike = effect-at (t .store) refl
 
-    module _ (long : length (m .memory) ≡ length (m .taints .bytes)) (origin : ℕ) (admit : Transfer → ℕ → Answer)
-        (safe : (t : Transfer) (a : ℕ) → answerNumber (admit t a) ≡ 0 → t .store ≡ false → Seen sees (a - origin) (totalOf t)) where
-      perform-alike : (t : Transfer) (a : Addressing) (p : Plan) → planOf admit t a (operandsOf a m) ≡ p → Shows (Alike sees clear) (performOf origin t a m p) (performOf origin t a n p)
-      perform-alike t a (Refuse answer address) e = (refl, refl)
-      perform-alike t a (Touch address next) e =
-          (effect-alike long t (a .written) (address - origin) next (safe t address (touch-admitted admit t a (operandsOf a m) e .done)), refl, refl)
+    module _ (long : length (m .memory) ≡ length (m .taints .bytes)) (origin : ℕ) (admit : Transfer → ℕ → List Refusal)
+        (safe : (t : Transfer) (a : ℕ) → Passed (admit t a) → t .store ≡ false → Seen sees (a - origin) (totalOf t)) where
+      -- an access by operands that are the same
+      touch-alike : (t : Transfer) (a : Addressing) (o p : Operands) → o ≡ p
+          → Shows (Alike sees clear) (firstOf stopped (moved (effectOf t (a .written) (addressOf a o - origin) (sumOf a o) m) (codeOf t) (addressOf a o)) (refusalsOf admit t a o))
+          (firstOf stopped (moved (effectOf t (a .written) (addressOf a p - origin) (sumOf a p) n) (codeOf t) (addressOf a p)) (refusalsOf admit t a p))
+      touch-alike t a o p e =
+          rw (← e)
+          (first-shows (Alike sees clear) _ _ (refusalsOf admit t a o)
+          (λ q. (effect-alike long t (a .written) (addressOf a o - origin) (sumOf a o) (safe t (addressOf a o) (q .1)), refl, refl)))
+
+      moves-at : (t : Transfer) (a : Addressing) (z : Bool) → operandsOf a m .tainted ≡ z → Shows (Alike sees clear) (accessStep origin admit (Moves t a) m) (accessStep origin admit (Moves t a) n)
+      unfolding accessStep
+      moves-at t a true e =
+          let other : operandsOf a n .tainted ≡ true = sym (tainted-same a) ∙ e in
+          rw (e, other) (refl, refl)
+      moves-at t a false e = touch-alike t a (operandsOf a m) (operandsOf a n) (operands-same a e)
 
       access-alike : (x : Access) → Shows (Alike sees clear) (accessStep origin admit x m) (accessStep origin admit x n)
-      access-alike Nothing =
-          (record { pc = rw (h .pc); registers = h .registers; full = h .full; values = h .values; taints = h .taints; bytes = h .bytes }, refl, refl)
-      access-alike (Moves t a) = rw (← plan-alike admit t a) (perform-alike t a (planOf admit t a (operandsOf a m)) refl)
+      unfolding accessStep
+      access-alike Nothing = (record { pc = rw (h .pc); registers = h .registers; full = h .full; values = h .values; taints = h .taints; bytes = h .bytes }, refl, refl)
+      access-alike (Moves t a) = moves-at t a (operandsOf a m .tainted) refl
 
       -- a step under an admission that lets a load look only at what may be seen
       pub word-alike : (word : ℕ) → Shows (Alike sees clear) (wordStep origin admit word m) (wordStep origin admit word n)
-      unfolding wordStep
-      word-alike word = word-at (eqb (answerNumber (classOf word)) 0)
-        where
-          word-at : (z : Bool) → Shows (Alike sees clear) (pick z (accessStep origin admit (wordAccess word) m) (stopped (classOf word) 0)) (pick z (accessStep origin admit (wordAccess word) n) (stopped (classOf word) 0))
-          word-at true = access-alike (wordAccess word)
-          word-at false = (refl, refl)
+      unfolding wordStep accessStep
+      word-alike word = first-after (Alike sees clear) _ _ (classRefusals word) (accessRefusals admit (wordAccess word) m) (accessRefusals admit (wordAccess word) n) (access-alike (wordAccess word))
 
   -- a step in a window whose admission lets a load look only at what may be seen
-  module _ (w : Window) (safe : (len : ℕ) (t : Transfer) (a : ℕ) → answerNumber (admitOf w len t a) ≡ 0 → t .store ≡ false → Seen sees (a - w .origin) (totalOf t)) (m n : Machine) (h : Alike sees clear m n) where
+  module _ (w : Window) (safe : (len : ℕ) (t : Transfer) (a : ℕ) → Passed (admitOf w len t a) → t .store ≡ false → Seen sees (a - w .origin) (totalOf t)) (m n : Machine) (h : Alike sees clear m n) where
     step-at : (word : ℕ) (z y : Bool) (len : ℕ) → bad w m ≡ z → z ≡ y → length (m .memory) ≡ len
         → Shows (Alike sees clear) (pick z (stopped BadWindow 0) (wordStep (w .origin) (admitOf w (length (m .memory))) word m)) (pick y (stopped BadWindow 0) (wordStep (w .origin) (admitOf w len) word n))
     step-at word true true len b e l = (refl, refl)
@@ -147,6 +163,6 @@ module _ (sees : ℕ → Type 0) (clear : Bool → Type 0) (none : clear false) 
     bad-alike = rw (h .bytes .size, h .taints .size, h .pc)
 
     pub step-alike : (word : ℕ) → Shows (Alike sees clear) (stepOf w word m) (stepOf w word n)
-    unfolding stepOf
     step-alike word =
-        step-at word (bad w m) (bad w n) (length (n .memory)) refl bad-alike (h .bytes .size)
+        rw (step-bad w word m, step-bad w word n)
+        (step-at word (bad w m) (bad w n) (length (n .memory)) refl bad-alike (h .bytes .size))

@@ -6,7 +6,8 @@ use native.Mathlib.Omega.{arith}
 use borrow.Author.Tests.{lt-ltb, le-ltb}
 use lib.ListN.{length}
 use Rattle.machine.specs.Machine.{machineOf}
-use Rattle.machine.specs.Step.{bad, stepOf}
+use Rattle.machine.specs.Refusals.{bad}
+use Rattle.machine.specs.Step.{stepOf}
 use Rattle.execution.proofs.Secrecy.{promised}
 use Rattle.execution.proofs.Walks.{run-bad, run-short, run-begun}
 use borrow.Author.Needs.{needs}

@@ -1,19 +1,18 @@
 -- `machine::decide` meets its contract. Assumes nothing.
 use mathlib.Core.Path.{sym, _∙_}
 use Rattle.plan.proofs.Tests.{same-lengths}
-use Rattle.machine.specs.Step.{stepOf}
+use Rattle.machine.proofs.Answers.{step-bad}
 use borrow.Author.Needs.{needs}
 use Rattle.machine.proofs.decide.Statement.{statement}
 use Rattle.machine.proofs.decide.Tie as tie
 
 pub decide-spec : {M : Type 1} → statement M
-unfolding stepOf
 decide-spec =
     tie.close
     (tie.spec
     (λ c κs. search needs)
-    (λ c. rw (← c .before .is-bad .ensures, c .if1 .taken))
+    (λ c. rw (step-bad, ← c .before .is-bad .ensures, c .if1 .taken))
     (λ c κs. same-lengths _ _ _ _ (sym (c .before .before .before .is-bad .ensures) ∙ c .before .before .if1 .left))
     (λ c. search needs)
     (λ c. search needs)
-    (λ c. rw (← c .before .before .before .before .before .before .before .before .is-bad .ensures, c .before .before .before .before .before .before .before .if1 .left) (c .before .before .before .before .decide-word .ensures)))
+    (λ c. rw (step-bad, ← c .before .before .before .before .before .before .before .before .is-bad .ensures, c .before .before .before .before .before .before .before .if1 .left) (c .before .before .before .before .decide-word .ensures)))

@@ -1,11 +1,13 @@
 -- `machine::decide_access` meets its contract. Assumes nothing.
 use mathlib.Core.Path.{subst}
 use Rattle.access.proofs.Bounds.{Within}
+use Rattle.machine.specs.route.Parts.{accessStep}
 use borrow.Author.Needs.{needs}
 use Rattle.machine.proofs.decide_access.Statement.{statement}
 use Rattle.machine.proofs.decide_access.Tie as tie
 
 pub decide-access-spec : {M : Type 1} → statement M
+unfolding accessStep
 decide-access-spec =
     tie.close
     (tie.spec

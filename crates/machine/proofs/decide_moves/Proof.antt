@@ -2,6 +2,7 @@
 use native.Mathlib.Omega.{arith}
 use lib.ListN.{length}
 use Rattle.plan.proofs.Tests.{touch-inside}
+use Rattle.machine.proofs.Answers.{step-planned}
 use borrow.Author.Needs.{needs}
 use Rattle.machine.proofs.decide_moves.Statement.{statement}
 use Rattle.machine.proofs.decide_moves.Tie as tie
@@ -25,7 +26,7 @@ decide-moves-spec =
     let a = start .args in
     let i = touch-inside (a .window) (length (a .memory .now)) (a .t) (a .a) (c .before .before .before .before .before .before .before .before .operands .result) (c .before .before .before .before .before .before .before .planned .ensures) (c .before .before .before .before .before .address .given .1) in
     (start .pre .0, omega (arith, i .starts, i .ends), start .pre .1))
-    (λ c. rw (← c .before .before .before .before .operands .ensures, ← c .before .before .before .planned .ensures, c .before .answer .given .1))
+    (λ c. rw (step-planned, ← c .before .before .before .before .operands .ensures, ← c .before .before .before .planned .ensures, c .before .answer .given .1))
     (λ c. search needs)
     (λ c. search needs)
-    (λ c. rw (← c .before .before .before .before .before .before .before .before .before .before .before .before .before .operands .ensures, ← c .before .before .before .before .before .before .before .before .before .before .before .before .planned .ensures, c .before .before .before .before .before .before .before .before .before .before .address .given .1, ← c .before .before .before .before .before .before .before .code .ensures) (c .before .before .before .before .touched .ensures (c .before .before .before .before .before .before .before .before .before .before .before .before .before .before .before .before .before .before .args .pc))))
+    (λ c. rw (step-planned, ← c .before .before .before .before .before .before .before .before .before .before .before .before .before .operands .ensures, ← c .before .before .before .before .before .before .before .before .before .before .before .before .planned .ensures, c .before .before .before .before .before .before .before .before .before .before .address .given .1, ← c .before .before .before .before .before .before .before .code .ensures) (c .before .before .before .before .touched .ensures (c .before .before .before .before .before .before .before .before .before .before .before .before .before .before .before .before .before .before .args .pc))))

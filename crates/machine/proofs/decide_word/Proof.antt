@@ -2,19 +2,18 @@
 use mathlib.Core.Path.{sym, _∙_}
 use borrow.Author.Tests.{eq-eqb, ne-eqb}
 use Rattle.access.proofs.Bounds.{bounded}
-use Rattle.machine.specs.Step.{wordStep}
+use Rattle.machine.proofs.Answers.{step-class}
 use borrow.Author.Needs.{needs}
 use Rattle.machine.proofs.decide_word.Statement.{statement}
 use Rattle.machine.proofs.decide_word.Tie as tie
 
 pub decide-word-spec : {M : Type 1} → statement M
-unfolding wordStep
 decide-word-spec =
     tie.close
     (tie.spec
     (λ c κs. search needs)
     (λ c κs. search needs)
-    (λ c. rw (← c .before .before .examine .ensures .0, ne-eqb _ 0 (λ h. c .if1 .taken (c .before .answer-number .ensures .0 ∙ h))))
+    (λ c. rw (step-class, ← c .before .before .examine .ensures .0, ne-eqb _ 0 (λ h. c .if1 .taken (c .before .answer-number .ensures .0 ∙ h))))
     (λ c κs. search needs)
     (λ c κs. (rw (c .before .before .access-of .ensures) (bounded _), c .before .before .before .before .before .before .before .before .before .before .before .pre))
     (λ c. search needs)
@@ -22,4 +21,4 @@ decide-word-spec =
     (λ c.
     let seen = c .before .before .before .before .before .before .before .before .before .before .before .examine .ensures in
     let fine = eq-eqb _ 0 (sym (c .before .before .before .before .before .before .before .before .before .before .answer-number .ensures .0) ∙ c .before .before .before .before .before .before .before .before .before .if1 .left) in
-    rw (← seen .0, fine, ← seen .1, ← c .before .before .before .before .before .before .before .access-of .ensures) (c .before .before .before .before .decide-access .ensures)))
+    rw (step-class, ← seen .0, fine, ← seen .1, ← c .before .before .before .before .before .before .before .access-of .ensures) (c .before .before .before .before .decide-access .ensures)))

@@ -1,6 +1,7 @@
 -- `plan::planned` meets its contract. Assumes nothing.
 use mathlib.Core.Path.{sym, _∙_}
-use Rattle.plan.proofs.Tests.{plan-tainted, plan-refused, plan-touches}
+use borrow.Author.Tests.{eq-eqb, ne-eqb}
+use Rattle.plan.proofs.Tests.{plan-tainted, plan-admitted}
 use borrow.Author.Needs.{needs}
 use Rattle.plan.proofs.planned.Statement.{statement}
 use Rattle.plan.proofs.planned.Tie as tie
@@ -14,5 +15,9 @@ planned-spec =
     (λ c κs. search needs)
     (λ c κs. search needs)
     (λ c κs. search needs)
-    (λ c. plan-refused _ _ _ _ (c .before .before .before .before .before .if1 .left) (c .before .before .before .before .sum .ensures) (c .before .before .before .first-byte .ensures) (c .before .before .admission .ensures) (λ h. c .if2 .taken (c .before .answer-number .ensures .0 ∙ h)))
-    (λ c. plan-touches _ _ _ _ (c .before .before .before .before .before .if1 .left) (c .before .before .before .before .sum .ensures) (c .before .before .before .first-byte .ensures) (c .before .before .admission .ensures) (sym (c .before .answer-number .ensures .0) ∙ c .if2 .left)))
+    (λ c.
+    let fine = plan-admitted _ _ _ _ _ (c .before .before .before .before .before .if1 .left) (c .before .before .before .before .sum .ensures) (c .before .before .before .first-byte .ensures) (c .before .before .admission .ensures) in
+    rw (ne-eqb _ 0 (λ h. c .if2 .taken (c .before .answer-number .ensures .0 ∙ h))) at fine)
+    (λ c.
+    let fine = plan-admitted _ _ _ _ _ (c .before .before .before .before .before .if1 .left) (c .before .before .before .before .sum .ensures) (c .before .before .before .first-byte .ensures) (c .before .before .admission .ensures) in
+    rw (eq-eqb _ 0 (sym (c .before .answer-number .ensures .0) ∙ c .if2 .left)) at fine))
