@@ -75,7 +75,7 @@ module _ (m : Machine) (r : Real m) where
 
   abbrev pub RealStep : Step Machine → Type 0
   RealStep (stopped answer address) = Unit {0}
-  RealStep (moved n code address) = Real n
+  RealStep (moved n shown) = Real n
 
   real-perform : (origin : ℕ) (x : Access) → Within x → RealStep (performOf origin x m)
   unfolding sumOf
@@ -90,7 +90,7 @@ module _ (m : Machine) (r : Real m) where
 
   performed-real : (s : Step Machine) → RealStep s → Real (performed m s .machine)
   performed-real (stopped answer address) h = r
-  performed-real (moved n code address) h = h
+  performed-real (moved n shown) h = h
 
 pub step-real : (w : Window) (word : ℕ) (m : Machine) → Real m → Real (performed m (stepOf w word m) .machine)
 step-real w word m r = performed-real m r (stepOf w word m) (real-moved m r w word)

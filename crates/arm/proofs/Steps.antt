@@ -21,7 +21,7 @@ use Rattle.plan.proofs.Tests.{same-test}
 use Rattle.access.specs.Accesses.{wordAccess}
 use Rattle.machine.specs.Rule.{moveRule}
 use Rattle.machine.specs.Machine.{Machine, operandsOf, basedValues, loadedValues, storedBytes, effectOf, codeOf}
-use Rattle.machine.specs.Step.{Step, stopped, moved}
+use Rattle.machine.specs.Step.{shown, Step, stopped, moved}
 use Rattle.machine.specs.route.Parts.{accessStep}
 use Rattle.arm.specs.Pseudocode.{Arm, Operation, hint, loads, stores}
 use Rattle.arm.specs.Marks.{marksOf}
@@ -89,7 +89,7 @@ tested tainted across out guard x code n =
     (pick across (stopped Misaligned x)
     (pick out (stopped OutOfWindow x)
     (pick guard (stopped ReadOnly x)
-    (moved n code x))))
+    (moved n (shown code x)))))
 
 planned : (x code : ℕ) (m n : Machine) (tainted across out guard test : Bool) → (out ≡ false → guard ≡ test) → (out ≡ false → m ≡ n) → tested tainted across out guard x code m ≡ tested tainted across out test x code n
 planned x code m n true across out guard test g f = refl

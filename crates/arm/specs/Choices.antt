@@ -10,7 +10,7 @@ use Rattle.instruction.specs.declared.answer.Answer.the-variants.{BadWindow, No
 use Rattle.instruction.specs.Table.{inSet, rowOf, undefined, unpredictable}
 use Rattle.plan.specs.declared.window.Window.{Window}
 use Rattle.machine.specs.Machine.{Machine}
-use Rattle.machine.specs.Step.{Step, stopped, moved}
+use Rattle.machine.specs.Step.{shown, Step, stopped, moved}
 use Rattle.arm.specs.Pseudocode.{Arm, Operation, hint, access}
 use Rattle.arm.specs.Pages.{Page, pageOf}
 use Rattle.arm.specs.Marks.{mark, marksOf}
@@ -58,13 +58,13 @@ afterPage w word m page store address size s =
 -- a prefetch changes nothing but PC, with code and address 0. An access has 5 to 8 before it; its code is the bytes touched,
 -- plus 64 for a store
 abbrev pub chosen : Window → ℕ → Machine → Page → Operation → Step Machine
-chosen w word m page hint = moved (record { values = m .values; pc = after (m .pc); memory = m .memory; taints = m .taints }) 0 0
+chosen w word m page hint = moved (record { values = m .values; pc = after (m .pc); memory = m .memory; taints = m .taints }) (shown 0 0)
 chosen w word m page (access store address size s) =
     pick (marked page word m) (stopped TaintedAddress 0)
     (pick (crosses page address size) (stopped Misaligned address)
     (pick (outOf w m address size) (stopped OutOfWindow address)
     (pick (shut w store address) (stopped ReadOnly address)
-    (moved (afterPage w word m page store address size s) (size + pick store 64 0) address))))
+    (moved (afterPage w word m page store address size s) (shown (size + pick store 64 0) address)))))
 
 abbrev pub armOf : Window → Machine → Arm
 armOf w m = record { registers = m .values; pc = m .pc; origin = w .origin; memory = m .memory }

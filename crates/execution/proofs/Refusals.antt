@@ -24,7 +24,8 @@ use Rattle.access.specs.Accesses.{wordAccess}
 use Rattle.machine.specs.Rule.{moveRule, storedTaints}
 use Rattle.machine.specs.Machine.{Machine, nextPc, storedBytes, effectOf}
 use Rattle.machine.specs.Refusals.{bad, wordRefusals, refusals}
-use Rattle.machine.specs.Step.{Step, stopped, moved, performOf, stepOf, performed}
+use Rattle.machine.specs.declared.Shown.{Shown}
+use Rattle.machine.specs.Step.{shown, Step, stopped, moved, performOf, stepOf, performed}
 use Rattle.machine.proofs.Answers.{answers-exact, Later, word-later}
 use Rattle.execution.specs.Walk.{Walked, goOn, walkOf, notBegun, runOf}
 use Rattle.execution.specs.Ends.{Early}
@@ -82,7 +83,7 @@ effect-good w t written at next m e =
 
 abbrev Stays : Window → Step Machine → Type 0
 Stays w (stopped answer address) = Unit {0}
-Stays w (moved n code address) = bad w n ≡ false
+Stays w (moved n shown) = bad w n ≡ false
 
 module _ (w : Window) (m : Machine) (e : bad w m ≡ false) where
   perform-stays : (x : Access) → Stays w (performOf (w .origin) x m)
@@ -97,21 +98,21 @@ module _ (w : Window) (m : Machine) (e : bad w m ≡ false) where
 -- ---- the walk and the run
 
 module _ (w : Window) where
-  go-begun : (m : Machine) (rest : Machine → ℕ → ℕ → Walked Machine) → ((n : Machine) (c a : ℕ) → bad w n ≡ false → Begun (rest n c a .answer)) → (s : Step Machine) → Begun (performed m s .answer) → Stays w s
+  go-begun : (m : Machine) (rest : Machine → Shown → Walked Machine) → ((n : Machine) (v : Shown) → bad w n ≡ false → Begun (rest n v .answer)) → (s : Step Machine) → Begun (performed m s .answer) → Stays w s
       → Begun (goOn m rest s .answer)
   go-begun m rest k (stopped answer address) b h = b
-  go-begun m rest k (moved n code address) b h = k n code address h
+  go-begun m rest k (moved n v) b h = k n v h
 
-  walk-begun : (ws : List ℕ) (m : Machine) (c a : ℕ) → bad w m ≡ false → Begun (walkOf (stepOf w) ws m c a .answer)
+  walk-begun : (ws : List ℕ) (m : Machine) (last : Shown) → bad w m ≡ false → Begun (walkOf (stepOf w) ws m last .answer)
   unfolding walkOf
-  walk-begun [] m c a e h = done-begun h
-  walk-begun (word ∷ ws) m c a e h = go-begun m (walkOf (stepOf w) ws) (walk-begun ws) (stepOf w word m) (step-begun w word m e) (step-stays w m e word) h
+  walk-begun [] m last e h = done-begun h
+  walk-begun (word ∷ ws) m last e h = go-begun m (walkOf (stepOf w) ws) (walk-begun ws) (stepOf w word m) (step-begun w word m e) (step-stays w m e word) h
 
   module _ (ws : List ℕ) (m : Machine) (trace : List ℕ) where
     -- a run that is begun answers neither 1 nor 10
     pub begun-late : bad w m ≡ false → ltb (length trace) (length ws * 2) ≡ false → Begun (machineRun w ws m trace .answer)
     unfolding runOf
-    begun-late e g = rw (e, g) (walk-begun ws m 0 0 e)
+    begun-late e g = rw (e, g) (walk-begun ws m (shown 0 0) e)
 
     early-at : (y z : Bool) → bad w m ≡ y → ltb (length trace) (length ws * 2) ≡ z → Early (answerNumber (machineRun w ws m trace .answer))
         → machineRun w ws m trace ≡ notBegun (machineRun w ws m trace .answer) m trace

@@ -84,9 +84,9 @@ from-alike {m} {n} h =
 
 shows-same : (s t : Step Machine) → Shows (Alike Anywhere Untainted) s t → Shows Same s t
 shows-same (stopped answer address) (stopped other place) h = h
-shows-same (stopped answer address) (moved n code place) h = h
-shows-same (moved m code address) (stopped other place) h = h
-shows-same (moved m code address) (moved n number place) h = (from-alike (h .0), h .1, h .2)
+shows-same (stopped answer address) (moved n seen) h = h
+shows-same (moved m shown) (stopped other place) h = h
+shows-same (moved m shown) (moved n seen) h = (from-alike (h .0), h .1)
 
 module _ (w : Window) (m n : Machine) (h : Same m n) where
   bad-same : bad w m ≡ bad w n
@@ -114,8 +114,8 @@ module _ (w : Window) (m n : Machine) (h : Same m n) where
 pub demand-3 : (w : Window) (words : List ℕ) (m n : Machine) (trace trail : List ℕ) → Same m n → length trace ≡ length trail → ShowsRun Same (machineRun w words m trace) (machineRun w words n trail)
 demand-3 w words m n trace trail h room = run-shows Same (stepOf w) (λ word p q k. step-same w p q k word) (bad w) (bad-same w) words m n h trace trail room
 
--- the taints at the end of a run are the taint rule's, applied in order to each step done, at its word and at the
--- address in the trace
+-- the taints at the end of a run are the taint rule's, applied in order to each step done, at its word and at
+-- what the trace shows of it
 pub taints-of-run : (w : Window) (words : List ℕ) (m : Machine) (trace : List ℕ)
     → machineRun w words m trace .machine .taints ≡ afterSteps (wordRule (w .origin)) words (machineRun w words m trace .trace) (machineRun w words m trace .steps) (m .taints)
 taints-of-run w words m trace = run-rule taintsIn (wordRule (w .origin)) (stepOf w) (taints-by-rule w) (bad w) words m trace

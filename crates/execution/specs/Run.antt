@@ -14,4 +14,4 @@ machineRun w words m trace = runOf (bad w) (stepOf w) words m trace
 -- what the code returns and leaves
 abbrev pub result : Ran → List ℕ → List ℕ → List ℕ → Result Machine
 result r memory taint trace =
-    record { machine = machineOf (r .state) memory taint; trace = trace; steps = r .steps; answer = r .answer; code = r .code; address = r .address }
+    record { machine = machineOf (r .state) memory taint; trace = trace; steps = r .steps; answer = r .answer; shown = r .shown }

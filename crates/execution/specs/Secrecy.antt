@@ -23,5 +23,4 @@ pub record ShowsRun {A : Type 0} (R : A → A → Type 0) (t u : Result A) : Typ
   pub trace : take (t .steps * 2) (t .trace) ≡ take (u .steps * 2) (u .trace)
   pub steps : t .steps ≡ u .steps
   pub answer : t .answer ≡ u .answer
-  pub code : t .code ≡ u .code
-  pub address : t .address ≡ u .address
+  pub shown : t .shown ≡ u .shown

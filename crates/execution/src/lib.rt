@@ -10,7 +10,7 @@ ghost use Prim.Native.Nat.{ℕ, _+_, _*_, _≤_};
 ghost use lib.ListN.{length, set};
 ghost use Rattle.machine.specs.Rule.{wordRule};
 ghost use Rattle.machine.specs.Machine.{Machine, machineOf};
-ghost use Rattle.machine.specs.Step.{stepOf};
+ghost use Rattle.machine.specs.Step.{shown, stepOf};
 ghost use Rattle.execution.specs.Walk.{walkOf, glue, notBegun, afterSteps};
 ghost use Rattle.execution.specs.Run.{machineRun, result};
 ghost use Rattle.execution.specs.Secrecy.{Same, ShowsRun};
@@ -21,8 +21,7 @@ pub struct Ran {
     pub state: State,
     pub steps: usize,
     pub answer: Answer,
-    pub code: u64,
-    pub address: u64,
+    pub shown: Shown,
 }
 
 // The steps, their order and all that they leave are those of the definition. The taints at the end are those
@@ -57,8 +56,10 @@ fn not_begun(state: State, answer: Answer) -> Ran
         state,
         steps: 0,
         answer,
-        code: 0,
-        address: 0,
+        shown: Shown {
+            code: 0,
+            address: 0,
+        },
     }
 }
 
@@ -73,7 +74,7 @@ fn walk(
     trace: &mut [u64],
 ) -> Ran
     requires { ⌜ length (now words) * 2 ≤ length (now trace) ⌝ }
-    ensures { λ r. ⌜ result r (now (memory .exit)) (now (taint .exit)) (now (trace .exit)) ≡ glue 0 (now (trace .entry)) (walkOf (stepOf window) (now (words .entry)) (machineOf start (now (memory .entry)) (now (taint .entry))) 0 0) ⌝ }
+    ensures { λ r. ⌜ result r (now (memory .exit)) (now (taint .exit)) (now (trace .exit)) ≡ glue 0 (now (trace .entry)) (walkOf (stepOf window) (now (words .entry)) (machineOf start (now (memory .entry)) (now (taint .entry))) (shown 0 0)) ⌝ }
 {
     let mut state = start;
     let mut last = Shown {
@@ -96,8 +97,7 @@ fn walk(
                     state,
                     steps: i,
                     answer,
-                    code: 0,
-                    address,
+                    shown: Shown { code: 0, address },
                 };
             }
             Decision::Passed(shown) => {
@@ -119,8 +119,7 @@ fn walk(
         state,
         steps: i,
         answer: Answer::Done,
-        code: last.code,
-        address: last.address,
+        shown: last,
     }
 }
 

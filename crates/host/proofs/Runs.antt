@@ -41,7 +41,7 @@ module _ (w : Window) (words registers flags memory taint trace : List ℕ) wher
       → n ≡ answerNumber (r .answer)
       → xs ≡ pick (isBegun n) (registersOut (r .state .registers .value) (r .state .pc) registers) registers
       → fs ≡ pick (isBegun n) (flagsOut (r .state .registers .taint) flags) flags
-      → hosted (record { steps = r .steps; answer = n; code = r .code; address = r .address }) xs fs ms ks ts ≡ hostRun w words registers flags memory taint trace
+      → hosted (record { steps = r .steps; answer = n; code = r .shown .code; address = r .shown .address }) xs fs ms ks ts ≡ hostRun w words registers flags memory taint trace
   unfolding hostRun
   handed r l h copied ran number put raised =
       rw (le-ltb (length registers) 33 l, le-ltb (length flags) 32 h, ← copied, ← ran, put, raised, number)

@@ -120,7 +120,7 @@ module _ (w : Window) (words registers flags memory taint trace values marks byt
       let also = left-is w words values marks bytes taints trail (rw many at enough) (rw wide at broad) in
       rw (← many, ← wide, e, g)
       (record {
-        reply = rw (r .steps, r .answer, r .code, r .address);
+        reply = rw (r .steps, r .answer, r .shown);
         trace = r .trace;
         machine = rw (back, also) (r .machine);
       })

@@ -57,7 +57,7 @@ isBegun number = pick (eqb number 1) false (not (eqb number 10))
 abbrev pub handedBack : Result Machine → List ℕ → List ℕ → Hosted
 handedBack t registers flags =
     record {
-      reply = record { steps = t .steps; answer = answerNumber (t .answer); code = t .code; address = t .address };
+      reply = record { steps = t .steps; answer = answerNumber (t .answer); code = t .shown .code; address = t .shown .address };
       registers = pick (isBegun (answerNumber (t .answer))) (registersOut (t .machine .values) (t .machine .pc) registers) registers;
       flags = pick (isBegun (answerNumber (t .answer))) (flagsOut (t .machine .taints .registers) flags) flags;
       memory = t .machine .memory;

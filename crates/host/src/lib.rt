@@ -72,8 +72,8 @@ pub extern "C" fn milestarling_run(
     RunReply {
         steps: ran.steps as u64,
         answer: number,
-        code: ran.code,
-        address: ran.address,
+        code: ran.shown.code,
+        address: ran.shown.address,
     }
 }
 

@@ -32,7 +32,7 @@ use Rattle.machine.specs.route.Parts.{wordStep, accessStep, planStep}
 
 unchanged : (m : Machine) (s : Step Machine) → ¬ (answerNumber (performed m s .answer) ≡ 0) → performed m s .machine ≡ m
 unchanged m (stopped answer address) h = refl
-unchanged m (moved n code address) h = absurd (h refl)
+unchanged m (moved n shown) h = absurd (h refl)
 
 -- a refused step changes no register, byte, taint or PC
 pub refused-unchanged : (w : Window) (word : ℕ) (m : Machine) → ¬ (answerNumber (performed m (stepOf w word m) .answer) ≡ 0) → performed m (stepOf w word m) .machine ≡ m
@@ -100,7 +100,7 @@ tainted-refused w word m t a e h =
 -- a step that stops gives no answer 0
 abbrev pub Refuses : {A : Type 0} → Step A → Type 0
 Refuses (stopped answer address) = ¬ (answerNumber answer ≡ 0)
-Refuses (moved n code address) = Unit {0}
+Refuses (moved n shown) = Unit {0}
 
 -- behind the window's, refusals have the numbers 2 to 8
 abbrev pub Later : Refusal → Type 0

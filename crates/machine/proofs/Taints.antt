@@ -15,25 +15,26 @@ use Rattle.access.specs.declared.Access.the-variants.{Nothing, Moves}
 use Rattle.plan.specs.declared.window.Window.{Window}
 use Rattle.plan.proofs.Refusals.{each, first-by}
 use Rattle.access.specs.Accesses.{wordAccess}
+use Rattle.machine.specs.declared.Shown.{Shown}
 use Rattle.machine.specs.Rule.{Taints, moveRule, ruleOf, wordRule}
 use Rattle.machine.specs.Machine.{Machine, effectOf}
 use Rattle.machine.specs.Refusals.{refusals}
 use Rattle.machine.specs.Step.{Step, stopped, moved, performOf, stepOf}
 
--- a step that moves leaves of a part of the machine what a rule gives at the address it reports
-abbrev pub Follows : {A B : Type 0} → (A → B) → (ℕ → B → B) → A → Step A → Type 0
+-- a step that moves leaves of a part of the machine what a rule gives of what it shows
+abbrev pub Follows : {A B : Type 0} → (A → B) → (Shown → B → B) → A → Step A → Type 0
 Follows part rule m (stopped answer address) = Unit {0}
-Follows part rule m (moved n code address) = part n ≡ rule address (part m)
+Follows part rule m (moved n shown) = part n ≡ rule shown (part m)
 
 abbrev pub taintsIn : Machine → Taints
 taintsIn m = m .taints
 
-perform-follows : (origin : ℕ) (x : Access) (m : Machine) → Follows taintsIn (λ address. ruleOf x (address - origin)) m (performOf origin x m)
+perform-follows : (origin : ℕ) (x : Access) (m : Machine) → Follows taintsIn (λ shown. ruleOf x (shown .address - origin)) m (performOf origin x m)
 unfolding effectOf
 perform-follows origin Nothing m = refl
 perform-follows origin (Moves t a) m = refl
 
--- the taints after a step are those of the taint rule at its word and the address that it reports
+-- the taints after a step are those of the taint rule of its word and what it shows
 pub taints-by-rule : (w : Window) (word : ℕ) (m : Machine) → Follows taintsIn (wordRule (w .origin) word) m (stepOf w word m)
 unfolding stepOf
 taints-by-rule w word m =

@@ -34,7 +34,7 @@ no-register slot xs us e =
 
 module _ (t : Transfer) (written at next : ℕ) (shown : Shown) (s : State) (m k : List ℕ) where
   abbrev made : Ended
-  made = ends (λ n. moved (effectOf t written at next n) (shown .code) (shown .address)) (machineOf s m k)
+  made = ends (λ n. moved (effectOf t written at next n) shown) (machineOf s m k)
 
   pub store-writes : {n l : List ℕ} → t .store ≡ true → n ≡ storedBytes t at (s .registers .value) m → l ≡ storedTaints t at (s .registers .taint) k
       → told s (Wrote shown (basedOf written next)) n l ≡ made
@@ -59,14 +59,14 @@ shownOf e = performed (e .machine) (e .step)
 
 shown-at : (m : Machine) (s : Step Machine) → shownOf (ended m s) ≡ performed m s
 shown-at m (stopped answer address) = refl
-shown-at m (moved n code address) = refl
+shown-at m (moved n shown) = refl
 
 pub shows : (m : Machine) (s : Step Machine) {e : Ended} → e ≡ ended m s → shownOf e ≡ performed m s
 shows m s h = ap shownOf h ∙ shown-at m s
 
 step-at : (m : Machine) (s : Step Machine) → ended m s .step ≡ s
 step-at m (stopped answer address) = refl
-step-at m (moved n code address) = refl
+step-at m (moved n shown) = refl
 
 -- the step that a decision tells
 pub steps : (m : Machine) (s : Step Machine) {e : Ended} → e ≡ ended m s → e .step ≡ s

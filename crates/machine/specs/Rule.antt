@@ -12,6 +12,7 @@ use Rattle.access.specs.declared.transfer.Transfer.{Transfer}
 use Rattle.access.specs.declared.Access.{Access}
 use Rattle.access.specs.declared.Access.the-variants.{Nothing, Moves}
 use Rattle.access.specs.Accesses.{wordAccess}
+use Rattle.machine.specs.declared.Shown.{Shown}
 
 -- 01's marks: of X0 to X30 and SP, and of the bytes of memory
 pub record Taints : Type 0 where
@@ -43,6 +44,6 @@ abbrev pub ruleOf : Access → ℕ → Taints → Taints
 ruleOf Nothing at p = p
 ruleOf (Moves t a) at p = moveRule t (a .written) at p
 
--- the rule for a word and an address, in memory whose first byte has address origin
-abbrev pub wordRule : ℕ → ℕ → ℕ → Taints → Taints
-wordRule origin w address p = ruleOf (wordAccess w) (address - origin) p
+-- the rule for a word and what its step shows, in memory whose first byte has address origin
+abbrev pub wordRule : ℕ → ℕ → Shown → Taints → Taints
+wordRule origin w shown p = ruleOf (wordAccess w) (shown .address - origin) p

@@ -11,18 +11,22 @@ use Rattle.plan.specs.Address.{sumOf, addressOf}
 use Rattle.plan.specs.Refusals.{firstOf}
 use Rattle.machine.specs.Machine.{Machine, machineOf, operandsOf, passedOver, effectOf, codeOf}
 use Rattle.machine.specs.Refusals.{refusals}
+use Rattle.machine.specs.declared.Shown.{Shown}
 use Rattle.machine.specs.declared.Stepped.{Stepped}
 
--- a step stops with an answer and an address, or moves to a machine with a code and an address
+abbrev pub shown : ℕ → ℕ → Shown
+shown code address = record { code = code; address = address }
+
+-- a step stops with an answer and an address, or moves to a machine and shows a code and an address
 pub data Step (A : Type 0) : Type 0 where
   stopped : Answer → ℕ → Step A
-  moved : A → ℕ → ℕ → Step A
+  moved : A → Shown → Step A
 
 -- an access that is not refused, in memory that begins at origin
 abbrev pub performOf : ℕ → Access → Machine → Step Machine
-performOf origin Nothing m = moved (passedOver m) 0 0
+performOf origin Nothing m = moved (passedOver m) (shown 0 0)
 performOf origin (Moves t a) m =
-    moved (effectOf t (a .written) (addressOf a (operandsOf a m) - origin) (sumOf a (operandsOf a m)) m) (codeOf t) (addressOf a (operandsOf a m))
+    moved (effectOf t (a .written) (addressOf a (operandsOf a m) - origin) (sumOf a (operandsOf a m)) m) (shown (codeOf t) (addressOf a (operandsOf a m)))
 
 unfoldable pub stepOf : Window → ℕ → Machine → Step Machine
 stepOf w word m = firstOf stopped (performOf (w .origin) (wordAccess word) m) (refusals w word m)
@@ -31,15 +35,14 @@ stepOf w word m = firstOf stopped (performOf (w .origin) (wordAccess word) m) (r
 pub record Outcome (A : Type 0) : Type 0 where
   pub machine : A
   pub answer : Answer
-  pub code : ℕ
-  pub address : ℕ
+  pub shown : Shown
 
 abbrev pub outcome : Stepped → List ℕ → List ℕ → Outcome Machine
-outcome r memory taint = record { machine = machineOf (r .state) memory taint; answer = r .answer; code = r .code; address = r .address }
+outcome r memory taint = record { machine = machineOf (r .state) memory taint; answer = r .answer; shown = r .shown }
 
 abbrev pub performed : {A : Type 0} → A → Step A → Outcome A
-performed m (stopped answer address) = record { machine = m; answer = answer; code = 0; address = address }
-performed m (moved n code address) = record { machine = n; answer = Done; code = code; address = address }
+performed m (stopped answer address) = record { machine = m; answer = answer; shown = shown 0 address }
+performed m (moved n s) = record { machine = n; answer = Done; shown = s }
 
 -- what a machine comes to by a step
 abbrev pub leaves : {A : Type 0} → (A → Step A) → A → Outcome A

@@ -46,8 +46,7 @@ pub enum Decision {
 pub struct Stepped {
     pub state: State,
     pub answer: Answer,
-    pub code: u64,
-    pub address: u64,
+    pub shown: Shown,
 }
 
 pub fn step(word: u32, state: State, window: Window, memory: &mut [u8], taint: &mut [u8]) -> Stepped
@@ -65,20 +64,17 @@ pub fn step(word: u32, state: State, window: Window, memory: &mut [u8], taint: &
         Decision::Refused(answer, address) => Stepped {
             state,
             answer,
-            code: 0,
-            address,
+            shown: Shown { code: 0, address },
         },
         Decision::Passed(shown) => Stepped {
             state: passed_on(state),
             answer: Answer::Done,
-            code: shown.code,
-            address: shown.address,
+            shown,
         },
         Decision::Wrote(shown, writes) => Stepped {
             state: settled(state, writes),
             answer: Answer::Done,
-            code: shown.code,
-            address: shown.address,
+            shown,
         },
     }
 }
@@ -229,7 +225,7 @@ fn touched(
     taint: &mut [u8],
 ) -> Decision
     requires { ⌜ Bounded t × (at + totalOf t ≤ length (now memory)) × (length (now taint) ≡ length (now memory)) ⌝ }
-    ensures { λ r. ⌜ ((pc : ℕ) → told (stateOf (now (value .entry)) (now (tainted .entry)) pc) r (now (memory .exit)) (now (taint .exit)) ≡ ends (λ m. moved (effectOf t written at next m) (shown .code) (shown .address)) (machineOf (stateOf (now (value .entry)) (now (tainted .entry)) pc) (now (memory .entry)) (now (taint .entry)))) ⌝ }
+    ensures { λ r. ⌜ ((pc : ℕ) → told (stateOf (now (value .entry)) (now (tainted .entry)) pc) r (now (memory .exit)) (now (taint .exit)) ≡ ends (λ m. moved (effectOf t written at next m) shown) (machineOf (stateOf (now (value .entry)) (now (tainted .entry)) pc) (now (memory .entry)) (now (taint .entry)))) ⌝ }
 {
     if t.store {
         effect::stored(t, value, tainted, memory, taint, at);

@@ -20,6 +20,7 @@ use Rattle.encoder.specs.Encoding.{encodeOf}
 use Rattle.instruction.proofs.Rows.{never-overlap}
 use Rattle.instruction.proofs.Sorts.{exactly-one}
 use Rattle.plan.proofs.Refusals.{first-by}
+use Rattle.machine.specs.declared.Shown.{Shown}
 use Rattle.machine.specs.Rule.{Taints, wordRule}
 use Rattle.machine.specs.Machine.{Machine}
 use Rattle.machine.specs.Refusals.{bad, classRefusals}
@@ -158,10 +159,10 @@ listed-number bytes output = pick-by (λ a. Among (0 ∷ 10 ∷ []) (answerNumbe
 
 -- ---- steps
 
-step-marks : (rule : ℕ → Taints → Taints) (m : Machine) (s : Step Machine) → Refuses s → Follows taintsIn rule m s
-    → performed m s .machine .taints ≡ pick (eqb (answerNumber (performed m s .answer)) 0) (rule (performed m s .address) (m .taints)) (m .taints)
+step-marks : (rule : Shown → Taints → Taints) (m : Machine) (s : Step Machine) → Refuses s → Follows taintsIn rule m s
+    → performed m s .machine .taints ≡ pick (eqb (answerNumber (performed m s .answer)) 0) (rule (performed m s .shown) (m .taints)) (m .taints)
 step-marks rule m (stopped answer address) r h = rw (ne-eqb (answerNumber answer) 0 r)
-step-marks rule m (moved n code address) r h = h
+step-marks rule m (moved n shown) r h = h
 
 tainted-answer : (b d : Bool) (class : Answer) → answerNumber (pick b BadWindow (pick d TaintedAddress class)) ≡ pick b 1 (pick d 5 (answerNumber class))
 tainted-answer true d class = refl

@@ -142,7 +142,7 @@ pub record Demand3 : Type 0 where
   pub marks-at-end : (w : Window) (words : List ℕ) (m : Machine) (trace : List ℕ)
       → machineRun w words m trace .machine .taints ≡ afterSteps (wordRule (w .origin)) words (machineRun w words m trace .trace) (machineRun w words m trace .steps) (m .taints)
   pub marks-of-step : (w : Window) (word : ℕ) (m : Machine)
-      → stepped w word m .machine .taints ≡ pick (eqb (stepAnswer w word m) 0) (wordRule (w .origin) word (stepped w word m .address) (m .taints)) (m .taints)
+      → stepped w word m .machine .taints ≡ pick (eqb (stepAnswer w word m) 0) (wordRule (w .origin) word (stepped w word m .shown) (m .taints)) (m .taints)
   -- "A password can't choose an address: a step that would take one from anything marked gets answer 5, unless one of 1
   -- to 4 comes first"
   pub marked-address : (w : Window) (word : ℕ) (m : Machine) (t : Transfer) (a : Addressing) → wordAccess word ≡ Moves t a → operandsOf a m .tainted ≡ true

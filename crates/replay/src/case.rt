@@ -152,12 +152,12 @@ fn step_word(word: u32, state: State, window: Window, memory: &mut [u8], taint: 
     let stepped = machine::step(word, state, window, memory, taint);
     let after = stepped.state;
     let answer = stepped.answer;
+    let shown = stepped.shown;
     Ran {
         state: after,
         steps: steps_done(answer),
         answer,
-        code: stepped.code,
-        address: stepped.address,
+        shown,
     }
 }
 

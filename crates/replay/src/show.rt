@@ -40,11 +40,12 @@ fn put_name(output: &mut [u8], number: u64) -> usize {
 fn put_ran(output: &mut [u8], number: u64, ran: Ran) -> usize {
     let state = ran.state;
     let answer = ran.answer;
+    let shown = ran.shown;
     let number_end = put_name(output, number);
     let steps_end = put_field(output, number_end, ran.steps as u64);
     let answer_end = put_field(output, steps_end, instruction::answer_number(answer) as u64);
-    let code_end = put_field(output, answer_end, ran.code);
-    let address_end = put_field(output, code_end, ran.address);
+    let code_end = put_field(output, answer_end, shown.code);
+    let address_end = put_field(output, code_end, shown.address);
     let pc_end = put_field(output, address_end, state.pc);
     ascii::put_byte(output, pc_end, b'\n')
 }

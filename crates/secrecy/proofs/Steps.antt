@@ -29,7 +29,7 @@ use Rattle.access.specs.Accesses.{wordAccess}
 use Rattle.machine.specs.Rule.{moveRule}
 use Rattle.machine.specs.Machine.{Machine, operandsOf, effectOf, codeOf}
 use Rattle.machine.specs.Refusals.{bad, classRefusals, accessRefusals}
-use Rattle.machine.specs.Step.{Step, stopped, moved, stepOf}
+use Rattle.machine.specs.Step.{shown, Step, stopped, moved, stepOf}
 use Rattle.machine.specs.route.Parts.{wordStep, accessStep}
 use Rattle.machine.proofs.Answers.{step-bad}
 use Rattle.secrecy.specs.Agree.{Shows}
@@ -125,12 +125,12 @@ module _ (sees : ℕ → Type 0) (clear : Bool → Type 0) (none : clear false) 
         (safe : (t : Transfer) (a : ℕ) → Passed (admit t a) → t .store ≡ false → Seen sees (a - origin) (totalOf t)) where
       -- an access by operands that are the same
       touch-alike : (t : Transfer) (a : Addressing) (o p : Operands) → o ≡ p
-          → Shows (Alike sees clear) (firstOf stopped (moved (effectOf t (a .written) (addressOf a o - origin) (sumOf a o) m) (codeOf t) (addressOf a o)) (refusalsOf admit t a o))
-          (firstOf stopped (moved (effectOf t (a .written) (addressOf a p - origin) (sumOf a p) n) (codeOf t) (addressOf a p)) (refusalsOf admit t a p))
+          → Shows (Alike sees clear) (firstOf stopped (moved (effectOf t (a .written) (addressOf a o - origin) (sumOf a o) m) (shown (codeOf t) (addressOf a o))) (refusalsOf admit t a o))
+          (firstOf stopped (moved (effectOf t (a .written) (addressOf a p - origin) (sumOf a p) n) (shown (codeOf t) (addressOf a p))) (refusalsOf admit t a p))
       touch-alike t a o p e =
           rw (← e)
           (first-shows (Alike sees clear) _ _ (refusalsOf admit t a o)
-          (λ q. (effect-alike long t (a .written) (addressOf a o - origin) (sumOf a o) (safe t (addressOf a o) (q .1)), refl, refl)))
+          (λ q. (effect-alike long t (a .written) (addressOf a o - origin) (sumOf a o) (safe t (addressOf a o) (q .1)), refl)))
 
       moves-at : (t : Transfer) (a : Addressing) (z : Bool) → operandsOf a m .tainted ≡ z → Shows (Alike sees clear) (accessStep origin admit (Moves t a) m) (accessStep origin admit (Moves t a) n)
       unfolding accessStep
@@ -141,7 +141,7 @@ module _ (sees : ℕ → Type 0) (clear : Bool → Type 0) (none : clear false) 
 
       access-alike : (x : Access) → Shows (Alike sees clear) (accessStep origin admit x m) (accessStep origin admit x n)
       unfolding accessStep
-      access-alike Nothing = (record { pc = rw (h .pc); registers = h .registers; full = h .full; values = h .values; taints = h .taints; bytes = h .bytes }, refl, refl)
+      access-alike Nothing = (record { pc = rw (h .pc); registers = h .registers; full = h .full; values = h .values; taints = h .taints; bytes = h .bytes }, refl)
       access-alike (Moves t a) = moves-at t a (operandsOf a m .tainted) refl
 
       -- a step under an admission that lets a load look only at what may be seen

@@ -12,6 +12,6 @@ pub record Agree (must : ℕ → Type 0) (xs ys : List ℕ) : Type 0 where
 -- two steps that show the same, and leave machines in a relation
 abbrev pub Shows : {A : Type 0} → (A → A → Type 0) → Step A → Step A → Type 0
 Shows R (stopped answer address) (stopped other place) = (answer ≡ other) × (address ≡ place)
-Shows R (stopped answer address) (moved n code place) = ⊥
-Shows R (moved m code address) (stopped other place) = ⊥
-Shows R (moved m code address) (moved n number place) = R m n × (code ≡ number) × (address ≡ place)
+Shows R (stopped answer address) (moved n shown) = ⊥
+Shows R (moved m shown) (stopped other place) = ⊥
+Shows R (moved m shown) (moved n seen) = R m n × (shown ≡ seen)

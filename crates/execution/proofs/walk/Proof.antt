@@ -5,7 +5,7 @@ use mathlib.Core.Path.{_≡_, sym, _∙_}
 use native.Mathlib.Omega.{arith}
 use lib.ListN.{length, drop, getD}
 use Rattle.machine.specs.Machine.{machineOf}
-use Rattle.machine.specs.Step.{stepOf}
+use Rattle.machine.specs.Step.{shown, stepOf}
 use Rattle.machine.proofs.Writing.{steps, kept}
 use Rattle.execution.specs.Walk.{walkOf, glue}
 use Rattle.execution.proofs.Walks.{walk-more, walk-stop, walk-end}
@@ -16,7 +16,7 @@ use Rattle.execution.proofs.walk.Tie as tie
 abbrev Inv-loop : tie.InvT-loop
 Inv-loop words window memory₀ taint₀ trace₀ state₀ last₀ i₀ memory taint trace state last i =
     (i ≤ length words) × (length memory ≡ length memory₀) × (length taint ≡ length taint₀) × (length trace ≡ length trace₀) × (length words * 2 ≤ length trace)
-    × (glue i trace (walkOf (stepOf window) (drop i words) (machineOf state memory taint) (last .code) (last .address)) ≡ glue 0 trace₀ (walkOf (stepOf window) words (machineOf state₀ memory₀ taint₀) 0 0))
+    × (glue i trace (walkOf (stepOf window) (drop i words) (machineOf state memory taint) last) ≡ glue 0 trace₀ (walkOf (stepOf window) words (machineOf state₀ memory₀ taint₀) (shown 0 0)))
 
 abbrev μ-loop : tie.MeasureT-loop
 μ-loop words window memory₀ taint₀ trace₀ state₀ last₀ i₀ memory taint trace state last i = length words - i
@@ -42,7 +42,7 @@ walk-spec =
     let m = machineOf (l .state) (l .memory) (l .taint) in
     let s = stepOf (a .window) (getD (a .words .now) (l .i) 0) m in
     let told = rw (c .before .answer .given .1) at (c .before .before .before .before .before .before .before .decide .ensures) in
-    rw (kept m s told) (walk-stop (stepOf (a .window)) (a .words .now) (l .i) m (l .trace) (l .last .code) (l .last .address) below (sym (steps m s told))) ∙ l .inv .5)
+    rw (kept m s told) (walk-stop (stepOf (a .window)) (a .words .now) (l .i) m (l .trace) (l .last) below (sym (steps m s told))) ∙ l .inv .5)
     (λ c. search needs)
     (λ c κs. search needs)
     (λ c. omega (arith, c .before .before .before .before .before .before .before .before .before .before .before .before .before .before .before .before .before .before .before .before .loop-test .taken, c .before .before .before .before .before .before .before .before .before .before .before .before .before .before .before .before .before .before .before .before .before .before .before .before .before .before .good .0))
@@ -60,7 +60,7 @@ walk-spec =
       search needs,
       search needs,
       search needs,
-      rw (c .next-pc .ensures, c .before .before .before .noted .ensures) (sym (walk-more (stepOf (a .window)) (a .words .now) (l .i) m (l .trace) (l .last .code) (l .last .address) below (sym (steps m s told))) ∙ l .inv .5),
+      rw (c .next-pc .ensures, c .before .before .before .noted .ensures) (sym (walk-more (stepOf (a .window)) (a .words .now) (l .i) m (l .trace) (l .last) below (sym (steps m s told))) ∙ l .inv .5),
     ))
     (λ c. search needs)
     (λ c κs. search needs)
@@ -79,7 +79,7 @@ walk-spec =
       search needs,
       search needs,
       search needs,
-      rw (c .settled .ensures, c .before .before .before .noted2 .ensures) (sym (walk-more (stepOf (a .window)) (a .words .now) (l .i) m (l .trace) (l .last .code) (l .last .address) below (sym (steps m s told))) ∙ l .inv .5),
+      rw (c .settled .ensures, c .before .before .before .noted2 .ensures) (sym (walk-more (stepOf (a .window)) (a .words .now) (l .i) m (l .trace) (l .last) below (sym (steps m s told))) ∙ l .inv .5),
     ))
     (λ c. search needs)
     (λ c. search needs)
@@ -87,4 +87,4 @@ walk-spec =
     (λ c.
     let l = c .before .loop in
     let a = c .before .before .before .before .before .before .args in
-    walk-end (stepOf (a .window)) (a .words .now) (l .i) (machineOf (l .state) (l .memory) (l .taint)) (l .trace) (l .last .code) (l .last .address) (c .loop-test .left) ∙ l .inv .5))
+    walk-end (stepOf (a .window)) (a .words .now) (l .i) (machineOf (l .state) (l .memory) (l .taint)) (l .trace) (l .last) (c .loop-test .left) ∙ l .inv .5))

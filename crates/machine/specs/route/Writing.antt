@@ -62,13 +62,13 @@ pub record Ended : Type 0 where
 
 abbrev pub ended : Machine → Step Machine → Ended
 ended m (stopped answer address) = record { step = stopped answer address; machine = m }
-ended m (moved n code address) = record { step = moved n code address; machine = n }
+ended m (moved n s) = record { step = moved n s; machine = n }
 
 abbrev pub ends : (Machine → Step Machine) → Machine → Ended
 ends f m = ended m (f m)
 
 abbrev pub movedTo : State → Shown → List ℕ → List ℕ → Ended
-movedTo s shown memory taint = record { step = moved (machineOf s memory taint) (shown .code) (shown .address); machine = machineOf s memory taint }
+movedTo s shown memory taint = record { step = moved (machineOf s memory taint) shown; machine = machineOf s memory taint }
 
 -- what a decision comes to with the second half, and with the memory and the taint bytes that the first has left
 abbrev pub told : State → Decision → List ℕ → List ℕ → Ended
