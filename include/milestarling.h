@@ -36,7 +36,8 @@ enum milestarling_answer {
     MILESTARLING_UNPREDICTABLE = 4,
     /* the address would depend on a tainted register */
     MILESTARLING_TAINTED_ADDRESS = 5,
-    /* an ordered access that isn't inside one block of 16 bytes */
+    /* SP as the base that isn't a multiple of 16 (the address is SP), or an ordered access that isn't inside one block of
+       16 bytes */
     MILESTARLING_MISALIGNED = 6,
     /* an access that isn't inside memory */
     MILESTARLING_OUT_OF_WINDOW = 7,

@@ -1,6 +1,6 @@
-"""A model of 01's step and run, to hold the proved ones against.
+"""A model of 01's step and run, with 02's CR 1, to hold the proved ones against.
 
-It is written from 01 alone and shares no code with the crates or with the other scripts, so that an error would have
+It is written from them alone and shares no code with the crates or with the other scripts, so that an error would have
 to be made twice to stay unseen. Each rule is a method of its own: machine_mutants.py overrides one at a time.
 """
 from typing import NamedTuple, Optional
@@ -10,6 +10,8 @@ SPACE = 1 << 64
 UNTOUCHED = SPACE - 1
 # SP where it is the base, and the zero register elsewhere.
 LAST = 31
+# The test of the stack pointer, whose answer is 6.
+STACK = 'SP'
 
 LITERAL, PAIR, ORDERED, UNSCALED, POST, PRE, REGISTER, UNSIGNED = FAMILIES = (
     'literal', 'pair', 'ordered', 'unscaled', 'post', 'pre', 'register', 'unsigned')
@@ -115,8 +117,9 @@ class Outcome(NamedTuple):
 
 
 class Model:
-    # The tests in the order in which they are made, which is that of their answers.
-    ORDER = (1, 2, 3, 4, 5, 6, 7, 8)
+    # The tests in the order in which they are made, which is that of their answers. The stack pointer's is 6 too: "after
+    # 5 and before the ordered test".
+    ORDER = (1, 2, 3, 4, 5, STACK, 6, 7, 8)
 
     # "The instructions we take".
 
@@ -206,8 +209,8 @@ class Model:
             return self.is_undefined(family, f)
         if access.prefetch:
             return False
-        return {4: self.is_unpredictable, 5: self.is_tainted, 6: self.is_misaligned, 7: self.is_outside,
-                8: self.is_read_only}[answer](state, access, address)
+        return {4: self.is_unpredictable, 5: self.is_tainted, STACK: self.is_stack_misaligned, 6: self.is_misaligned,
+                7: self.is_outside, 8: self.is_read_only}[answer](state, access, address)
 
     def is_bad_window(self, state):
         return (state.end() > SPACE or state.readonly > len(state.memory) or len(state.taint) != len(state.memory)
@@ -222,6 +225,10 @@ class Model:
         if access.base is None:
             return False
         return state.tainted[access.base] or access.index is not None and self.read_index(state, access)[1]
+
+    def is_stack_misaligned(self, state, access, address):
+        """02, CR 1: SP as the base, "before any offset", isn't a multiple of 16."""
+        return access.base == LAST and state.registers[LAST] % 16 != 0
 
     def is_misaligned(self, state, access, address):
         return access.family == ORDERED and address // 16 != (address + self.span(access) - 1) // 16
@@ -278,8 +285,10 @@ class Model:
     def code_of(self, access):
         return access.length() + (64 if access.store else 0)
 
-    def refusal(self, answer, address):
+    def refusal(self, answer, state, address):
         """Answer, code and address."""
+        if answer == STACK:
+            return 6, 0, state.registers[LAST]
         return answer, 0, 0 if answer <= 5 else address
 
     def step(self, word, state):
@@ -292,7 +301,7 @@ class Model:
                 address = self.address_of(state, access, f)
         for answer in self.ORDER:
             if self.is_refused(answer, state, word, family, f, access, address):
-                return self.refusal(answer, address)
+                return self.refusal(answer, state, address)
         return self.done(state, access, address)
 
     def done(self, state, access, address):

@@ -1,11 +1,12 @@
 """Wrong machines, each with one error that a program might have.
 
 The stored cases have to tell every one of them from the right machine. The first list has the errors that 01 warns of
-and those that must not be provable, the second has further slips, the third has those that only one value or one window
-shows, and the last two have wrong runs and wrong steps by themselves.
+and those that must not be provable, the second has further slips, the third has those of the stack pointer's alignment
+(02, CR 1), the fourth has those that only one value or one window shows, and the last two have wrong runs and wrong steps by themselves.
 """
 from machine_model import (
-    LAST, LITERAL, ORDERED, PAIR, PAIR_OFFSET, REGISTER, SIGNED_32, SIGNED_64, SPACE, UNTOUCHED, ZEROS, Model, Outcome)
+    LAST, LITERAL, ORDERED, PAIR, PAIR_OFFSET, REGISTER, SIGNED_32, SIGNED_64, SPACE, STACK, UNTOUCHED, ZEROS, Model,
+    Outcome)
 
 
 class KeepsUpperHalf(Model):
@@ -187,7 +188,7 @@ class OneReadOnlyLess(Model):
 
 class WindowBeforeBlock(Model):
     """7 before 6."""
-    ORDER = (1, 2, 3, 4, 5, 7, 6, 8)
+    ORDER = (1, 2, 3, 4, 5, STACK, 7, 6, 8)
 
 
 class CountsOneOfPair(Model):
@@ -243,51 +244,51 @@ class IndexTaintIfShifted(Model):
 
 class TaintAfterWindow(Model):
     """5 after 7."""
-    ORDER = (1, 2, 3, 4, 6, 7, 5, 8)
+    ORDER = (1, 2, 3, 4, STACK, 6, 7, 5, 8)
 
 
 class TaintAfterReadOnly(Model):
-    ORDER = (1, 2, 3, 4, 6, 7, 8, 5)
+    ORDER = (1, 2, 3, 4, STACK, 6, 7, 8, 5)
 
 
 class TaintAfterBlock(Model):
-    ORDER = (1, 2, 3, 4, 6, 5, 7, 8)
+    ORDER = (1, 2, 3, 4, STACK, 6, 5, 7, 8)
 
 
 # Further slips.
 
 class TaintBeforeUnpredictable(Model):
-    ORDER = (1, 2, 3, 5, 4, 6, 7, 8)
+    ORDER = (1, 2, 3, 5, 4, STACK, 6, 7, 8)
 
 
 class ReadOnlyBeforeWindow(Model):
-    ORDER = (1, 2, 3, 4, 5, 6, 8, 7)
+    ORDER = (1, 2, 3, 4, 5, STACK, 6, 8, 7)
 
 
 class ReadOnlyBeforeBlock(Model):
-    ORDER = (1, 2, 3, 4, 5, 8, 6, 7)
+    ORDER = (1, 2, 3, 4, 5, STACK, 8, 6, 7)
 
     def is_read_only(self, state, access, address):
         return super().is_read_only(state, access, address) and not self.is_outside(state, access, address)
 
 
 class UndefinedAsForeign(Model):
-    def refusal(self, answer, address):
-        return super().refusal(2 if answer == 3 else answer, address)
+    def refusal(self, answer, state, address):
+        return super().refusal(2 if answer == 3 else answer, state, address)
 
 
 class NoRefusedAddress(Model):
     """No address beside 6, 7 and 8."""
 
-    def refusal(self, answer, address):
-        return answer, 0, 0
+    def refusal(self, answer, state, address):
+        return super().refusal(answer, state, address)[0], 0, 0
 
 
 class AddressOfTaint(Model):
     """The address beside 5: a tainted number would be shown."""
 
-    def refusal(self, answer, address):
-        return answer, 0, address if answer >= 5 else 0
+    def refusal(self, answer, state, address):
+        return (5, 0, address) if answer == 5 else super().refusal(answer, state, address)
 
 
 class TaintsPairTogether(Model):
@@ -518,11 +519,77 @@ class AlignsAll(Model):
         return address // 16 != (address + access.length() - 1) // 16
 
 
-class AlignsStackPointer(Model):
-    """6 for an SP that isn't a multiple of 16."""
+class StackUntested(Model):
+    """SP's alignment isn't tested, as in 01 without CR 1."""
 
-    def is_misaligned(self, state, access, address):
-        return access.base == LAST and state.registers[LAST] % 16 != 0 or super().is_misaligned(state, access, address)
+    def is_stack_misaligned(self, state, access, address):
+        return False
+
+
+class StackWithOffset(Model):
+    """The address of an access by SP is tested, and not SP itself."""
+
+    def is_stack_misaligned(self, state, access, address):
+        return access.base == LAST and address % 16 != 0
+
+
+class StackOf8(Model):
+    """SP needs only be a multiple of 8."""
+
+    def is_stack_misaligned(self, state, access, address):
+        return access.base == LAST and state.registers[LAST] % 8 != 0
+
+
+class StackByX30(Model):
+    """A base of X30 is tested too."""
+
+    def is_stack_misaligned(self, state, access, address):
+        return access.base in (30, LAST) and state.registers[access.base] % 16 != 0
+
+
+class StackOfLiteral(Model):
+    """SP is tested where it is no base: of a literal."""
+
+    def is_stack_misaligned(self, state, access, address):
+        return access.base in (None, LAST) and state.registers[LAST] % 16 != 0
+
+
+class StackOfPrefetch(Model):
+    """SP is tested of a prefetch too."""
+
+    def is_refused(self, answer, state, word, family, f, access, address):
+        if answer == STACK:
+            return self.is_stack_misaligned(state, access, address)
+        return super().is_refused(answer, state, word, family, f, access, address)
+
+
+class StackBeforeTaint(Model):
+    ORDER = (1, 2, 3, 4, STACK, 5, 6, 7, 8)
+
+
+class StackAfterBlock(Model):
+    ORDER = (1, 2, 3, 4, 5, 6, STACK, 7, 8)
+
+
+class StackAfterWindow(Model):
+    ORDER = (1, 2, 3, 4, 5, 6, 7, STACK, 8)
+
+
+class StackWithAddress(Model):
+    """SP's refusal reports the address of the access."""
+
+    def refusal(self, answer, state, address):
+        return (6, 0, address) if answer == STACK else super().refusal(answer, state, address)
+
+
+class StackWrittenBack(Model):
+    """The base is written back before SP is tested."""
+
+    def refusal(self, answer, state, address):
+        if answer == STACK:
+            self.set(state, LAST, address, False)
+            return 6, 0, address
+        return super().refusal(answer, state, address)
 
 
 class LastByteAllowed(Model):
@@ -675,9 +742,12 @@ SLIPS = [
     IndexAlwaysShifted, IndexNeverSigned, IndexAlwaysSigned, IndexSignedAs64, NoWriteback, WritesBackPairOffset,
     PrefetchLoads, PostAsPre, LiteralTaint, PrefetchTaint, PrefetchWindow, PrefetchAddress, UnpredictableDone,
     UnpredictableStackPointer, UnpredictableByRtOnly, UnpredictableButZero, UnpredictablePairStore, AlignsOrdered,
-    NeverMisaligned, AlignsAll, AlignsStackPointer, LastByteAllowed, LastByteRefused, FirstByteRefused, NoOriginTest,
+    NeverMisaligned, AlignsAll, LastByteAllowed, LastByteRefused, FirstByteRefused, NoOriginTest,
     WindowEnd, WindowEndFree, ReadOnlyAllRefused, TaintMayBeLonger, AnyPc, EvenPc, RefusalInTrace, ClearsTrace,
     CountsRefusal, CountsWords, RoomByStep, RoomFirst, RoomExact, OddRoom]
+STACKS = [
+    StackUntested, StackWithOffset, StackOf8, StackByX30, StackOfLiteral, StackOfPrefetch, StackBeforeTaint, StackAfterBlock,
+    StackAfterWindow, StackWithAddress, StackWrittenBack]
 # No input tells these from the right one: a step that writes back has an untainted base, or it is 5, and loads into no
 # register that is its base, or it is 4.
 SAME = [KeepsBaseTaint, WritesBackLoaded]

@@ -5,7 +5,8 @@ windows and answers: those are 01's, and the model's alone. For a step that is d
 mapped pages, and the address, length and direction of the access have to be the same.
 
 Made with unicorn 2.0.1, from Debian 12. Its "max" processor is the one that has the ordered instructions
-(FEAT_LRCPC2). Page tables are off, so that every address is there; SP's alignment isn't tested, as in 01.
+(FEAT_LRCPC2). Page tables are off, so that every address is there. QEMU tests no alignment of SP, whatever
+the system's switch for it says: that test is the model's alone.
 """
 import struct
 

@@ -6,10 +6,11 @@
     python3 tools/replay_cases.py --endings DIR     writes small inputs that end in each way, and what must come
     python3 tools/replay_cases.py --self-check      counts the cases that tell each wrong machine from the right one
 
-What must come is the model's, which is written from 01 alone (machine_model.py). Every step that is done, prefetches
+What must come is the model's, which is written from 01 and 02 alone (machine_model.py). Every step that is done, prefetches
 too, is also done by Unicorn, and registers, memory, PC, address and length of the access have to be the same
 (machine_unicorn.py): the script stops at any difference, and there is none. Unicorn also has to refuse the words of
-answer 3, and to reach for the address that answers 6 to 8 give. Which words are 2, 3 and 4 is also held against
+answer 3, and to reach for the address that answers 6 to 8 give. It has no test of the stack pointer's alignment: where that
+is what refuses, it has to make the access, at the address that the model gives it. Which words are 2, 3 and 4 is also held against
 crates/list/stdout, which LLVM and binutils have made. The other answers, windows, taints and the trace are the model's
 alone. None of it comes from this project's code.
 
@@ -22,7 +23,7 @@ import os
 import random
 
 from machine_model import FAMILIES, Model, fields_of
-from machine_mutants import EDGES, RUNS, SAME, SLIPS, STEPS, WARNED
+from machine_mutants import EDGES, RUNS, SAME, SLIPS, STACKS, STEPS, WARNED
 from replay_edges import all_edges
 from replay_format import bad_ending, case_bytes, case_lines, outcome_of, write_endings
 from replay_runs import all_runs, largest_case
@@ -76,8 +77,12 @@ def confirm(cases, outcomes):
             agreed(refuses_undefined(case.words[outcome.steps], outcome.state), case, outcome)
             refusals['undefined words'] += 1
         if outcome.answer in (6, 7, 8):
-            agreed(reaches(case.words[outcome.steps], outcome.state, outcome.address), case, outcome)
-            refusals['addresses of answers 6 to 8'] += 1
+            word, state = case.words[outcome.steps], outcome.state
+            access = access_of(word)
+            address = MODEL.address_of(state, access, fields_of(access.family, word))
+            agreed(reaches(word, state, address), case, outcome)
+            by_stack = MODEL.is_stack_misaligned(state, access, address)
+            refusals['accesses by an SP that is not aligned' if by_stack else 'addresses of answers 6 to 8'] += 1
     show('steps that Unicorn confirms', counts)
     show('refusals of which it confirms', refusals)
     show('cases with no steps for it', skipped)
@@ -146,7 +151,7 @@ def differing(mutant, cases, right):
 
 def self_check(cases, outcomes):
     right = [comparable(outcome) for outcome in outcomes]
-    lists = [('warned of', WARNED), ('further', SLIPS), ('edges', EDGES), ('runs', RUNS), ('steps', STEPS)]
+    lists = [('warned of', WARNED), ('further', SLIPS), ('stack pointer', STACKS), ('edges', EDGES), ('runs', RUNS), ('steps', STEPS)]
     unseen = []
     for title, mutants in lists:
         print(title)

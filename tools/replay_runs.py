@@ -22,6 +22,7 @@ def start(rng, length, pc=None, secret=False, readonly=None):
     numbers = rng.sample(range(31), 16)
     for number in numbers[:8] + [LAST]:
         registers[number] = (origin + rng.randrange(length)) % SPACE
+    registers[LAST] -= registers[LAST] % 16
     for number in numbers[8:12]:
         registers[number] = (rng.getrandbits(32) << 32 | rng.randrange(8)) if rng.getrandbits(1) else rng.randrange(6)
     tainted = [number not in numbers[:12] and number != LAST and rng.randrange(2 if secret else 5) == 0

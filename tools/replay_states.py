@@ -123,7 +123,10 @@ def any_taint(rng, memory, at, length):
 
 
 def lead_to(state, word, address):
-    """Sets base or PC so that the access is at an address; a base that is its own index stays. Where it then is."""
+    """Sets base or PC so that the access is at an address; a base that is its own index stays. Where it then is.
+
+    SP as a base is a multiple of 16, so that the access may be up to 15 bytes lower.
+    """
     family = MODEL.family_of(word)
     access, fields = access_of(word), fields_of(family, word)
     if family == LITERAL:
@@ -131,6 +134,8 @@ def lead_to(state, word, address):
     elif access.index != access.base or access.index is None or access.index == LAST:
         now = MODEL.address_of(state, access, fields)
         state.registers[access.base] = (state.registers[access.base] + address - now) % SPACE
+    if access.base == LAST:
+        state.registers[LAST] -= state.registers[LAST] % 16
     return MODEL.address_of(state, access, fields)
 
 

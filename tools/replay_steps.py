@@ -48,7 +48,8 @@ def examples():
         (0x385ff020, {}, (0, 1, 4100), {0: 128}),
         (0x38dff020, {}, (0, 1, 4100), {0: 4294967168}),
         (0x389ff020, {}, (0, 1, 4100), {0: SPACE - 128}),
-        (0x390003ff, dict(sp=4100), (0, 65, 4100), {}),
+        (0x390003ff, dict(sp=4096, readonly=0), (0, 65, 4096), {}),
+        (0x390003ff, dict(sp=4100), (6, 0, 4100), {}),
         (ldr, dict(x1=4104), (0, 8, 4104), {0: 0}),
         (ldr, dict(x1=4105), (7, 0, 4105), {}),
         (strb, dict(x1=4099), (8, 0, 4099), {}),
@@ -67,7 +68,8 @@ def examples():
         (0xf8408421, {}, (4, 0, 0), {}),
         (0xf8800020, {}, (0, 0, 0), {}),
         (0xf9400420, dict(x1=4096), (0, 8, 4104), {0: 0}),
-        (0xf84107e0, dict(sp=4100), (0, 8, 4100), {0: 128, 31: 4116}),
+        (0xf84107e0, dict(sp=4096), (0, 8, 4096), {0: 128 << 32, 31: 4112}),
+        (0xf84107e0, dict(sp=4100), (6, 0, 4100), {}),
         (0xa9bf7bfd, dict(readonly=0, sp=4112), (0, 80, 4096), {31: 4096}),
     ]
     for word, changed, expected, registers in plain:
@@ -326,6 +328,64 @@ def ordered_cases(rng):
         yield step('6 at the end of addresses', word, state_for(rng, word, SPACE - width + 1, before=3))
 
 
+# SP's alignment: 02, CR 1.
+
+def on_stack(rng, word, sp):
+    """A state with this SP as the base of an access, which lies inside the window, and two bytes about it."""
+    state, access = state_for(rng, word), access_of(word)
+    state.registers[LAST] = sp
+    if access.index not in (None, LAST):
+        state.registers[access.index] = rng.randrange(64)
+    address = MODEL.address_of(state, access, fields_of(access.family, word))
+    return sized(rng, state, address - 2, access.length() + 4)
+
+
+def stack_word(rng, family, sp, aligned):
+    """A word by SP whose offset makes the address a multiple of 16 or not; any word where none was found that does."""
+    for _ in range(80):
+        word = any_word(rng, family, rn=LAST)
+        access = access_of(word)
+        if access.index is None and ((sp + access.offset) % 16 == 0) == aligned:
+            break
+    return word
+
+
+def stack_cases(rng):
+    """SP at each place in a block of 16, in every family; tainted, outside the window and read-only; and no base."""
+    for family in (PAIR, *SIZED, REGISTER):
+        for residue in range(16):
+            sp = 65536 + 16 * rng.randrange(1000) + residue
+            for aligned in (True, False):
+                word = stack_word(rng, family, sp, aligned)
+                yield step('SP as the base', word, on_stack(rng, word, sp))
+            word = stack_word(rng, family, sp, False)
+            kind = residue % 3
+            state = on_stack(rng, word, sp)
+            if kind == 0:
+                state.tainted[LAST] = True
+            elif kind == 1:
+                state.origin += 4096
+            else:
+                state.readonly = len(state.memory)
+            yield step(('SP tainted', 'SP outside the window', 'SP read-only')[kind], word, state)
+    # 6 either way, with different addresses: an ordered access across a block, by an SP that isn't aligned.
+    for size, residue in itertools.product(range(1, 4), (1, 4, 8, 15)):
+        word = any_word(rng, ORDERED, {'size': size, 'opc': rng.randrange(2)}, rn=LAST, imm=31 - residue)
+        yield step('SP and a block', word, on_stack(rng, word, 65536 + residue))
+    for family in (LITERAL, *WITH_PREFETCH):
+        for residue in range(1, 16, 2):
+            word = prefetch_word(rng, family, **({'rn': LAST} if family != LITERAL else {}))
+            state = state_for(rng, word)
+            state.registers[LAST] = 65536 + residue
+            yield step('SP of a prefetch', word, state)
+    for residue in range(1, 16, 2):
+        # Neither a literal nor another base is tested.
+        for word in (any_word(rng, LITERAL), any_word(rng, UNSCALED, rn=30)):
+            state = state_for(rng, word, 65536 + 4 * residue)
+            state.registers[LAST] = 65536 + residue
+            yield step('SP is no base', word, state)
+
+
 def accesses_by_length(rng):
     """A load and a store of each length and kind that the window is tested for."""
     for size in range(4):
@@ -339,8 +399,10 @@ def accesses_by_length(rng):
 
 
 def distinct(rng, family):
-    """Registers that differ, so that the base can be led anywhere."""
-    return dict(zip(registers_of(family), rng.sample(range(32), 4)))
+    """Registers that differ, and a base that isn't SP, so that it can be led anywhere."""
+    rn = rng.randrange(31)
+    others = rng.sample([number for number in range(32) if number != rn], 3)
+    return {**dict(zip([name for name in registers_of(family) if name != 'rn'], others)), **({'rn': rn} if family != LITERAL else {})}
 
 
 def outside_cases(rng):
@@ -433,8 +495,9 @@ def flaws_of(case):
         flaws.append(2 if family is None else 3)
     elif not access.prefetch:
         address = MODEL.address_of(state, access, fields_of(family, word))
-        tests = {4: MODEL.is_unpredictable, 5: MODEL.is_tainted, 6: MODEL.is_misaligned, 7: MODEL.is_outside}
-        flaws += [answer for answer, test in tests.items() if test(state, access, address)]
+        tests = ((4, MODEL.is_unpredictable), (5, MODEL.is_tainted), (6, MODEL.is_stack_misaligned), (6, MODEL.is_misaligned),
+                 (7, MODEL.is_outside))
+        flaws += [answer for answer, test in tests if test(state, access, address)]
         first = max(address, state.origin)
         if access.store and first < min(address + access.length(), state.origin + state.readonly):
             flaws.append(8)
@@ -508,7 +571,7 @@ def both_ways(cases):
 def all_steps(rng):
     cases = list(example_cases())
     for group in (done_cases, bad_window_cases, foreign_cases, undefined_cases, unpredictable_cases, tainted_cases,
-                  prefetch_cases, ordered_cases, outside_cases, read_only_cases, pc_cases, trace_cases, flawed_cases,
+                  prefetch_cases, ordered_cases, stack_cases, outside_cases, read_only_cases, pc_cases, trace_cases, flawed_cases,
                   random_cases):
         cases += group(rng)
     return cases

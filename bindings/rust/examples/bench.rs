@@ -61,7 +61,9 @@ fn candidate(random: &mut Random) -> Option<u32> {
         let offset = (random.below(0x4000) as u32).wrapping_sub(0x2000) & 0x7_ffff;
         return Some(word & !(0x7_ffff << 5) & !0x1f | offset << 5 | data);
     }
-    let base = if random.once_in(9) { 31 } else { 1 + random.below(8) as u32 };
+    // SP stays aligned.
+    let keeps = !instruction.writes_back() || instruction.offset % 16 == 0;
+    let base = if keeps && random.once_in(9) { 31 } else { 1 + random.below(8) as u32 };
     let word = word & !(0x1f << 5) & !0x1f | base << 5 | data;
     Some(match instruction.family {
         Family::Pair(_) => word & !(0x1f << 10) | (9 + (data - 9 + 1 + random.below(21) as u32) % 22) << 10,
@@ -77,6 +79,7 @@ fn load(random: &mut Random, stores: bool) -> Load {
     for register in &mut start.registers[1..] {
         *register = WINDOW.origin + 0x8000 + 8 * random.below(64) as u64;
     }
+    start.registers[31] &= !15;
     let mut memory = vec![0; MEMORY];
     random.fill(&mut memory);
     let taint: Vec<u8> = (0..MEMORY).map(|_| random.once_in(16) as u8).collect();

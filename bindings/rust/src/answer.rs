@@ -26,7 +26,7 @@ pub enum Answer {
     Unpredictable = 4,
     /// The base or the index register is tainted.
     TaintedAddress = 5,
-    /// An ordered access crosses the border of a 16-byte block.
+    /// SP is the base and isn't a multiple of 16, or an ordered access crosses the border of a 16-byte block.
     Misaligned = 6,
     /// The access isn't wholly inside the window.
     OutOfWindow = 7,
@@ -83,7 +83,7 @@ impl fmt::Display for Answer {
             Answer::Undefined => "the word is an undefined load or store",
             Answer::Unpredictable => "the word names the same register twice where it must not",
             Answer::TaintedAddress => "the address would come from a secret value",
-            Answer::Misaligned => "the ordered access crosses the border of a 16-byte block",
+            Answer::Misaligned => "SP as the base isn't a multiple of 16, or the ordered access crosses the border of a 16-byte block",
             Answer::OutOfWindow => "the access isn't wholly inside the memory window",
             Answer::ReadOnly => "the store touches read-only memory",
             Answer::NoSuchText => "the text isn't the line of any load or store",
@@ -170,7 +170,8 @@ impl Refusal {
         self.steps
     }
 
-    /// The address of the access that was refused, for the answers that come after an address is known.
+    /// The address of the access that was refused, or SP where its alignment was, for the answers that come after an
+    /// address is known.
     pub fn address(&self) -> Option<u64> {
         let known = matches!(self.answer, Answer::Misaligned | Answer::OutOfWindow | Answer::ReadOnly);
         known.then_some(self.address)

@@ -76,6 +76,25 @@ fn examples_of_refusals() {
     assert_eq!(machine.step(0x595f_f020).unwrap_err().answer(), Answer::Misaligned);
 }
 
+/// CR 1: `ldr x0, [sp], #16` is done where SP is a multiple of 16, and refused with SP's own value where it isn't.
+#[test]
+fn a_stack_pointer_is_aligned() {
+    for sp in 4096..4104 {
+        let mut machine = example();
+        machine.registers[Register::SP] = sp;
+        let before = machine.registers.clone();
+        let stepped = machine.step(0xf841_07e0);
+        if sp == 4096 {
+            assert_eq!(stepped, Ok(Access { code: 8, address: sp }));
+            assert_eq!(machine.registers[Register::SP], 4112);
+        } else {
+            let refusal = stepped.unwrap_err();
+            assert_eq!((refusal.answer(), refusal.address()), (Answer::Misaligned, Some(sp)));
+            assert_eq!(machine.registers, before);
+        }
+    }
+}
+
 #[test]
 fn lent_memory_is_changed_in_place() {
     let (mut memory, mut taint): ([u8; 16], [u8; 16]) = (from_fn(|at| 50 + at as u8), from_fn(|at| 7 + at as u8));

@@ -242,6 +242,10 @@ fn aim(random: &mut Random, case: &mut Case, instruction: &Instruction) {
         _ if instruction.is_post() => case.registers[instruction.rn as usize] = target,
         _ => case.registers[instruction.rn as usize] = target.wrapping_sub(offset),
     }
+    // SP as a base is mostly aligned, up to 15 bytes lower.
+    if !random.once_in(4) {
+        case.registers[31] &= !15;
+    }
 }
 
 fn length_of_memory(random: &mut Random) -> usize {
@@ -325,7 +329,9 @@ fn tame_word(random: &mut Random) -> u32 {
             let word = word & !(0x7ffff << 5) | (random.below(16) as u32) << 5;
             return word & !0x1f | (9 + random.below(22) as u32);
         }
-        let base = if random.once_in(9) { 31 } else { 1 + random.below(8) as u32 };
+        // SP stays aligned.
+        let keeps = !instruction.writes_back() || instruction.offset % 16 == 0;
+        let base = if keeps && random.once_in(9) { 31 } else { 1 + random.below(8) as u32 };
         let data = 9 + random.below(23) as u32;
         let mut word = word & !(0x1f << 5) & !0x1f | base << 5 | data;
         match instruction.family {
@@ -357,6 +363,8 @@ fn long_runs() {
         for register in &mut case.registers[1..32] {
             *register = (1 << 20) + (1 << 15) + random.below(4096) as u64;
         }
+        // A base of SP that isn't aligned is refused at once.
+        case.registers[31] &= !15;
         case.registers[32] = (1 << 20) + 8192;
         if !random.once_in(4) {
             case.register_taints[..9].fill(0);

@@ -1,19 +1,22 @@
--- 01's examples on the pages themselves: what the three loads of its byte 128 give, and refusals of each kind. Assumes nothing.
+-- 01's examples on the pages themselves: what the three loads of its byte 128 give, and refusals of each kind, with those of a
+-- stack pointer that is not aligned (02, CR 1). Assumes nothing.
 use Prim.Native.Nat.{ℕ, _-_, _^_}
 use mathlib.Core.Path.{_≡_, refl}
 use mathlib.Core.Bool.{false}
 use mathlib.Core.List.{[], _∷_, _++_, map}
-use lib.ListN.{getD, replicate}
+use lib.ListN.{getD, set, replicate}
 use Rattle.bits.specs.Fields.{part}
 use Rattle.instruction.specs.Answers.{answerNumber}
-use Rattle.instruction.specs.Undefined.{undefinedSize, undefinedOption, undefinedPair}
+use Rattle.instruction.specs.Undefined.{undefinedSize, undefinedPrefetch, undefinedOption, undefinedPair}
 use Rattle.instruction.specs.Unpredictable.{baseIs, unpredictablePair}
 use Rattle.instruction.specs.Table.{inSet, rowOf, undefined, unpredictable}
 use Rattle.plan.specs.declared.window.Window.{Window}
 use Rattle.machine.specs.Machine.{Machine}
 use Rattle.machine.specs.Step.{performed}
-use Rattle.arm.specs.Pseudocode.{SignExtend, ZeroExtend, Add, X, setX, base, Mem}
+use Rattle.arm.specs.Pseudocode.{SignExtend, ZeroExtend, Add, X, setX, base, setBase, Mem}
 use Rattle.arm.specs.Unscaled.{unscaled}
+use Rattle.arm.specs.Immediate.{immediate}
+use Rattle.arm.specs.Indexed.{indexed}
 use Rattle.arm.specs.Marks.{anyMarked, marksOf}
 use Rattle.arm.specs.Choices.{badStart, armStep}
 
@@ -36,6 +39,15 @@ loaded word = getD (performed start (armStep window word start) .machine .values
 abbrev answer : ℕ → ℕ
 answer word = answerNumber (performed start (armStep window word start) .answer)
 
+-- with this SP
+abbrev stack : ℕ → Machine
+stack sp = record { values = set (start .values) 31 sp; pc = 8; memory = start .memory; taints = start .taints }
+
+abbrev stacked : ℕ → ℕ → ℕ × ℕ
+stacked word sp =
+    let o = performed (stack sp) (armStep window word (stack sp)) in
+    (answerNumber (o .answer), o .shown .address)
+
 -- ldurb, and ldursb to 32 and to 64 bits, at 4100
 loads : map loaded (0x385ff020 ∷ 0x38dff020 ∷ 0x389ff020 ∷ []) ≡ (128 ∷ 4294967168 ∷ (2 ^ 64 - 128) ∷ [])
 unfolding armStep badStart rowOf inSet undefined undefinedSize unpredictable part unscaled SignExtend ZeroExtend Add X setX base Mem marksOf anyMarked
@@ -47,3 +59,8 @@ answers : map answer (0x91000000 ∷ 0xb8c00020 ∷ 0x38e00862 ∷ 0xa9400020 �
     ≡ (2 ∷ 3 ∷ 3 ∷ 4 ∷ 0 ∷ 7 ∷ 8 ∷ 0 ∷ [])
 unfolding armStep badStart rowOf inSet undefined undefinedSize undefinedOption undefinedPair unpredictable baseIs unpredictablePair part unscaled SignExtend Add X base
 answers = refl
+
+-- `ldr x0, [sp], #16`, and a prefetch by SP: only SP itself is looked at, and only of an access
+stacks : (map (stacked 0xf84107e0) (4096 ∷ 4100 ∷ 4104 ∷ []) ≡ ((0, 4096) ∷ (6, 4100) ∷ (6, 4104) ∷ [])) × (stacked 0xf8bf6be0 4100 ≡ (0, 0))
+unfolding armStep badStart rowOf inSet undefined undefinedSize undefinedOption undefinedPrefetch unpredictable baseIs part immediate indexed SignExtend ZeroExtend Add X setX setBase base Mem marksOf anyMarked
+stacks = (refl, refl)

@@ -1,17 +1,17 @@
 -- The pages of one register, each with its family: the two form the same address (`based-form`, `index-form`,
 -- `literal-form`), and then `all-sizes` says the rest. Assumes nothing.
-use Prim.Native.Nat.{ℕ, _*_, _^_, _≤_, _<_}
+use Prim.Native.Nat.{ℕ, _*_, _%_, _^_, _≤_, _<_}
 use mathlib.Core.Path.{_≡_, refl, sym, ap, _∙_}
 use mathlib.Core.Bool.{Bool, true, false, not, _&&_, _||_}
 use native.Mathlib.Nat.{mod-eq-of-lt}
 use native.Mathlib.Omega.{arith}
 use lib.Dec.{eqb}
 use lib.ListN.{getD, List·getD-eq-default}
-use borrow.Author.Tests.{eqb-false, eq-eqb, ne-eqb}
+use borrow.Author.Tests.{eqb-true, eqb-false, eq-eqb, ne-eqb}
 use Rattle.bits.specs.Choice.{pick}
 use Rattle.bits.specs.Fields.{part, field}
 use Rattle.bits.specs.Signed.{signedOf, twosComplement}
-use Rattle.bits.proofs.Choices.{neither}
+use Rattle.bits.proofs.Choices.{both, neither}
 use Rattle.bits.proofs.Parts.{part-lt}
 use Rattle.registers.specs.File.{zeroSlot}
 use Rattle.bits.specs.Extension.{extendedOf}
@@ -32,8 +32,9 @@ use Rattle.access.specs.Accesses.{sizedAccess, literalMoves, literalAccess, fam
 use Rattle.plan.specs.declared.window.Window.{Window}
 use Rattle.plan.specs.Address.{sumOf, indexOf, shiftedOf}
 use Rattle.plan.specs.Admission.{misaligned}
+use Rattle.plan.specs.Plans.{misalignedStack}
 use Rattle.machine.specs.Machine.{Machine, operandsOf}
-use Rattle.arm.specs.Pseudocode.{Arm, LOAD, PREFETCH, Concat, SignExtend, ZeroExtend, LSL, Add, X, setX, base, Mem, ExtendReg, Operation, hint, loads, case}
+use Rattle.arm.specs.Pseudocode.{Arm, LOAD, PREFETCH, Concat, SignExtend, ZeroExtend, LSL, Add, X, setX, base, Mem, ExtendReg, Align, Operation, hint, loads, case}
 use Rattle.arm.specs.Unscaled.{unscaled}
 use Rattle.arm.specs.Ordered.{ordered}
 use Rattle.arm.specs.Immediate.{immediate, postIndex, preIndex, unsigned}
@@ -47,6 +48,29 @@ use Rattle.arm.proofs.Places.{base-is, x-is}
 use Rattle.arm.proofs.Marks.{mark-is}
 use Rattle.arm.proofs.Steps.{Ready, Steps, hints-step, same-block}
 use Rattle.arm.proofs.Singles.{four, Form, one-load, extended-none, all-sizes}
+
+-- ---- the stack pointer
+
+-- whether register n is SP, and not a multiple of 16
+abbrev pub strays : Machine → ℕ → Bool
+strays m n = eqb n 31 && not (eqb (getD (m .values) 31 0) (Align (getD (m .values) 31 0) 16))
+
+aligned-at : (x : ℕ) (a b : Bool) → eqb (x % 16) 0 ≡ a → eqb x (Align x 16) ≡ b → not a ≡ not b
+aligned-at x true true e f = refl
+aligned-at x false false e f = refl
+aligned-at x true false e f = absurd (eqb-false x (Align x 16) f (omega (arith, eqb-true (x % 16) 0 e)))
+aligned-at x false true e f = absurd (eqb-false (x % 16) 0 e (omega (arith, eqb-true x (Align x 16) f)))
+
+stack-at : (m : Machine) (n : ℕ) (b : Bool) → eqb n 31 ≡ b → pick b (not (eqb (getD (m .values) n 0 % 16) 0)) false ≡ (b && not (eqb (getD (m .values) 31 0) (Align (getD (m .values) 31 0) 16)))
+stack-at m n true e = rw (eqb-true n 31 e) (aligned-at (getD (m .values) 31 0) _ _ refl refl)
+stack-at m n false e = refl
+
+stack-is : (m : Machine) (n : ℕ) → misalignedStack n (getD (m .values) n 0) ≡ strays m n
+unfolding misalignedStack
+stack-is m n = stack-at m n (eqb n 31) refl
+
+stack-pointer : (m : Machine) (n : ℕ) → strays m n ≡ true → getD (m .values) n 0 ≡ getD (m .values) 31 0
+stack-pointer m n h = ap (λ (k : ℕ). getD (m .values) k 0) (eqb-true n 31 (both (eqb n 31) _ h .0))
 
 -- ---- what the tests of a word say
 
@@ -102,11 +126,13 @@ module _ (w : Window) (m : Machine) (r : Ready w m) (l : Row) (word : ℕ) where
     pub based-form : (ordered : Bool) → pageOf l word .wback ≡ wback → (getD (m .taints .registers) n false || false) ≡ marked (pageOf l word) word m
         → (wback ≡ true → ¬ (n ≡ zeroSlot (field 4 0 word)))
         → ((k address : ℕ) → 0 < k → k ≤ 16 → misaligned ordered k address ≡ crosses (pageOf l word) address k)
-        → Form w m l word a ordered wback (pick post (base n s) (Add (base n s) offset)) (Add (base n s) offset)
+        → Form w m l word a ordered wback (strays m n) (pick post (base n s) (Add (base n s) offset)) (Add (base n s) offset)
     unfolding based
     based-form ordered b e p q =
         record {
           mark = based-mark ∙ e;
+          stack = stack-is m n;
+          pointer = stack-pointer m n;
           first = ap (λ (x : ℕ). pick post x (sumOf a (operandsOf a m))) (sym base-register) ∙ ap (λ (x : ℕ). pick post (base n s) x) based-sum;
           sum = based-sum;
           written = refl;
@@ -140,7 +166,7 @@ module _ (w : Window) (m : Machine) (r : Ready w m) (word : ℕ) where
   unscaled-step u e =
       let k = known-sizes word u in
       let form = based-form w m r UnscaledRow word offset9 false false false refl refl (λ h. absurd (never h)) (λ k x p q. refl) in
-      all-sizes w m r UnscaledRow word _ false false _ _ form refl size opc size-lt opc-lt (k .0) (k .1) (rw offset9-is e)
+      all-sizes w m r UnscaledRow word _ false false _ _ _ form refl size opc size-lt opc-lt (k .0) (k .1) (rw offset9-is e)
 
   pub ordered-step : undefinedPrefetch word ≡ false → wordAccess word ≡ familyAccess (columnsOf OrderedRow .family word)
       → Steps w m OrderedRow word (ordered word (armOf w m))
@@ -148,7 +174,7 @@ module _ (w : Window) (m : Machine) (r : Ready w m) (word : ℕ) where
   ordered-step u e =
       let k = known-sizes word (prefetch-no word u .0) in
       let form = based-form w m r OrderedRow word offset9 false false true refl refl (λ h. absurd (never h)) (λ k x p q. same-block x k p q) in
-      all-sizes w m r OrderedRow word _ true false _ _ form refl size opc size-lt opc-lt (k .0) (k .1) (rw offset9-is e)
+      all-sizes w m r OrderedRow word _ true false _ _ _ form refl size opc size-lt opc-lt (k .0) (k .1) (rw offset9-is e)
 
   -- with writeback
   base-apart : baseIs (field 4 0 word) word ≡ false → ¬ (field 9 5 word ≡ zeroSlot (field 4 0 word))
@@ -161,7 +187,7 @@ module _ (w : Window) (m : Machine) (r : Ready w m) (word : ℕ) where
   post-step u b e =
       let k = known-sizes word (prefetch-no word u .0) in
       let form = based-form w m r PostRow word offset9 true true false refl refl (λ h. base-apart b) (λ k x p q. refl) in
-      all-sizes w m r PostRow word _ false true _ _ form refl size opc size-lt opc-lt (k .0) (k .1) (rw offset9-is e)
+      all-sizes w m r PostRow word _ false true _ _ _ form refl size opc size-lt opc-lt (k .0) (k .1) (rw offset9-is e)
 
   pub pre-step : undefinedPrefetch word ≡ false → unpredictableBase word ≡ false
       → wordAccess word ≡ familyAccess (columnsOf PreRow .family word) → Steps w m PreRow word (preIndex word (armOf w m))
@@ -169,7 +195,7 @@ module _ (w : Window) (m : Machine) (r : Ready w m) (word : ℕ) where
   pre-step u b e =
       let k = known-sizes word (prefetch-no word u .0) in
       let form = based-form w m r PreRow word offset9 false true false refl refl (λ h. base-apart b) (λ k x p q. refl) in
-      all-sizes w m r PreRow word _ false true _ _ form refl size opc size-lt opc-lt (k .0) (k .1) (rw offset9-is e)
+      all-sizes w m r PreRow word _ false true _ _ _ form refl size opc size-lt opc-lt (k .0) (k .1) (rw offset9-is e)
 
   -- the size of an operation is that of its word
   size-back : undefinedSize word ≡ false → sizeOf (sizedIn word) ≡ size
@@ -189,7 +215,7 @@ module _ (w : Window) (m : Machine) (r : Ready w m) (word : ℕ) where
       let offset-is : field 21 10 word * 2 ^ sizeOf (sizedIn word) ≡ offset =
       rw (size-back u) (sym (imm12-is (field 21 10 word) size (part-lt 10 12 word) size-lt)) in
       let form = based-form w m r UnsignedRow word offset false false false refl refl (λ h. absurd (never h)) (λ k x p q. refl) in
-      all-sizes w m r UnsignedRow word _ false false _ _ form refl size opc size-lt opc-lt (k .0) (k .1) (rw (← offset-is) e)
+      all-sizes w m r UnsignedRow word _ false false _ _ _ form refl size opc size-lt opc-lt (k .0) (k .1) (rw (← offset-is) e)
 
   -- ---- a base and an index
 
@@ -246,11 +272,13 @@ module _ (w : Window) (m : Machine) (r : Ready w m) (word : ℕ) where
 
   index-form : undefinedOption word ≡ false
       → let address = Add (base (field 9 5 word) (armOf w m)) (ExtendReg i option shift (armOf w m)) in
-      Form w m RegisterRow word indexing false false address address
+      Form w m RegisterRow word indexing false false (strays m (field 9 5 word)) address address
   unfolding misaligned
   index-form u =
       record {
         mark = index-mark;
+        stack = stack-is m (field 9 5 word);
+        pointer = stack-pointer m (field 9 5 word);
         first = index-sum u;
         sum = index-sum u;
         written = refl;
@@ -265,7 +293,7 @@ module _ (w : Window) (m : Machine) (r : Ready w m) (word : ℕ) where
   indexed-step u e =
       let p = option-no word u in
       let k = known-sizes word (p .0) in
-      all-sizes w m r RegisterRow word indexing false false _ _ (index-form u) refl size opc size-lt opc-lt (k .0) (k .1)
+      all-sizes w m r RegisterRow word indexing false false _ _ _ (index-form u) refl size opc size-lt opc-lt (k .0) (k .1)
       (e ∙ ap (λ (k : ℕ). sizedAccess (sizedIn word) (field 4 0 word) false (indexingBy k)) (size-back (p .0)))
 
   -- ---- the program counter and an offset
@@ -277,11 +305,13 @@ module _ (w : Window) (m : Machine) (r : Ready w m) (word : ℕ) where
   unfolding literalMode sumOf shiftedOf indexOf
   literal-sum offset = rw (add-is, List·getD-eq-default (m .values) 0 {n = 32} (omega (arith, r .real .registers))) (omega arith)
 
-  literal-form : (offset : ℕ) → Form w m LiteralRow word (literalMode offset) false false (Add (m .pc) offset) (Add (m .pc) offset)
-  unfolding literalMode misaligned
+  literal-form : (offset : ℕ) → Form w m LiteralRow word (literalMode offset) false false false (Add (m .pc) offset) (Add (m .pc) offset)
+  unfolding literalMode misaligned misalignedStack
   literal-form offset =
       record {
         mark = rw (List·getD-eq-default (m .taints .registers) false {n = 32} (omega (arith, r .real .marks)));
+        stack = refl;
+        pointer = λ h. absurd (never h);
         first = literal-sum offset;
         sum = literal-sum offset;
         written = refl;
@@ -296,7 +326,7 @@ module _ (w : Window) (m : Machine) (r : Ready w m) (word : ℕ) where
       Steps w m LiteralRow word (loads address k (setX (field 4 0 word) width (g (Mem address k (armOf w m))) (armOf w m)))
   unfolding literalMoves literalTransfer literalIn
   literal-load k extent width g x p q e =
-      one-load w m r LiteralRow word (literalMode offset19) false false _ _ (literal-form offset19) refl k extent width g p q x
+      one-load w m r LiteralRow word (literalMode offset19) false false false _ _ (literal-form offset19) refl k extent width g p q x
       (e ∙ ap (λ (o : ℕ). Moves (literalTransfer k extent (field 4 0 word)) (literalMode o)) (sym (imm19-is (field 23 5 word) (part-lt 5 19 word))))
 
   -- the page, by opc

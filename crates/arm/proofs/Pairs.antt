@@ -32,15 +32,15 @@ use Rattle.access.specs.Accesses.{pairAccess, familyAccess, wordAccess}
 use Rattle.plan.specs.declared.window.Window.{Window}
 use Rattle.plan.specs.Admission.{misaligned}
 use Rattle.machine.specs.Machine.{Machine}
-use Rattle.arm.specs.Pseudocode.{Arm, LOAD, STORE, SignExtend, LSL, Add, X, setX, base, Mem, setMem, withRegisters, Operation, hint, loads, stores, case}
+use Rattle.arm.specs.Pseudocode.{Arm, LOAD, STORE, SignExtend, LSL, Add, X, setX, base, Mem, setMem, withRegisters, Operation, hint, CheckSPAlignment, loads, stores, case}
 use Rattle.arm.specs.Pair.{paired, pair}
 use Rattle.arm.specs.Choices.{armOf}
 use Rattle.arm.proofs.Bits.{add-small, offset-is, extended-is}
 use Rattle.arm.proofs.Places.{x-is, set-x, set-base, mem-is, withMemory, set-mem, low-bytes, joined-lt}
 use Rattle.arm.proofs.Marks.{double, two-marks}
-use Rattle.arm.proofs.Steps.{Ready, Inside, Steps, loads-step, stores-step}
+use Rattle.arm.proofs.Steps.{Ready, Inside, Steps, faulty, access-step}
 use Rattle.arm.proofs.Singles.{four, back, back-registers, back-memory, Form, extended-none}
-use Rattle.arm.proofs.Families.{never, apart, based-form}
+use Rattle.arm.proofs.Families.{never, apart, strays, based-form}
 
 -- ---- two registers and two places
 
@@ -84,8 +84,8 @@ module _ (s : Arm) (len : length (s .registers) ≡ 32) where
       let two = set-mem (withMemory b s) k (address + k) (X t2 (8 * k) s) (omega arith) (omega arith) in
       rw (a, one, two, e, x-is s len t (8 * k) (omega arith), x-is s len t2 (8 * k) (omega arith), low-bytes k (getD (s .registers) (zeroSlot t) 0), low-bytes k (getD (s .registers) (zeroSlot t2) 0))
 
-module _ (w : Window) (m : Machine) (r : Ready w m) (word : ℕ) (a : Addressing) (wback : Bool) (address next : ℕ)
-    (f : Form w m PairRow word a false wback address next) (other : wback ≡ true → ¬ (field 9 5 word ≡ zeroSlot (field 14 10 word))) where
+module _ (w : Window) (m : Machine) (r : Ready w m) (word : ℕ) (a : Addressing) (wback stray : Bool) (address next : ℕ)
+    (f : Form w m PairRow word a false wback stray address next) (other : wback ≡ true → ¬ (field 9 5 word ≡ zeroSlot (field 14 10 word))) where
   abbrev s : Arm
   s = armOf w m
 
@@ -105,14 +105,16 @@ module _ (w : Window) (m : Machine) (r : Ready w m) (word : ℕ) (a : Addressing
   stored k = back wback n next (setMem (Add address k) k (X t2 (8 * k) s) (setMem address k (X t (8 * k) s) s))
 
   two-loads : (k extent width : ℕ) (g : ℕ → ℕ) → 0 < k → k ≤ 8 → ((v : ℕ) → v < 256 ^ k → extendedOf k extent v ≡ g v)
-      → wordAccess word ≡ Moves (double false k extent t t2) a → Steps w m PairRow word (loads address (2 * k) (loaded k width g))
+      → wordAccess word ≡ Moves (double false k extent t t2) a → Steps w m PairRow word (faulty m stray (loads address (2 * k) (loaded k width g)))
   unfolding setX
   two-loads k extent width g p q ext e =
-      loads-step w m (r .top) PairRow word (double false k extent t t2) a address (2 * k) (loaded k width g)
+      access-step w m (r .top) PairRow word (double false k extent t t2) a stray address (2 * k) (loaded k width g)
       (record {
         access = e;
         total = omega arith;
         mark = f .mark;
+        stack = f .stack;
+        pointer = f .pointer;
         first = f .first;
         block = f .block (2 * k) (omega arith) (omega arith);
         registers =
@@ -131,26 +133,28 @@ module _ (w : Window) (m : Machine) (r : Ready w m) (word : ℕ) (a : Addressing
         marks = λ h. rw (f .back) (two-marks wback (w .origin) word address (m .taints) (r .real .marks) (h .from) false k extent (a .written) (f .written));
         memory = λ h. sym (back-memory wback n next (setX t2 width (g (Mem (Add address k) k s)) (setX t width (g (Mem address k s)) s)));
       })
-      refl
+      false refl
 
-  two-stores : (k extent : ℕ) → 0 < k → k ≤ 8 → wordAccess word ≡ Moves (double true k extent t t2) a → Steps w m PairRow word (stores address (2 * k) (stored k))
+  two-stores : (k extent : ℕ) → 0 < k → k ≤ 8 → wordAccess word ≡ Moves (double true k extent t t2) a → Steps w m PairRow word (faulty m stray (stores address (2 * k) (stored k)))
   two-stores k extent p q e =
       let len = r .real .registers in
       let after : Arm = withMemory (filled s len k t t2 (address - w .origin)) s in
       let places : Inside w address (2 * k) → setMem (Add address k) k (X t2 (8 * k) s) (setMem address k (X t (8 * k) s) s) ≡ after =
       λ h. two-places s len k t t2 address p (h .from) (h .upto) in
-      stores-step w m (r .top) PairRow word (double true k extent t t2) a address (2 * k) (stored k)
+      access-step w m (r .top) PairRow word (double true k extent t t2) a stray address (2 * k) (stored k)
       (record {
         access = e;
         total = omega arith;
         mark = f .mark;
+        stack = f .stack;
+        pointer = f .pointer;
         first = f .first;
         block = f .block (2 * k) (omega arith) (omega arith);
         registers = λ h. rw (f .sum, f .written, places h) (sym (back-registers after len wback n next));
         marks = λ h. rw (f .back) (two-marks wback (w .origin) word address (m .taints) (r .real .marks) (h .from) true k extent (a .written) (f .written));
         memory = λ h. sym (back-memory wback n next _ ∙ ap (λ (x : Arm). x .memory) (places h));
       })
-      refl
+      true refl
 
 -- ---- all opcs, L and modes
 
@@ -170,12 +174,12 @@ module _ (w : Window) (m : Machine) (word : ℕ) (wback postindex : Bool) where
       let next = Add (base n s) offset in
       let second = Add address dbytes in
       case (pick (eqb L 1) LOAD STORE)
-      (stores address (2 * dbytes) (back wback n next (setMem second dbytes (X t2 datasize s) (setMem address dbytes (X t datasize s) s))))
-      (loads address (2 * dbytes)
+      (CheckSPAlignment n s (stores address (2 * dbytes) (back wback n next (setMem second dbytes (X t2 datasize s) (setMem address dbytes (X t datasize s) s)))))
+      (CheckSPAlignment n s (loads address (2 * dbytes)
       (back wback n next
       (pick (not (eqb (field 0 0 opc) 0))
       (setX t2 64 (SignExtend datasize 64 (Mem second dbytes s)) (setX t 64 (SignExtend datasize 64 (Mem address dbytes s)) s))
-      (setX t2 datasize (Mem second dbytes s) (setX t datasize (Mem address dbytes s) s)))))
+      (setX t2 datasize (Mem second dbytes s) (setX t datasize (Mem address dbytes s) s))))))
       hint
 
   abbrev accessBy : ℕ → ℕ → ℕ → Access
@@ -201,38 +205,38 @@ module _ (w : Window) (m : Machine) (r : Ready w m) (word : ℕ) where
     form : (offset : ℕ)
         → let n = field 9 5 word in
         let next = Add (base n (armOf w m)) offset in
-        Form w m PairRow word (based n offset postindex (pick wback n 32)) false wback (pick postindex (base n (armOf w m)) next) next
+        Form w m PairRow word (based n offset postindex (pick wback n 32)) false wback (strays m n) (pick postindex (base n (armOf w m)) next) next
     unfolding misaligned
     form offset = based-form w m r PairRow word offset postindex wback false writing refl one (λ k x p q. refl)
 
     store-words : Paged w m word wback postindex 0 0
     unfolding pairAt pairTransfer part
     store-words e =
-        two-stores w m r word _ wback _ _ (form (scaled 2)) other 4 4 (omega arith) (omega arith)
+        two-stores w m r word _ wback _ _ _ (form (scaled 2)) other 4 4 (omega arith) (omega arith)
         (e ∙ ap (accessBy w m word wback postindex 0 0) (scaled-is 2 (omega arith)))
 
     load-words : Paged w m word wback postindex 0 1
     unfolding pairAt pairTransfer part
     load-words e =
-        two-loads w m r word _ wback _ _ (form (scaled 2)) other 4 4 32 (λ v. v) (omega arith) (omega arith) (λ v h. extended-none 4 v)
+        two-loads w m r word _ wback _ _ _ (form (scaled 2)) other 4 4 32 (λ v. v) (omega arith) (omega arith) (λ v h. extended-none 4 v)
         (e ∙ ap (accessBy w m word wback postindex 0 1) (scaled-is 2 (omega arith)))
 
     load-signed : Paged w m word wback postindex 1 1
     unfolding pairAt pairTransfer part
     load-signed e =
-        two-loads w m r word _ wback _ _ (form (scaled 2)) other 4 8 64 (SignExtend 32 64) (omega arith) (omega arith) (λ v. extended-is 3 8 v (omega arith))
+        two-loads w m r word _ wback _ _ _ (form (scaled 2)) other 4 8 64 (SignExtend 32 64) (omega arith) (omega arith) (λ v. extended-is 3 8 v (omega arith))
         (e ∙ ap (accessBy w m word wback postindex 1 1) (scaled-is 2 (omega arith)))
 
     store-doubles : Paged w m word wback postindex 2 0
     unfolding pairAt pairTransfer part
     store-doubles e =
-        two-stores w m r word _ wback _ _ (form (scaled 3)) other 8 8 (omega arith) (omega arith)
+        two-stores w m r word _ wback _ _ _ (form (scaled 3)) other 8 8 (omega arith) (omega arith)
         (e ∙ ap (accessBy w m word wback postindex 2 0) (scaled-is 3 (omega arith)))
 
     load-doubles : Paged w m word wback postindex 2 1
     unfolding pairAt pairTransfer part
     load-doubles e =
-        two-loads w m r word _ wback _ _ (form (scaled 3)) other 8 8 64 (λ v. v) (omega arith) (omega arith) (λ v h. extended-none 8 v)
+        two-loads w m r word _ wback _ _ _ (form (scaled 3)) other 8 8 64 (λ v. v) (omega arith) (omega arith) (λ v h. extended-none 8 v)
         (e ∙ ap (accessBy w m word wback postindex 2 1) (scaled-is 3 (omega arith)))
 
     -- a fact of each number of one bit

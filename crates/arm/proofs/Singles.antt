@@ -23,6 +23,7 @@ use Rattle.access.specs.Accesses.{isPrefetch, sizedAccess, wordAccess}
 use Rattle.plan.specs.declared.window.Window.{Window}
 use Rattle.plan.specs.Address.{sumOf, addressOf}
 use Rattle.plan.specs.Admission.{misaligned}
+use Rattle.plan.specs.Plans.{misalignedStack}
 use Rattle.machine.specs.Machine.{Machine, operandsOf}
 use Rattle.arm.specs.Pseudocode.{Arm, MemOp, LOAD, STORE, PREFETCH, Extend, X, setX, setSP, setBase, Mem, setMem, withRegisters, Operation, hint, loads, stores, case}
 use Rattle.arm.specs.Pages.{pageOf}
@@ -30,7 +31,7 @@ use Rattle.arm.specs.Choices.{marked, crosses, armOf}
 use Rattle.arm.proofs.Bits.{zero-extend, extended-is}
 use Rattle.arm.proofs.Places.{x-is, set-x, set-base, mem-is, withMemory, set-mem, low-bytes, joined-lt}
 use Rattle.arm.proofs.Marks.{single, one-marks}
-use Rattle.arm.proofs.Steps.{Ready, Steps, hints-step, loads-step, stores-step}
+use Rattle.arm.proofs.Steps.{Ready, Steps, hints-step, faulty, access-step}
 
 -- a fact of each number of two bits
 pub four : (P : ℕ → Type 0) → P 0 → P 1 → P 2 → P 3 → (k : ℕ) → k < 4 → P k
@@ -104,8 +105,10 @@ zeros k width v h = rw (zero-extend (8 * k) width v) (extended-none k v)
 -- ---- one access
 
 -- what the addressing of an access and a page agree on, with the address and the number to write back
-pub record Form (w : Window) (m : Machine) (l : Row) (word : ℕ) (a : Addressing) (ordered wback : Bool) (address next : ℕ) : Type 0 where
+pub record Form (w : Window) (m : Machine) (l : Row) (word : ℕ) (a : Addressing) (ordered wback stray : Bool) (address next : ℕ) : Type 0 where
   pub mark : operandsOf a m .tainted ≡ marked (pageOf l word) word m
+  pub stack : misalignedStack (a .base) (operandsOf a m .base) ≡ stray
+  pub pointer : stray ≡ true → operandsOf a m .base ≡ getD (m .values) 31 0
   pub first : addressOf a (operandsOf a m) ≡ address
   pub sum : sumOf a (operandsOf a m) ≡ next
   pub written : a .written ≡ pick wback (field 9 5 word) 32
@@ -113,8 +116,8 @@ pub record Form (w : Window) (m : Machine) (l : Row) (word : ℕ) (a : Addressin
   pub apart : wback ≡ true → ¬ (field 9 5 word ≡ zeroSlot (field 4 0 word))
   pub block : (k : ℕ) → 0 < k → k ≤ 16 → misaligned ordered k address ≡ crosses (pageOf l word) address k
 
-module _ (w : Window) (m : Machine) (r : Ready w m) (l : Row) (word : ℕ) (a : Addressing) (ordered wback : Bool) (address next : ℕ)
-    (f : Form w m l word a ordered wback address next) (alone : pageOf l word .paired ≡ false) where
+module _ (w : Window) (m : Machine) (r : Ready w m) (l : Row) (word : ℕ) (a : Addressing) (ordered wback stray : Bool) (address next : ℕ)
+    (f : Form w m l word a ordered wback stray address next) (alone : pageOf l word .paired ≡ false) where
   abbrev s : Arm
   s = armOf w m
 
@@ -131,14 +134,16 @@ module _ (w : Window) (m : Machine) (r : Ready w m) (l : Row) (word : ℕ) (a : 
   stored k = back wback n next (setMem address k (X t (8 * k) s) s)
 
   pub one-load : (k extent width : ℕ) (g : ℕ → ℕ) → 0 < k → k ≤ 16 → ((v : ℕ) → v < 256 ^ k → extendedOf k extent v ≡ g v)
-      → wordAccess word ≡ Moves (single false ordered k extent t) a → Steps w m l word (loads address k (loaded k width g))
+      → wordAccess word ≡ Moves (single false ordered k extent t) a → Steps w m l word (faulty m stray (loads address k (loaded k width g)))
   unfolding setX
   one-load k extent width g p q ext e =
-      loads-step w m (r .top) l word (single false ordered k extent t) a address k (loaded k width g)
+      access-step w m (r .top) l word (single false ordered k extent t) a stray address k (loaded k width g)
       (record {
         access = e;
         total = add-zero k;
         mark = f .mark;
+        stack = f .stack;
+        pointer = f .pointer;
         first = f .first;
         block = f .block k p q;
         registers =
@@ -153,16 +158,18 @@ module _ (w : Window) (m : Machine) (r : Ready w m) (l : Row) (word : ℕ) (a : 
             rw (alone, f .back) (one-marks wback (w .origin) word address (m .taints) (r .real .marks) (h .from) false ordered k extent (a .written) (f .written));
         memory = λ h. sym (back-memory wback n next (setX t width (g (Mem address k s)) s));
       })
-      refl
+      false refl
 
-  pub one-store : (k extent : ℕ) → 0 < k → k ≤ 16 → wordAccess word ≡ Moves (single true ordered k extent t) a → Steps w m l word (stores address k (stored k))
+  pub one-store : (k extent : ℕ) → 0 < k → k ≤ 16 → wordAccess word ≡ Moves (single true ordered k extent t) a → Steps w m l word (faulty m stray (stores address k (stored k)))
   unfolding bytesOf
   one-store k extent p q e =
-      stores-step w m (r .top) l word (single true ordered k extent t) a address k (stored k)
+      access-step w m (r .top) l word (single true ordered k extent t) a stray address k (stored k)
       (record {
         access = e;
         total = add-zero k;
         mark = f .mark;
+        stack = f .stack;
+        pointer = f .pointer;
         first = f .first;
         block = f .block k p q;
         registers = λ h. store-registers s (r .real .registers) k address (h .from) (h .upto) wback n next _ (f .written) (f .sum);
@@ -171,7 +178,7 @@ module _ (w : Window) (m : Machine) (r : Ready w m) (l : Row) (word : ℕ) (a : 
             rw (alone, f .back) (one-marks wback (w .origin) word address (m .taints) (r .real .marks) (h .from) true ordered k extent (a .written) (f .written));
         memory = λ h. store-memory s (r .real .registers) k address (h .from) (h .upto) t p ∙ sym (back-memory wback n next _);
       })
-      refl
+      true refl
 
   -- ---- all sizes and opcs
 
@@ -183,8 +190,8 @@ module _ (w : Window) (m : Machine) (r : Ready w m) (l : Row) (word : ℕ) (a : 
       let regsize : ℕ = pick signed (pick (eqb (field 0 0 opc) 1) 32 64) (pick (eqb size 0b11) 64 32) in
       let datasize = 8 * 2 ^ size in
       case memop
-      (stores address (datasize / 8) (back wback n next (setMem address (datasize / 8) (X t datasize s) s)))
-      (loads address (datasize / 8) (back wback n next (setX t regsize (Extend signed datasize regsize (Mem address (datasize / 8) s)) s)))
+      (faulty m stray (stores address (datasize / 8) (back wback n next (setMem address (datasize / 8) (X t datasize s) s))))
+      (faulty m stray (loads address (datasize / 8) (back wback n next (setX t regsize (Extend signed datasize regsize (Mem address (datasize / 8) s)) s))))
       hint
 
   abbrev Paged : ℕ → ℕ → Type 0

@@ -1,11 +1,11 @@
 -- The step of one access is that of a page, from a record of what the two agree on (`Agreed`): the tests by cases, then the
--- effect. `hints-step`, `loads-step` and `stores-step` are what the families use. Assumes nothing.
+-- effect. `hints-step` and `access-step` are what the families use. Assumes nothing.
 use Prim.Native.Nat.{ℕ, _+_, _-_, _/_, _%_, _^_, _≤_, _<_}
 use mathlib.Core.Path.{_≡_, refl, ap, _∙_}
 use mathlib.Core.Bool.{Bool, true, false, _&&_, not}
 use native.Mathlib.Omega.{arith}
 use lib.Dec.{ltb, leb, eqb}
-use lib.ListN.{length}
+use lib.ListN.{length, getD}
 use borrow.Author.Tests.{ltb-true, ltb-false, lt-ltb, le-ltb, leb-true, leb-false, eqb-true, eqb-false, not-false}
 use Rattle.bits.specs.Choice.{pick}
 use Rattle.bits.proofs.Choices.{both}
@@ -17,13 +17,14 @@ use Rattle.access.specs.declared.Access.the-variants.{Nothing, Moves}
 use Rattle.plan.specs.declared.window.Window.{Window}
 use Rattle.plan.specs.Address.{sumOf, addressOf}
 use Rattle.plan.specs.Admission.{totalOf, misaligned, outside, guarded, admitOf}
+use Rattle.plan.specs.Plans.{misalignedStack}
 use Rattle.plan.proofs.Tests.{same-test}
 use Rattle.access.specs.Accesses.{wordAccess}
 use Rattle.machine.specs.Rule.{moveRule}
 use Rattle.machine.specs.Machine.{Machine, operandsOf, basedValues, loadedValues, storedBytes, effectOf, codeOf}
 use Rattle.machine.specs.Step.{shown, Step, stopped, moved}
 use Rattle.machine.specs.route.Parts.{accessStep}
-use Rattle.arm.specs.Pseudocode.{Arm, Operation, hint, loads, stores}
+use Rattle.arm.specs.Pseudocode.{Arm, Operation, hint, spFault, access}
 use Rattle.arm.specs.Marks.{marksOf}
 use Rattle.arm.specs.Pages.{pageOf}
 use Rattle.arm.specs.Choices.{marked, crosses, outOf, shut, afterPage, chosen}
@@ -83,23 +84,26 @@ same-block a n h k = go (ltb 16 (a % 16 + n)) refl (eqb (a / 16) ((a + n - 1) / 
 -- ---- the plan
 
 -- the tests of an access before what it comes to
-abbrev tested : Bool → Bool → Bool → Bool → ℕ → ℕ → Machine → Step Machine
-tested tainted across out guard x code n =
+abbrev tested : Bool → Bool → Bool → Bool → Bool → ℕ → ℕ → ℕ → Machine → Step Machine
+tested tainted stray across out guard sp x code n =
     pick tainted (stopped TaintedAddress 0)
+    (pick stray (stopped Misaligned sp)
     (pick across (stopped Misaligned x)
     (pick out (stopped OutOfWindow x)
     (pick guard (stopped ReadOnly x)
-    (moved n (shown code x)))))
+    (moved n (shown code x))))))
 
-planned : (x code : ℕ) (m n : Machine) (tainted across out guard test : Bool) → (out ≡ false → guard ≡ test) → (out ≡ false → m ≡ n) → tested tainted across out guard x code m ≡ tested tainted across out test x code n
-planned x code m n true across out guard test g f = refl
-planned x code m n false true out guard test g f = refl
-planned x code m n false false true guard test g f = refl
-planned x code m n false false false guard test g f = rw (g refl, f refl)
+planned : (b sp x code : ℕ) (m n : Machine) (tainted stray across out guard test : Bool) → (stray ≡ true → b ≡ sp) → (out ≡ false → guard ≡ test) → (out ≡ false → m ≡ n)
+    → tested tainted stray across out guard b x code m ≡ tested tainted stray across out test sp x code n
+planned b sp x code m n true stray across out guard test p g f = refl
+planned b sp x code m n false true across out guard test p g f = rw (p refl)
+planned b sp x code m n false false true out guard test p g f = refl
+planned b sp x code m n false false false true guard test p g f = refl
+planned b sp x code m n false false false false guard test p g f = rw (g refl, f refl)
 
-same-plan : (F : Bool → Bool → Bool → ℕ → Step Machine) {p p′ q q′ r r′ : Bool} {x x′ : ℕ} → p ≡ p′ → q ≡ q′ → r ≡ r′ → x ≡ x′
-    → F p q r x ≡ F p′ q′ r′ x′
-same-plan F e f g h = rw (e, f, g, h)
+same-plan : (F : Bool → Bool → Bool → Bool → ℕ → Step Machine) {p p′ q q′ r r′ s s′ : Bool} {x x′ : ℕ} → p ≡ p′ → q ≡ q′ → r ≡ r′ → s ≡ s′ → x ≡ x′
+    → F p q r s x ≡ F p′ q′ r′ s′ x′
+same-plan F e f g k h = rw (e, f, g, k, h)
 
 -- the step of a word is that of its page
 abbrev pub Steps : Window → Machine → Row → ℕ → Operation → Type 0
@@ -109,11 +113,17 @@ pub hints-step : (w : Window) (m : Machine) (l : Row) (word : ℕ) → wordAcces
 unfolding accessStep
 hints-step w m l word e = rw e
 
+-- what a page comes to whose stack pointer is not aligned, or is
+abbrev pub faulty : Machine → Bool → Operation → Operation
+faulty m stray o = pick stray (spFault (getD (m .values) 31 0)) o
+
 -- what an access and a page agree on
-pub record Agreed (w : Window) (m : Machine) (l : Row) (word : ℕ) (t : Transfer) (a : Addressing) (address size : ℕ) (after : Arm) : Type 0 where
+pub record Agreed (w : Window) (m : Machine) (l : Row) (word : ℕ) (t : Transfer) (a : Addressing) (stray : Bool) (address size : ℕ) (after : Arm) : Type 0 where
   pub access : wordAccess word ≡ Moves t a
   pub total : totalOf t ≡ size
   pub mark : operandsOf a m .tainted ≡ marked (pageOf l word) word m
+  pub stack : misalignedStack (a .base) (operandsOf a m .base) ≡ stray
+  pub pointer : stray ≡ true → operandsOf a m .base ≡ getD (m .values) 31 0
   pub first : addressOf a (operandsOf a m) ≡ address
   pub block : misaligned (t .ordered) size address ≡ crosses (pageOf l word) address size
   pub registers : Inside w address size
@@ -124,8 +134,8 @@ pub record Agreed (w : Window) (m : Machine) (l : Row) (word : ℕ) (t : Transfe
       ≡ marksOf (pageOf l word .paired) (pageOf l word .wback) (t .store) (w .origin) word address size (m .taints)
   pub memory : Inside w address size → pick (t .store) (storedBytes t (address - w .origin) (m .values) (m .memory)) (m .memory) ≡ after .memory
 
-module _ (w : Window) (m : Machine) (top : w .origin + length (m .memory) ≤ 2 ^ 64) (l : Row) (word : ℕ) (t : Transfer) (a : Addressing)
-    (address size : ℕ) (after : Arm) (g : Agreed w m l word t a address size after) where
+module _ (w : Window) (m : Machine) (top : w .origin + length (m .memory) ≤ 2 ^ 64) (l : Row) (word : ℕ) (t : Transfer) (a : Addressing) (stray : Bool)
+    (address size : ℕ) (after : Arm) (g : Agreed w m l word t a stray address size after) where
   abbrev o : Bool
   o = outOf w m address size
 
@@ -155,17 +165,19 @@ module _ (w : Window) (m : Machine) (top : w .origin + length (m .memory) ≤ 2 
       ∙ out-is w m address size
 
   step : accessStep (w .origin) (admitOf w (length (m .memory))) (wordAccess word) m
-      ≡ tested (marked (pageOf l word) word m) (crosses (pageOf l word) address size) o (shut w (t .store) address) address (codeOf t) left
+      ≡ tested (marked (pageOf l word) word m) stray (crosses (pageOf l word) address size) o (shut w (t .store) address) (getD (m .values) 31 0) address (codeOf t) left
   unfolding accessStep admitOf
   step =
       let next = sumOf a (operandsOf a m) in
       ap (λ x. accessStep (w .origin) (admitOf w (length (m .memory))) x m) (g .access)
-      ∙ same-plan (λ tainted across out x. tested tainted across out (guarded (t .store) x w) x (codeOf t) (effectOf t (a .written) (x - w .origin) next m)) (g .mark) across out (g .first)
-      ∙ planned address (codeOf t) (effectOf t (a .written) (address - w .origin) next m) left (marked (pageOf l word) word m) (crosses (pageOf l word) address size) o
-      (guarded (t .store) address w) (shut w (t .store) address) guard effect
+      ∙ same-plan (λ tainted stray across out x. tested tainted stray across out (guarded (t .store) x w) (operandsOf a m .base) x (codeOf t) (effectOf t (a .written) (x - w .origin) next m)) (g .mark) (g .stack) across out (g .first)
+      ∙ planned (operandsOf a m .base) (getD (m .values) 31 0) address (codeOf t) (effectOf t (a .written) (address - w .origin) next m) left (marked (pageOf l word) word m) stray
+      (crosses (pageOf l word) address size) o (guarded (t .store) address w) (shut w (t .store) address) (g .pointer) guard effect
 
-  pub loads-step : t .store ≡ false → Steps w m l word (loads address size after)
-  loads-step e = rw (g .total, e) at step
+  -- with the test of the stack pointer, and what the page then does
+  paged : (b store : Bool) → t .store ≡ store → stray ≡ b → Steps w m l word (faulty m b (access store address size after))
+  paged true store e f = rw (g .total, e, f) at step
+  paged false store e f = rw (g .total, e, f) at step
 
-  pub stores-step : t .store ≡ true → Steps w m l word (stores address size after)
-  stores-step e = rw (g .total, e) at step
+  pub access-step : (store : Bool) → t .store ≡ store → Steps w m l word (faulty m stray (access store address size after))
+  access-step store e = paged stray store e refl

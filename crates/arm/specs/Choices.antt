@@ -1,5 +1,5 @@
 -- A step by Arm's pages, with what 01 decides where Arm leaves a choice: "Answer numbers", 1 to 8 in their order and in
--- 01's words. Where Arm says undefined or unpredictable, 01's tables of words (instruction/specs) decide before the page.
+-- 01's words, with 02's CR 1. Where Arm says undefined or unpredictable, 01's tables of words (instruction/specs) decide before the page.
 use Prim.Native.Nat.{ℕ, _+_, _-_, _/_, _%_, _^_}
 use mathlib.Core.Bool.{Bool, false, _&&_, _||_, not}
 use lib.Dec.{eqb, ltb, leb}
@@ -11,7 +11,7 @@ use Rattle.instruction.specs.Table.{inSet, rowOf, undefined, unpredictable}
 use Rattle.plan.specs.declared.window.Window.{Window}
 use Rattle.machine.specs.Machine.{Machine}
 use Rattle.machine.specs.Step.{shown, Step, stopped, moved}
-use Rattle.arm.specs.Pseudocode.{Arm, Operation, hint, access}
+use Rattle.arm.specs.Pseudocode.{Arm, Operation, hint, spFault, access}
 use Rattle.arm.specs.Pages.{Page, pageOf}
 use Rattle.arm.specs.Marks.{mark, marksOf}
 
@@ -55,10 +55,11 @@ afterPage w word m page store address size s =
       taints = marksOf (page .paired) (page .wback) store (w .origin) word address size (m .taints);
     }
 
--- a prefetch changes nothing but PC, with code and address 0. An access has 5 to 8 before it; its code is the bytes touched,
--- plus 64 for a store
+-- a prefetch changes nothing but PC, with code and address 0. An access has 5 to 8 before it, and the fault of SP's alignment is
+-- 6 with SP's address, "after 5 and before the ordered test" (02, CR 1); its code is the bytes touched, plus 64 for a store
 abbrev pub chosen : Window → ℕ → Machine → Page → Operation → Step Machine
 chosen w word m page hint = moved (record { values = m .values; pc = after (m .pc); memory = m .memory; taints = m .taints }) (shown 0 0)
+chosen w word m page (spFault sp) = pick (marked page word m) (stopped TaintedAddress 0) (stopped Misaligned sp)
 chosen w word m page (access store address size s) =
     pick (marked page word m) (stopped TaintedAddress 0)
     (pick (crosses page address size) (stopped Misaligned address)

@@ -7,7 +7,7 @@ use mathlib.Core.Bool.{Bool, true, false}
 use lib.Dec.{eqb}
 use Rattle.bits.specs.Choice.{pick}
 use Rattle.bits.specs.Fields.{field}
-use Rattle.arm.specs.Pseudocode.{Arm, MemOp, LOAD, STORE, PREFETCH, SignExtend, ZeroExtend, Extend, LSL, Add, X, setX, base, setBase, Mem, setMem, Operation, hint, stores, loads, case}
+use Rattle.arm.specs.Pseudocode.{Arm, MemOp, LOAD, STORE, PREFETCH, SignExtend, ZeroExtend, Extend, LSL, Add, X, setX, base, setBase, Mem, setMem, Operation, hint, CheckSPAlignment, stores, loads, case}
 
 -- what the three encodings share
 unfoldable pub immediate : Bool → Bool → ℕ → ℕ → ℕ → Arm → Operation
@@ -25,8 +25,8 @@ immediate wback postindex scale offset word s =
     let address = pick postindex (base n s) (Add (base n s) offset) in
     let back : Arm → Arm = λ after. pick wback (setBase n (pick postindex (Add address offset) address) after) after in
     case memop
-    (stores address (datasize / 8) (back (setMem address (datasize / 8) (X t datasize s) s)))
-    (loads address (datasize / 8) (back (setX t regsize (Extend signed datasize regsize (Mem address (datasize / 8) s)) s)))
+    (CheckSPAlignment n s (stores address (datasize / 8) (back (setMem address (datasize / 8) (X t datasize s) s))))
+    (CheckSPAlignment n s (loads address (datasize / 8) (back (setX t regsize (Extend signed datasize regsize (Mem address (datasize / 8) s)) s))))
     hint
 
 abbrev pub postIndex : ℕ → Arm → Operation

@@ -5,7 +5,7 @@ use mathlib.Core.Bool.{Bool, true, false, not}
 use lib.Dec.{eqb}
 use Rattle.bits.specs.Choice.{pick}
 use Rattle.bits.specs.Fields.{field}
-use Rattle.arm.specs.Pseudocode.{Arm, MemOp, LOAD, STORE, SignExtend, LSL, Add, X, setX, base, setBase, Mem, setMem, Operation, hint, stores, loads, case}
+use Rattle.arm.specs.Pseudocode.{Arm, MemOp, LOAD, STORE, SignExtend, LSL, Add, X, setX, base, setBase, Mem, setMem, Operation, hint, CheckSPAlignment, stores, loads, case}
 
 -- what the four encodings share
 unfoldable pub paired : Bool → Bool → ℕ → Arm → Operation
@@ -28,11 +28,11 @@ paired wback postindex word s =
     let data2 = Mem second dbytes s in
     let back : Arm → Arm = λ after. pick wback (setBase n (pick postindex (Add address offset) address) after) after in
     case memop
-    (stores address (2 * dbytes) (back (setMem second dbytes (X t2 datasize s) (setMem address dbytes (X t datasize s) s))))
-    (loads address (2 * dbytes)
+    (CheckSPAlignment n s (stores address (2 * dbytes) (back (setMem second dbytes (X t2 datasize s) (setMem address dbytes (X t datasize s) s)))))
+    (CheckSPAlignment n s (loads address (2 * dbytes)
     (back
     (pick signed (setX t2 64 (SignExtend datasize 64 data2) (setX t 64 (SignExtend datasize 64 data1) s))
-    (setX t2 datasize data2 (setX t datasize data1 s)))))
+    (setX t2 datasize data2 (setX t datasize data1 s))))))
     hint
 
 -- mode 01 is post-index, 11 pre-index; 10 has an offset alone, and so has 00, without allocation

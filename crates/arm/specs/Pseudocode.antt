@@ -1,7 +1,7 @@
 -- The notions that Arm's pages share, written from their meaning (DDI 0602, "Shared Pseudocode"). The names with capitals
 -- are Arm's. Bits of a given width are a number, whose width is said where it matters; bits hi to lo of x are `field hi lo x`.
 use Prim.Native.Nat.{ℕ, zero, suc, _+_, _-_, _*_, _/_, _^_}
-use mathlib.Core.Bool.{Bool, true, false}
+use mathlib.Core.Bool.{Bool, true, false, _&&_, not}
 use mathlib.Core.List.{List}
 use lib.Dec.{eqb, ltb}
 use lib.ListN.{getD, set}
@@ -62,7 +62,7 @@ SP s = getD (s .registers) 31 0
 abbrev pub setSP : ℕ → Arm → Arm
 setSP v s = withRegisters (set (s .registers) 31 v) s
 
--- register n as a base, where 31 is SP. Its alignment is not tested: 01 takes the system's switch for that as off
+-- register n as a base, where 31 is SP
 unfoldable pub base : ℕ → Arm → ℕ
 base n s = pick (eqb n 31) (SP s) (X n 64 s)
 
@@ -96,11 +96,20 @@ pub data MemOp : Type 0 where
   STORE : MemOp
   PREFETCH : MemOp
 
--- a hint, which changes nothing; or one access, a store or not, by the address of its first byte, its bytes, and the state
--- that it leaves
+-- a hint, which changes nothing; an SP alignment fault, with SP; or one access, a store or not, by the address of its first
+-- byte, its bytes, and the state that it leaves
 pub data Operation : Type 0 where
   hint : Operation
+  spFault : ℕ → Operation
   access : Bool → ℕ → ℕ → Arm → Operation
+
+-- the largest multiple of y that is not above x
+abbrev pub Align : ℕ → ℕ → ℕ
+Align x y = y * (x / y)
+
+-- what comes before an access by base n: "if n == 31 then CheckSPAlignment()". 02's CR 1 takes the system's switch for it as on
+abbrev pub CheckSPAlignment : ℕ → Arm → Operation → Operation
+CheckSPAlignment n s o = pick (eqb n 31 && not (eqb (SP s) (Align (SP s) 16))) (spFault (SP s)) o
 
 abbrev pub stores : ℕ → ℕ → Arm → Operation
 stores address size s = access true address size s

@@ -4,7 +4,7 @@ use Prim.Native.Nat.{ℕ, _*_, _/_, _^_}
 use lib.Dec.{eqb}
 use Rattle.bits.specs.Choice.{pick}
 use Rattle.bits.specs.Fields.{field}
-use Rattle.arm.specs.Pseudocode.{Arm, MemOp, LOAD, STORE, PREFETCH, SignExtend, Extend, Add, X, setX, base, Mem, setMem, Operation, hint, stores, loads, case}
+use Rattle.arm.specs.Pseudocode.{Arm, MemOp, LOAD, STORE, PREFETCH, SignExtend, Extend, Add, X, setX, base, Mem, setMem, Operation, hint, CheckSPAlignment, stores, loads, case}
 
 unfoldable pub unscaled : ℕ → Arm → Operation
 unscaled word s =
@@ -23,6 +23,6 @@ unscaled word s =
     -- operation
     let address = Add (base n s) offset in
     case memop
-    (stores address (datasize / 8) (setMem address (datasize / 8) (X t datasize s) s))
-    (loads address (datasize / 8) (setX t regsize (Extend signed datasize regsize (Mem address (datasize / 8) s)) s))
+    (CheckSPAlignment n s (stores address (datasize / 8) (setMem address (datasize / 8) (X t datasize s) s)))
+    (CheckSPAlignment n s (loads address (datasize / 8) (setX t regsize (Extend signed datasize regsize (Mem address (datasize / 8) s)) s)))
     hint

@@ -1,15 +1,16 @@
 -- What a step answers, and that a refused one changes nothing. Assumes nothing.
-use Prim.Native.Nat.{ℕ, _<_}
-use mathlib.Core.Path.{_≡_, refl, sym, ap, _∙_}
+use Prim.Native.Nat.{ℕ, _%_, _<_}
+use mathlib.Core.Path.{_≡_, refl, sym, ap, subst, _∙_}
 use mathlib.Core.Bool.{Bool, true, false, not}
 use mathlib.Core.List.{List, _∷_}
 use mathlib.Core.Logic.{_↔_}
 use native.Mathlib.Omega.{arith}
 use lib.Dec.{eqb}
-use lib.ListN.{length}
+use lib.ListN.{length, getD}
+use borrow.Author.Tests.{eqb-true, ne-eqb, not-false}
 use Rattle.bits.specs.Choice.{pick}
 use Rattle.instruction.specs.declared.answer.Answer.{Answer}
-use Rattle.instruction.specs.declared.answer.Answer.the-variants.{Done, BadWindow, NotInSet, Undefined, Unpredictable, TaintedAddress}
+use Rattle.instruction.specs.declared.answer.Answer.the-variants.{Done, BadWindow, NotInSet, Undefined, Unpredictable, TaintedAddress, Misaligned}
 use Rattle.instruction.specs.Answers.{answerNumber}
 use Rattle.instruction.specs.Table.{inSet, undefined, unpredictable}
 use Rattle.decoder.specs.Decoding.{classOf}
@@ -23,8 +24,8 @@ use Rattle.plan.specs.declared.Plan.the-variants.{Refuse, Touch}
 use Rattle.plan.specs.Address.{sumOf, addressOf}
 use Rattle.plan.specs.Refusals.{Refusal, firstOf, answerIn, Given}
 use Rattle.plan.specs.Admission.{admitOf}
-use Rattle.plan.specs.Plans.{refusalsOf, planOf}
-use Rattle.plan.proofs.Refusals.{Each, each-map, first-by, first-map, given}
+use Rattle.plan.specs.Plans.{misalignedStack, refusalsOf, planOf}
+use Rattle.plan.proofs.Refusals.{Passed, Each, each-map, first-by, first-map, none-holds, given}
 use Rattle.machine.specs.Machine.{Machine, operandsOf}
 use Rattle.machine.specs.Refusals.{bad, accessRefusals, wordRefusals, refusals}
 use Rattle.machine.specs.Step.{Step, stopped, moved, performOf, stepOf, performed}
@@ -109,18 +110,49 @@ Later e = (1 < answerNumber (e .answer)) × (answerNumber (e .answer) < 9)
 access-later : (w : Window) (x : Access) (m : Machine) → Each Later (accessRefusals (admitOf w (length (m .memory))) x m)
 unfolding admitOf
 access-later w Nothing m = tt
-access-later w (Moves t a) m = ((omega arith, omega arith), ((omega arith, omega arith), ((omega arith, omega arith), ((omega arith, omega arith), tt))))
+access-later w (Moves t a) m = ((omega arith, omega arith), ((omega arith, omega arith), ((omega arith, omega arith), ((omega arith, omega arith), ((omega arith, omega arith), tt)))))
 
 pub word-later : (w : Window) (word : ℕ) (m : Machine) → Each Later (wordRefusals (admitOf w (length (m .memory))) word m)
 word-later w word m = ((omega arith, omega arith), ((omega arith, omega arith), ((omega arith, omega arith), access-later w (wordAccess word) m)))
+
+all-refuse : (w : Window) (word : ℕ) (m : Machine) → Each (λ e. ¬ (answerNumber (e .answer) ≡ 0)) (refusals w word m)
+all-refuse w word m =
+    ((λ h. omega arith), each-map {P = Later} {Q = λ e. ¬ (answerNumber (e .answer) ≡ 0)} (λ e later h. omega (arith, later .0)) (wordRefusals (admitOf w (length (m .memory))) word m) (word-later w word m))
 
 pub step-refuses : (w : Window) (word : ℕ) (m : Machine) → Refuses (stepOf w word m)
 unfolding stepOf
 step-refuses w word m =
     first-by Refuses stopped (performOf (w .origin) (wordAccess word) m) (refusals w word m)
-    ((λ h. omega arith), each-map {P = Later} {Q = λ e. ¬ (answerNumber (e .answer) ≡ 0)} (λ e later h. omega (arith, later .0)) (wordRefusals (admitOf w (length (m .memory))) word m) (word-later w word m))
-    (λ p. moves (w .origin) (wordAccess word) m)
+    (all-refuse w word m) (λ p. moves (w .origin) (wordAccess word) m)
   where
     moves : (origin : ℕ) (x : Access) (m : Machine) → Refuses (performOf origin x m)
     moves origin Nothing m = tt
     moves origin (Moves t a) m = tt
+
+-- ---- the stack pointer (02, CR 1)
+
+second : {A : Type 0} (b c : Bool) (x y z : A) → b ≡ false → c ≡ true → pick b x (pick c y z) ≡ y
+second b c x y z e f = rw (e, f)
+
+-- an access by SP that 1 to 5 don't refuse is refused with 6 and SP's own value where that is no multiple of 16
+pub stack-refused : (w : Window) (word : ℕ) (m : Machine) (t : Transfer) (a : Addressing) → wordAccess word ≡ Moves t a → a .relative ≡ false → a .base ≡ 31
+    → bad w m ≡ false → answerNumber (classOf word) ≡ 0 → operandsOf a m .tainted ≡ false → ¬ (getD (m .values) 31 0 % 16 ≡ 0) → stepOf w word m ≡ stopped Misaligned (getD (m .values) 31 0)
+unfolding accessStep misalignedStack
+stack-refused w word m t a e r b d c u h =
+    let sp = getD (m .values) 31 0 in
+    let base : operandsOf a m .base ≡ sp = rw (r, b) in
+    let strays : misalignedStack (a .base) (operandsOf a m .base) ≡ true = rw (base, b, ne-eqb (sp % 16) 0 h) in
+    let refused : accessStep (w .origin) (admitOf w (length (m .memory))) (Moves t a) m ≡ stopped Misaligned (operandsOf a m .base) = second (operandsOf a m .tainted) _ _ _ _ u strays in
+    rw (step-bad w word m, d, step-class (w .origin) (admitOf w (length (m .memory))) word m, c, e) (refused ∙ ap (stopped Misaligned) base)
+
+-- and one that is done has an SP that is a multiple of 16
+pub stack-aligned : (w : Window) (word : ℕ) (m : Machine) (t : Transfer) (a : Addressing) → wordAccess word ≡ Moves t a → a .relative ≡ false → a .base ≡ 31
+    → answerNumber (performed m (stepOf w word m) .answer) ≡ 0 → getD (m .values) 31 0 % 16 ≡ 0
+unfolding misalignedStack
+stack-aligned w word m t a e r b h =
+    let none : Passed (refusals w word m) = none-holds (refusals w word m) (all-refuse w word m) (sym (ap answerNumber (answers-exact w word m)) ∙ h) in
+    let passed : Passed (accessRefusals (admitOf w (length (m .memory))) (Moves t a) m) = subst (λ x. Passed (accessRefusals (admitOf w (length (m .memory))) x m)) e (none .1 .1 .1 .1) in
+    aligned (getD (m .values) 31 0) (rw (r, b) at (passed .1 .0))
+  where
+    aligned : (x : ℕ) → not (eqb (x % 16) 0) ≡ false → x % 16 ≡ 0
+    aligned x f = eqb-true (x % 16) 0 (not-false (eqb (x % 16) 0) f)

@@ -60,6 +60,15 @@ pub by-answer : {A : Type 0} (refuse : Answer → ℕ → A) (done : A) (a : ℕ
 by-answer refuse done a [] h = refl
 by-answer refuse done a (e ∷ es) h = answer-at refuse done a (e .holds) e (answerIn es) _ (h .0) (by-answer refuse done a es (h .1))
 
+-- where the answer is 0 none holds
+passed-at : (b : Bool) (e : Refusal) (other : Answer) {B : Type 0} → ¬ (answerNumber (e .answer) ≡ 0) → answerNumber (pick b (e .answer) other) ≡ 0 → (answerNumber other ≡ 0 → B) → (b ≡ false) × B
+passed-at true e other z h k = absurd (z h)
+passed-at false e other z h k = (refl, k h)
+
+pub none-holds : (es : List Refusal) → Each (λ e. ¬ (answerNumber (e .answer) ≡ 0)) es → answerNumber (answerIn es) ≡ 0 → Passed es
+none-holds [] z h = tt
+none-holds (e ∷ es) z h = passed-at (e .holds) e (answerIn es) (z .0) h (none-holds es (z .1))
+
 -- a number other than 0 is answered exactly if its refusal holds and none before it
 given-at : (n : ℕ) (b : Bool) (answer other : Answer) {G : Type 0} → (answerNumber other ≡ n → G) → answerNumber (pick b answer other) ≡ n → ((b ≡ true) × (answerNumber answer ≡ n)) ⊎ ((b ≡ false) × G)
 given-at n true answer other h e = inl (refl, e)

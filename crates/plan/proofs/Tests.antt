@@ -8,7 +8,7 @@ use borrow.Author.Tests.{ltb-true, ltb-false, eqb-true}
 use lib.Dec.{ltb, eqb}
 use Rattle.bits.specs.Choice.{pick}
 use Rattle.instruction.specs.declared.answer.Answer.{Answer}
-use Rattle.instruction.specs.declared.answer.Answer.the-variants.{TaintedAddress}
+use Rattle.instruction.specs.declared.answer.Answer.the-variants.{TaintedAddress, Misaligned}
 use Rattle.instruction.specs.Answers.{answerNumber}
 use Rattle.access.specs.declared.transfer.Transfer.{Transfer}
 use Rattle.access.specs.declared.addressing.Addressing.{Addressing}
@@ -20,7 +20,7 @@ use Rattle.plan.specs.Window.{badWindow}
 use Rattle.plan.specs.Refusals.{Refusal, firstOf, answerIn}
 use Rattle.plan.specs.Admission.{totalOf, outside, admitOf}
 use Rattle.plan.specs.Address.{sumOf, addressOf}
-use Rattle.plan.specs.Plans.{refusalsOf, planOf}
+use Rattle.plan.specs.Plans.{misalignedStack, refusalsOf, planOf}
 use Rattle.plan.proofs.Refusals.{Passed, Each, each, first-by, Reports, by-answer}
 
 -- two tests that hold together are one: the code subtracts where the definitions add
@@ -66,32 +66,40 @@ touch-admitted : (admit : Transfer → ℕ → List Refusal) (t : Transfer) (d :
 unfolding planOf
 touch-admitted admit t d o {a} {n} h =
     first-by (λ (p : Plan). p ≡ Touch a n → Passed (admit t a)) Refuse (Touch (addressOf d o) (sumOf d o)) (refusalsOf admit t d o) (each (λ e. not-touched (e .answer) (e .address) a n) (refusalsOf admit t d o))
-    (λ p. touched-at admit t (addressOf d o) (sumOf d o) a n (p .1)) h
+    (λ p. touched-at admit t (addressOf d o) (sumOf d o) a n (p .1 .1)) h
 
 -- a planned touch lies in the window
 pub touch-inside : (w : Window) (len : ℕ) (t : Transfer) (d : Addressing) (o : Operands) {p : Plan} {a n : ℕ} → p ≡ planOf (admitOf w len) t d o → p ≡ Touch a n → Inside (totalOf t) a (w .origin) len
 touch-inside w len t d o {p} {a} e h = admit-inside w len t a (touch-admitted (admitOf w len) t d o (sym e ∙ h))
 
--- the two ways that planning ends: tainted, or by what the admission answers
+passed : (b : Bool) (x : Plan) {y : Plan} → b ≡ false → y ≡ pick b x y
+passed b x e = rw e
+
+held : (b : Bool) (x y : Plan) → b ≡ true → x ≡ pick b x y
+held b x y e = rw e
+
+-- the three ways that planning ends: tainted, with a stack pointer that is not aligned, or by what the admission answers
 pub plan-tainted : (admit : Transfer → ℕ → List Refusal) (t : Transfer) (d : Addressing) (o : Operands) → o .tainted ≡ true → Refuse TaintedAddress 0 ≡ planOf admit t d o
 unfolding planOf
 plan-tainted admit t d o e = rw e
+
+pub plan-stack : (admit : Transfer → ℕ → List Refusal) (t : Transfer) (d : Addressing) (o : Operands) {u : Bool} → o .tainted ≡ false → u ≡ misalignedStack (d .base) (o .base) → u ≡ true
+    → Refuse Misaligned (o .base) ≡ planOf admit t d o
+unfolding planOf
+plan-stack admit t d o e f g = held (misalignedStack (d .base) (o .base)) (Refuse Misaligned (o .base)) (firstOf Refuse (Touch (addressOf d o) (sumOf d o)) (admit t (addressOf d o))) (sym f ∙ g) ∙ passed (o .tainted) (Refuse TaintedAddress 0) e
 
 admit-answers : (w : Window) (len : ℕ) (t : Transfer) (a : ℕ) → Each (Reports a) (admitOf w len t a)
 unfolding admitOf
 admit-answers w len t a = ((refl, λ h. omega arith), ((refl, λ h. omega arith), ((refl, λ h. omega arith), tt)))
 
-passed : (b : Bool) (x : Plan) {y : Plan} → b ≡ false → y ≡ pick b x y
-passed b x e = rw e
-
-pub plan-admitted : (w : Window) (len : ℕ) (t : Transfer) (d : Addressing) (o : Operands) {s x : ℕ} {r : Answer} → o .tainted ≡ false → s ≡ sumOf d o → x ≡ pick (d .post) (o .base) s
+pub plan-admitted : (w : Window) (len : ℕ) (t : Transfer) (d : Addressing) (o : Operands) {u : Bool} {s x : ℕ} {r : Answer} → o .tainted ≡ false → u ≡ misalignedStack (d .base) (o .base) → u ≡ false → s ≡ sumOf d o → x ≡ pick (d .post) (o .base) s
     → r ≡ answerIn (admitOf w len t x) → pick (eqb (answerNumber r) 0) (Touch x s) (Refuse r x) ≡ planOf (admitOf w len) t d o
 unfolding planOf
-plan-admitted w len t d o {s} {x} {r} e p q g =
+plan-admitted w len t d o {u} {s} {x} {r} e f v p q g =
     let admitted : pick (eqb (answerNumber r) 0) (Touch x s) (Refuse r x) ≡ firstOf Refuse (Touch (addressOf d o) (sumOf d o)) (admitOf w len t (addressOf d o)) =
     rw (← p, ← q, g) (sym (by-answer Refuse (Touch x s) x (admitOf w len t x) (admit-answers w len t x)))
     in
-    admitted ∙ passed (o .tainted) (Refuse TaintedAddress 0) e
+    admitted ∙ passed (misalignedStack (d .base) (o .base)) (Refuse Misaligned (o .base)) (sym f ∙ v) ∙ passed (o .tainted) (Refuse TaintedAddress 0) e
 
 lengths-at : (a b c : Bool) (taints len : ℕ) → eqb taints len ≡ c → (d : Bool) → pick a true (pick b true (pick (not c) true d)) ≡ false → taints ≡ len
 lengths-at true b c taints len e d h = absurd (let z : _≡_ {A = ℕ} 0 1 = cc in omega arith)

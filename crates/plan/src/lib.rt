@@ -12,7 +12,7 @@ pub use window::Window;
 pub use window::is_bad;
 ghost use mathlib.Core.Path.{_≡_};
 ghost use Rattle.plan.specs.Admission.{admitOf};
-ghost use Rattle.plan.specs.Plans.{planOf};
+ghost use Rattle.plan.specs.Plans.{misalignedStack, planOf};
 
 // A refusal has an answer and the address that it reports; a touch the address of the first byte, and the
 // number that is written back.
@@ -33,6 +33,9 @@ pub fn planned(
     if operands.tainted {
         return Plan::Refuse(Answer::TaintedAddress, 0);
     }
+    if is_misaligned_stack(addressing.base, operands.base) {
+        return Plan::Refuse(Answer::Misaligned, operands.base);
+    }
     let sum = address::sum(addressing, operands);
     let address = address::first_byte(addressing.post, operands.base, sum);
     let answer = admission::admission(transfer, address, window, len);
@@ -40,4 +43,14 @@ pub fn planned(
         return Plan::Refuse(answer, address);
     }
     Plan::Touch(address, sum)
+}
+
+// Whether SP is the base of an access and not a multiple of 16.
+fn is_misaligned_stack(slot: u32, base: u64) -> bool
+    ensures { λ r. ⌜ r ≡ misalignedStack slot base ⌝ }
+{
+    if slot == 31 {
+        return base % 16 != 0;
+    }
+    false
 }

@@ -25,7 +25,7 @@ use Rattle.machine.specs.Rule.{Taints, wordRule}
 use Rattle.machine.specs.Machine.{Machine}
 use Rattle.machine.specs.Refusals.{bad, classRefusals}
 use Rattle.machine.specs.Step.{Step, stopped, moved, stepOf, performed}
-use Rattle.machine.proofs.Answers.{answers-exact, answers-given, refused-unchanged, tainted-refused, Refuses, step-refuses}
+use Rattle.machine.proofs.Answers.{answers-exact, answers-given, refused-unchanged, tainted-refused, Refuses, step-refuses, stack-refused, stack-aligned}
 use Rattle.machine.proofs.Taints.{Follows, taintsIn, taints-by-rule}
 use Rattle.execution.specs.Walk.{runOf}
 use Rattle.execution.specs.Run.{machineRun}
@@ -245,6 +245,11 @@ library =
 pub requests : Requests
 requests =
     record {
+      stack-aligned = stack-aligned;
+      stack-refused =
+          λ w word m t a e r b d c u h.
+          let refused = stack-refused w word m t a e r b d c u h in
+          (ap (λ s. answerNumber (performed m s .answer)) refused, ap (λ s. performed m s .shown) refused);
       text-most = text-short;
       text-reached = text-reached;
       line-most = line-within;

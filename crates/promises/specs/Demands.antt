@@ -2,7 +2,7 @@
 -- that followed. A reader who trusts the definitions that are named here needs no other page. The contracts of the public
 -- functions say that the code returns and leaves what these definitions say, on any input: no function has a condition
 -- to meet.
-use Prim.Native.Nat.{ℕ, suc, _*_, _≤_}
+use Prim.Native.Nat.{ℕ, suc, _*_, _%_, _≤_}
 use mathlib.Core.Path.{_≡_}
 use mathlib.Core.Bool.{true, false, not}
 use mathlib.Core.List.{List, [], _∷_}
@@ -27,7 +27,7 @@ use Rattle.access.specs.Accesses.{wordAccess}
 use Rattle.machine.specs.Rule.{wordRule}
 use Rattle.machine.specs.Machine.{Machine, operandsOf}
 use Rattle.machine.specs.Refusals.{bad, classRefusals, refusals}
-use Rattle.machine.specs.Step.{Outcome, stepOf, performed}
+use Rattle.machine.specs.Step.{shown, Outcome, stepOf, performed}
 use Rattle.secrecy.specs.Agree.{Shows}
 use Rattle.execution.specs.Walk.{notBegun, runOf, afterSteps}
 use Rattle.execution.specs.Ends.{Kept, Ends, lastOf, Early}
@@ -171,6 +171,14 @@ pub record Library : Type 0 where
 
 -- The requests of document 02, in its words
 pub record Requests : Type 0 where
+  -- CR 1: "Every access with SP as its base, prefetches apart, now needs SP itself, before any offset, to be a multiple of
+  -- 16": one that is done has it. Else "answer 6, address SP", and code 0, where none of 1 to 5 comes first, whatever the
+  -- access itself would be. A literal's base is the program counter
+  pub stack-aligned : (w : Window) (word : ℕ) (m : Machine) (t : Transfer) (a : Addressing) → wordAccess word ≡ Moves t a → a .relative ≡ false → a .base ≡ 31
+      → stepAnswer w word m ≡ 0 → ListN.getD (m .values) 31 0 % 16 ≡ 0
+  pub stack-refused : (w : Window) (word : ℕ) (m : Machine) (t : Transfer) (a : Addressing) → wordAccess word ≡ Moves t a → a .relative ≡ false → a .base ≡ 31
+      → bad w m ≡ false → answerNumber (classOf word) ≡ 0 → operandsOf a m .tainted ≡ false → ¬ (ListN.getD (m .values) 31 0 % 16 ≡ 0)
+      → (stepAnswer w word m ≡ 6) × (stepped w word m .shown ≡ shown 0 (ListN.getD (m .values) 31 0))
   -- CR 4: "Promise that no allocated word's text is longer than 30 bytes and show a word that reaches it"
   pub text-most : (word : ℕ) → allocated word ≡ true → ListN.length (wordText word) ≤ textMost
   pub text-reached : (allocated 0x38aa594a ≡ true) × (ListN.length (wordText 0x38aa594a) ≡ textMost)

@@ -130,7 +130,7 @@ module _ (sees : ℕ → Type 0) (clear : Bool → Type 0) (none : clear false) 
       touch-alike t a o p e =
           rw (← e)
           (first-shows (Alike sees clear) _ _ (refusalsOf admit t a o)
-          (λ q. (effect-alike long t (a .written) (addressOf a o - origin) (sumOf a o) (safe t (addressOf a o) (q .1)), refl)))
+          (λ q. (effect-alike long t (a .written) (addressOf a o - origin) (sumOf a o) (safe t (addressOf a o) (q .1 .1)), refl)))
 
       moves-at : (t : Transfer) (a : Addressing) (z : Bool) → operandsOf a m .tainted ≡ z → Shows (Alike sees clear) (accessStep origin admit (Moves t a) m) (accessStep origin admit (Moves t a) n)
       unfolding accessStep

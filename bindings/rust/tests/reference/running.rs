@@ -104,7 +104,12 @@ fn walk(
         if state.taints[base] || has_index && shift.1 {
             return Err(early(TAINTED_ADDRESS));
         }
+        let is_stack = base == 31;
         let base = state.registers[base];
+        // CR 1: "SP itself, before any offset".
+        if is_stack && base & 0xf != 0 {
+            return Err(Refused { answer: MISALIGNED, address: base });
+        }
         if has_index {
             (base, base.wrapping_add(index(&instruction, shift.0)))
         } else if instruction.is_post() {

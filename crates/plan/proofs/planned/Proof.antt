@@ -1,7 +1,7 @@
 -- `plan::planned` meets its contract. Assumes nothing.
 use mathlib.Core.Path.{sym, _∙_}
 use borrow.Author.Tests.{eq-eqb, ne-eqb}
-use Rattle.plan.proofs.Tests.{plan-tainted, plan-admitted}
+use Rattle.plan.proofs.Tests.{plan-tainted, plan-stack, plan-admitted}
 use borrow.Author.Needs.{needs}
 use Rattle.plan.proofs.planned.Statement.{statement}
 use Rattle.plan.proofs.planned.Tie as tie
@@ -12,12 +12,16 @@ planned-spec =
     (tie.spec
     (λ c. plan-tainted _ _ _ _ (c .if1 .taken))
     (λ c κs. search needs)
+    (λ c. plan-stack _ _ _ _ (c .before .before .if1 .left) (c .before .is-misaligned-stack .ensures) (c .if2 .taken))
+    (λ c κs. search needs)
     (λ c κs. search needs)
     (λ c κs. search needs)
     (λ c κs. search needs)
     (λ c.
-    let fine = plan-admitted _ _ _ _ _ (c .before .before .before .before .before .if1 .left) (c .before .before .before .before .sum .ensures) (c .before .before .before .first-byte .ensures) (c .before .before .admission .ensures) in
-    rw (ne-eqb _ 0 (λ h. c .if2 .taken (c .before .answer-number .ensures .0 ∙ h))) at fine)
+    let stack = c .before .before .before .before .before in
+    let fine = plan-admitted _ _ _ _ _ (stack .before .before .if1 .left) (stack .before .is-misaligned-stack .ensures) (stack .if2 .left) (c .before .before .before .before .sum .ensures) (c .before .before .before .first-byte .ensures) (c .before .before .admission .ensures) in
+    rw (ne-eqb _ 0 (λ h. c .if3 .taken (c .before .answer-number .ensures .0 ∙ h))) at fine)
     (λ c.
-    let fine = plan-admitted _ _ _ _ _ (c .before .before .before .before .before .if1 .left) (c .before .before .before .before .sum .ensures) (c .before .before .before .first-byte .ensures) (c .before .before .admission .ensures) in
-    rw (eq-eqb _ 0 (sym (c .before .answer-number .ensures .0) ∙ c .if2 .left)) at fine))
+    let stack = c .before .before .before .before .before in
+    let fine = plan-admitted _ _ _ _ _ (stack .before .before .if1 .left) (stack .before .is-misaligned-stack .ensures) (stack .if2 .left) (c .before .before .before .before .sum .ensures) (c .before .before .before .first-byte .ensures) (c .before .before .admission .ensures) in
+    rw (eq-eqb _ 0 (sym (c .before .answer-number .ensures .0) ∙ c .if3 .left)) at fine))
