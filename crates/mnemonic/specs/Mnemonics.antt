@@ -4,17 +4,13 @@ use mathlib.Core.Bool.{Bool}
 use mathlib.Core.List.{List, [], _∷_, _++_}
 use lib.Dec.{eqb, ltb}
 use Rattle.bits.specs.Choice.{pick, lookup}
-use Rattle.instruction.specs.Operations.{sizedCode, sizeOf, opcOf}
+use Rattle.instruction.specs.Operations.{sizedCode, sizeOf, opcOf, pairOpc, pairLoad, modeCode}
 use Rattle.ascii.specs.Ascii.{asc}
 use Rattle.mnemonic.specs.declared.Stem.{Stem}
-use Rattle.mnemonic.specs.declared.Stem.the-variants.{Plain, Unscale, Order}
 use Rattle.instruction.specs.declared.operation.SizedOp.{SizedOp}
 use Rattle.instruction.specs.declared.operation.LiteralOp.{LiteralOp}
-use Rattle.instruction.specs.declared.operation.LiteralOp.the-variants.{LiteralWord, LiteralDouble, LiteralSignedWord, LiteralPrefetch}
 use Rattle.instruction.specs.declared.operation.PairOp.{PairOp}
-use Rattle.instruction.specs.declared.operation.PairOp.the-variants.{StoreWords, LoadWords, LoadSignedWords, StoreDoubles, LoadDoubles}
 use Rattle.instruction.specs.declared.operation.PairMode.{PairMode}
-use Rattle.instruction.specs.declared.operation.PairMode.the-variants.{NoAllocate, Post, Offset, Pre}
 
 -- b, h, and w where it is signed; a word and a doubleword have none
 abbrev pub sizeLetter : ℕ → Bool → List ℕ
@@ -41,33 +37,22 @@ abbrev pub orderedName : SizedOp → List ℕ
 orderedName op = stemmed (asc "stlur") (asc "ldapur") (asc "prfum") op
 
 abbrev pub sizedName : Stem → SizedOp → List ℕ
-sizedName Plain op = plainName op
-sizedName Unscale op = unscaledName op
-sizedName Order op = orderedName op
+sizedName Stem.Plain op = plainName op
+sizedName Stem.Unscale op = unscaledName op
+sizedName Stem.Order op = orderedName op
+
+-- the operation with a size whose name and operand a literal's has
+abbrev pub literalSized : LiteralOp → SizedOp
+literalSized LiteralOp.LiteralWord = SizedOp.LoadWord
+literalSized LiteralOp.LiteralDouble = SizedOp.LoadDouble
+literalSized LiteralOp.LiteralSignedWord = SizedOp.LoadSignedWord64
+literalSized LiteralOp.LiteralPrefetch = SizedOp.Prefetch
 
 abbrev pub literalName : LiteralOp → List ℕ
-literalName LiteralWord = asc "ldr"
-literalName LiteralDouble = asc "ldr"
-literalName LiteralSignedWord = asc "ldrsw"
-literalName LiteralPrefetch = asc "prfm"
+literalName op = plainName (literalSized op)
 
--- there is no ldpsw without allocation; its name is never read
-abbrev pub noAllocateName : PairOp → List ℕ
-noAllocateName StoreWords = asc "stnp"
-noAllocateName LoadWords = asc "ldnp"
-noAllocateName LoadSignedWords = asc "ldpsw"
-noAllocateName StoreDoubles = asc "stnp"
-noAllocateName LoadDoubles = asc "ldnp"
-
-abbrev pub allocateName : PairOp → List ℕ
-allocateName StoreWords = asc "stp"
-allocateName LoadWords = asc "ldp"
-allocateName LoadSignedWords = asc "ldpsw"
-allocateName StoreDoubles = asc "stp"
-allocateName LoadDoubles = asc "ldp"
-
+-- n without allocation; there is no ldpsw so, and its name is never read
 abbrev pub pairName : PairMode → PairOp → List ℕ
-pairName NoAllocate op = noAllocateName op
-pairName Post op = allocateName op
-pairName Offset op = allocateName op
-pairName Pre op = allocateName op
+pairName mode op =
+    pick (eqb (pairLoad op) 0) (asc "st") (asc "ld") ++ pick (eqb (modeCode mode) 0b00) (asc "n") []
+    ++ asc "p" ++ pick (eqb (pairOpc op) 0b01) (asc "sw") []

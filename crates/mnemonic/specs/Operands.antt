@@ -3,12 +3,11 @@ use Prim.Native.Nat.{ℕ}
 use mathlib.Core.Bool.{_||_}
 use lib.Dec.{eqb}
 use Rattle.bits.specs.Choice.{pick}
-use Rattle.instruction.specs.Operations.{sizedCode, sizeOf, opcOf}
+use Rattle.instruction.specs.Operations.{sizedCode, sizeOf, opcOf, pairOpc}
 use Rattle.instruction.specs.declared.operation.SizedOp.{SizedOp}
 use Rattle.instruction.specs.declared.operation.LiteralOp.{LiteralOp}
-use Rattle.instruction.specs.declared.operation.LiteralOp.the-variants.{LiteralWord, LiteralDouble, LiteralSignedWord, LiteralPrefetch}
 use Rattle.instruction.specs.declared.operation.PairOp.{PairOp}
-use Rattle.instruction.specs.declared.operation.PairOp.the-variants.{StoreWords, LoadWords, LoadSignedWords, StoreDoubles, LoadDoubles}
+use Rattle.mnemonic.specs.Mnemonics.{literalSized}
 
 pub data Operand : Type 0 where
   Narrow : Operand
@@ -26,14 +25,8 @@ abbrev pub sizedOperand : SizedOp → Operand
 sizedOperand op = pick (eqb (sizedCode op) 0b11_10) Hint (pick (eqb (sizeOf op) 0b11 || eqb (opcOf op) 0b10) Wide Narrow)
 
 abbrev pub literalOperand : LiteralOp → Operand
-literalOperand LiteralWord = Narrow
-literalOperand LiteralDouble = Wide
-literalOperand LiteralSignedWord = Wide
-literalOperand LiteralPrefetch = Hint
+literalOperand op = sizedOperand (literalSized op)
 
+-- two words
 abbrev pub pairOperand : PairOp → Operand
-pairOperand StoreWords = Narrow
-pairOperand LoadWords = Narrow
-pairOperand LoadSignedWords = Wide
-pairOperand StoreDoubles = Wide
-pairOperand LoadDoubles = Wide
+pairOperand op = pick (eqb (pairOpc op) 0b00) Narrow Wide

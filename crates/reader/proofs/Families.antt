@@ -4,13 +4,13 @@ use mathlib.Core.Path.{_≡_, refl, ap, _∙_}
 use mathlib.Core.List.{List, _++_, foldl}
 use lib.IntN.{natAbs}
 use Rattle.ascii.specs.Ascii.{asc}
-use Rattle.mnemonic.specs.Mnemonics.{allocateName}
+use Rattle.mnemonic.specs.Mnemonics.{literalSized, pairName}
 use Rattle.mnemonic.specs.Operands.{pairOperand}
 use Rattle.text.specs.Texts.{operandText, baseText, frontText, offsetTail, preTail, postTail, indexTail, literalText, pairText, sizedText, familyText}
-use Rattle.reader.specs.Types.{Scan, Tail, SizedOp, Prefetch, LiteralOp, PairOp, LoadSignedWords, PairMode, NoAllocate, Post, Offset, Pre, Family, Empty, Literal, Pair, Ordered, Unscaled, PostIndex, PreIndex, Register, Unsigned, LiteralOperands, PairOperands, OffsetOperands, IndexOperands}
+use Rattle.reader.specs.Types.{Scan, Tail, SizedOp, Prefetch, LiteralOp, PairOp, PairMode, NoAllocate, Post, Offset, Pre, Family, Empty, Literal, Pair, Ordered, Unscaled, PostIndex, PreIndex, Register, Unsigned, LiteralOperands, PairOperands, OffsetOperands, IndexOperands}
 use Rattle.reader.specs.route.Scan.{stepOf, scanStart}
 use Rattle.reader.specs.route.Build.{modeFor, pairFrom, buildOf}
-use Rattle.reader.proofs.Named.{plain-named, unscaled-named, ordered-named, pair-named, noallocate-named, literal-named, plainOp, literal-for}
+use Rattle.reader.proofs.Named.{plain-named, unscaled-named, ordered-named, pair-named, noallocate-named, literal-for}
 use Rattle.reader.proofs.Tails.{Words, here, OffsetEnd, offset-end, pre-end, post-end, index-end}
 use Rattle.reader.proofs.Fronts.{single, double, single-goes, double-goes, literal-goes, made, built-named, built-plain, offset-from, pair-from, index-from, literal-built}
 
@@ -32,17 +32,16 @@ pub record LiteralRange (o : LiteralOperands) : Type 0 where
   pub target : o .target < 32
   pub offset : natAbs (o .offset) < 0x20_0000
 
-pub record PairRange (op : PairOp) (o : PairOperands) : Type 0 where
+pub record PairRange (o : PairOperands) : Type 0 where
   pub first : o .first < 32
   pub second : o .second < 32
   pub base : o .base < 32
   pub offset : natAbs (o .offset) < 0x20_0000
-  pub defined : o .mode ≡ NoAllocate → ¬ (op ≡ LoadSignedWords)
 
 abbrev pub InRange : Family → Type 0
 InRange Empty = ⊥
 InRange (Literal op o) = LiteralRange o
-InRange (Pair op o) = PairRange op o
+InRange (Pair op o) = PairRange o
 InRange (Ordered op o) = ¬ (op ≡ Prefetch) × OffsetRange o
 InRange (Unscaled op o) = OffsetRange o
 InRange (PostIndex op o) = OffsetRange o
@@ -61,8 +60,8 @@ Comes F = buildOf (scanned (familyText F)) ≡ made F
 literal-comes : (op : LiteralOp) (o : LiteralOperands) → LiteralRange o → Comes (Literal op o)
 unfolding scanned literalText
 literal-comes op o v =
-    let N = literal-named op in
-    ap buildOf (literal-goes N (o .target) (v .target) (o .offset) (v .offset)) ∙ literal-built (plainOp op) N (o .target) (v .target) (o .offset) (v .offset)
+    let N = plain-named (literalSized op) in
+    ap buildOf (literal-goes N (o .target) (v .target) (o .offset) (v .offset)) ∙ literal-built (literalSized op) N (o .target) (v .target) (o .offset) (v .offset)
     ∙ ap (λ (x : LiteralOp). made (Literal x o)) (literal-for op)
 
 module _ (op : SizedOp) (o : OffsetOperands) (v : OffsetRange o) where
@@ -114,11 +113,11 @@ index-comes op o v =
     ap buildOf (single-goes N (o .target) (v .target) (o .base) (v .base) (indexTail op o)) ∙ built-plain op (e .kept) (N .reads (o .target)) refl (e .tail)
     ∙ ap (λ (x : IndexOperands). made (Register op x)) (index-from (v .target) (v .base) (v .index) e)
 
-module _ (op : PairOp) (o : PairOperands) (v : PairRange op o) where
+module _ (op : PairOp) (o : PairOperands) (v : PairRange o) where
   noallocate-comes : o .mode ≡ NoAllocate → Comes (Pair op o)
   unfolding scanned pairText
   noallocate-comes m =
-      let N = noallocate-named op (v .defined m) in
+      let N = noallocate-named op in
       let e = offset-end (double N (o .first) (v .first) (o .second) (o .base)) (o .offset) (v .offset) in
       rw m
       (ap buildOf (double-goes N (o .first) (v .first) (o .second) (o .base) (v .second) (v .base) (offsetTail (o .offset)))
@@ -130,7 +129,7 @@ module _ (op : PairOp) (o : PairOperands) (v : PairRange op o) where
 
   -- the mode is told by the tail
   allocate-comes : {x : Tail} (tail : List ℕ) → OffsetEnd words x (o .offset) (foldl stepOf (here words) tail)
-      → buildOf (foldl stepOf scanStart (frontText (allocateName op) (pairOperand op) (o .first) ++ operandText (pairOperand op) (o .second) ++ asc ", [" ++ baseText (o .base) ++ tail))
+      → buildOf (foldl stepOf scanStart (frontText (pairName Offset op) (pairOperand op) (o .first) ++ operandText (pairOperand op) (o .second) ++ asc ", [" ++ baseText (o .base) ++ tail))
       ≡ made (Pair op (record { first = o .first; second = o .second; base = o .base; mode = modeFor x; offset = o .offset }))
   unfolding words
   allocate-comes {x} tail e =

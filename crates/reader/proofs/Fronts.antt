@@ -8,11 +8,11 @@ use lib.IntN.{ℤ, pos, negsuc, natAbs}
 use Rattle.ascii.specs.Ascii.{asc, signedDec}
 use Rattle.text.specs.Texts.{operandText, baseText, frontText}
 use Rattle.mnemonic.specs.Operands.{Operand}
-use Rattle.reader.specs.Types.{Scan, Name, PlainName, Tail, SizedOp, PairMode, Family, Literal, Instruction}
+use Rattle.reader.specs.Types.{Scan, Name, Stem, Tail, SizedOp, PairMode, Family, Literal, Instruction}
 use Rattle.reader.specs.route.Scan.{packed, plainOf, stepOf, scanStart}
 use Rattle.reader.specs.route.Names.{nameFor}
 use Rattle.reader.specs.route.Tails.{tailAt, offsetAt}
-use Rattle.reader.specs.route.Build.{keyIn, literalFor, literalFrom, offsetFrom, indexFrom, pairFrom, bracketedFor, plainFor, familyFor, buildOf}
+use Rattle.reader.specs.route.Build.{keyIn, literalFor, literalFrom, offsetFrom, indexFrom, pairFrom, bracketedFor, plainFor, sizedFor, familyFor, buildOf}
 use Rattle.reader.proofs.Scans.{Scans, then, piece, word, operandKey, baseKey, signKey, operand-scan, base-scan, signed-scan}
 use Rattle.reader.proofs.Named.{Named, named}
 use Rattle.reader.proofs.Tails.{Words, here, Kept, OffsetEnd, IndexEnd, plus-back, minus-back}
@@ -94,7 +94,7 @@ module _ {w : Words} {s : Scan} where
   unfolding buildOf
   built-named k e = rw (k .key1, k .key0, e)
 
-  pub built-plain : {x : Tail} (op : SizedOp) → Kept w s → nameFor (w .key1) (w .key0) ≡ PlainName op → w .key2 ≡ 0 → tailAt (keyIn s 5) ≡ x
+  pub built-plain : {x : Tail} (op : SizedOp) → Kept w s → nameFor (w .key1) (w .key0) ≡ Name.Sized Stem.Plain op → w .key2 ≡ 0 → tailAt (keyIn s 5) ≡ x
       → buildOf s ≡ made (bracketedFor x op s)
   unfolding plainFor
   built-plain op k e z x = built-named k e ∙ rw (k .key2, z, x)
@@ -116,7 +116,7 @@ module _ {w : Words} {s : Scan} where
         rw (e .kept .num1, e .kept .num4, e .index, e .extend, e .scale, mod-eq-of-lt h1, mod-eq-of-lt h4, mod-eq-of-lt h5)
 
 -- the one line without a base
-pub literal-built : {name : List ℕ} {o : Operand} (op : SizedOp) (N : Named name o (PlainName op)) (t : ℕ) → t < 32 → (z : ℤ) → natAbs z < 0x20_0000
+pub literal-built : {name : List ℕ} {o : Operand} (op : SizedOp) (N : Named name o (Name.Sized Stem.Plain op)) (t : ℕ) → t < 32 → (z : ℤ) → natAbs z < 0x20_0000
     → buildOf (word (second (N .key) (N .num) (packed (operandKey o t) 44) t) (signKey z) (natAbs z))
     ≡ made (Literal (literalFor op) (record { target = t; offset = z }))
 unfolding buildOf plainFor literalFrom offsetAt

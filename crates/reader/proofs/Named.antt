@@ -1,49 +1,39 @@
--- Every mnemonic with its first operand names its operation again. Assumes nothing.
-use Prim.Native.Nat.{ℕ}
-use mathlib.Core.Path.{_≡_, refl, _∙_}
+-- Every mnemonic with its first operand names its operation again: one computed test over all names. Assumes nothing.
+use Prim.Native.Nat.{ℕ, _+_, _*_, _<_}
+use mathlib.Core.Path.{_≡_, refl, sym, ap, _∙_}
+use mathlib.Core.Bool.{Bool, _&&_, _||_, or-false}
 use mathlib.Core.List.{List, [], _∷_, _++_, foldl}
+use native.Mathlib.Omega.{arith}
 use lib.Dec.{eqb}
+use borrow.Author.Tests.{eqb-true, ne-eqb}
+use Rattle.bits.proofs.Choices.{both, tested}
+use Rattle.instruction.specs.Operations.{sizeOf, opcOf, sizedAt, pairAt}
+use Rattle.instruction.proofs.Codes.{sized-at}
 use Rattle.ascii.specs.Ascii.{asc}
-use Rattle.mnemonic.specs.Mnemonics.{plainName, unscaledName, orderedName, literalName, noAllocateName, allocateName}
-use Rattle.mnemonic.specs.Operands.{sizedOperand, literalOperand, pairOperand}
-use Rattle.mnemonic.specs.Operands.{Operand, Narrow, Wide, Hint}
-use Rattle.reader.specs.Types.{Scan, Name, PlainName, UnscaledName, OrderedName, PairName, NoAllocateName, SizedOp, StoreByte, LoadByte, LoadSignedByte64, LoadSignedByte32, StoreHalf, LoadHalf, LoadSignedHalf64, LoadSignedHalf32, StoreWord, LoadWord, LoadSignedWord64, StoreDouble, LoadDouble, Prefetch, LiteralOp, LiteralWord, LiteralDouble, LiteralSignedWord, LiteralPrefetch, PairOp, StoreWords, LoadWords, LoadSignedWords, StoreDoubles, LoadDoubles}
+use Rattle.mnemonic.specs.Mnemonics.{literalSized}
+use Rattle.mnemonic.specs.Operands.{Operand, Narrow, Wide, Hint, letterOf}
+use Rattle.mnemonic.specs.route.Names.{stemAt, nameAt, nameText, nameOperand, numberOf}
+use Rattle.mnemonic.proofs.Told.{same, same-is}
+use Rattle.mnemonic.proofs.Numbered.{number-below, name-back}
+use Rattle.reader.specs.Types.{Scan, Name, Stem, SizedOp, Prefetch, LiteralOp, LiteralWord, LiteralDouble, LiteralSignedWord, LiteralPrefetch, PairOp}
 use Rattle.reader.specs.route.Scan.{packed, plainOf, stepOf, scanStart}
-use Rattle.reader.specs.route.Names.{narrowName, wideName, hintName, nameFor}
+use Rattle.reader.specs.route.Names.{letterFor, isName, searched, nameFor}
 use Rattle.reader.specs.route.Build.{keyIn, numIn, literalFor}
 use Rattle.reader.proofs.Scans.{by-test, Scans, piece, operandKey}
 
--- ---- the first operand picks the table
-
-abbrev tableFor : Operand → ℕ → Name
-tableFor Narrow k = narrowName k
-tableFor Wide k = wideName k
-tableFor Hint k = hintName k
-
--- by the key of the first operand and its comma
-table-for : (o : Operand) (r k : ℕ) → nameFor (packed (operandKey o r) 44) k ≡ tableFor o k
-unfolding nameFor
-table-for Narrow r k = by-test (eqb r 31) (λ e. rw e) (λ e. rw e)
-table-for Wide r k = by-test (eqb r 31) (λ e. rw e) (λ e. rw e)
-table-for Hint r k = refl
-
--- ---- the mnemonics
+-- the letter by the key of the first operand and its comma
+letter-is : (o : Operand) (r : ℕ) → letterFor (packed (operandKey o r) 44) ≡ letterOf o
+unfolding letterFor
+letter-is Narrow r = by-test (eqb r 31) (λ e. rw e) (λ e. rw e)
+letter-is Wide r = by-test (eqb r 31) (λ e. rw e) (λ e. rw e)
+letter-is Hint r = refl
 
 -- before the first operand, with what the mnemonic left
 abbrev pub named : ℕ → ℕ → Scan
 named k n = record { keys = k ∷ 0 ∷ 0 ∷ 0 ∷ 0 ∷ 0 ∷ 0 ∷ 0 ∷ []; nums = n ∷ 0 ∷ 0 ∷ 0 ∷ 0 ∷ 0 ∷ 0 ∷ 0 ∷ []; at = 1 }
 
-nameKey : List ℕ → ℕ
-nameKey name = keyIn (foldl stepOf scanStart name) 0
-
--- p is also a number
-nameNum : List ℕ → ℕ
-nameNum name = numIn (foldl stepOf scanStart name) 0
-
--- a mnemonic and the kind of its first operand tell the name
-record Told (name : List ℕ) (o : Operand) (n : Name) : Type 0 where
-  scan : foldl stepOf scanStart (name ++ asc " ") ≡ named (nameKey name) (nameNum name)
-  table : tableFor o (nameKey name) ≡ n
+scanOf : Name → Scan
+scanOf x = foldl stepOf scanStart (nameText x ++ asc " ")
 
 pub record Named (name : List ℕ) (o : Operand) (n : Name) : Type 0 where
   pub key : ℕ
@@ -51,113 +41,72 @@ pub record Named (name : List ℕ) (o : Operand) (n : Name) : Type 0 where
   pub scan : Scans scanStart (name ++ asc " ") (named key num)
   pub reads : (r : ℕ) → nameFor (packed (operandKey o r) 44) key ≡ n
 
-told : {name : List ℕ} {o : Operand} {n : Name} → Told name o n → Named name o n
-told {name} {o} t =
+-- ---- the test
+
+-- only the words of the mnemonic are left, which may have a number, since p has one
+scanTest : ℕ → Bool
+scanTest k =
+    let s = scanOf (nameAt k) in
+    let t = named (keyIn s 0) (numIn s 0) in
+    same (s .keys) (t .keys) && (same (s .nums) (t .nums) && eqb (s .at) (t .at))
+
+-- the search comes to the same number, but for 14, the ordered prefetch
+foundTest : ℕ → Bool
+foundTest k =
+    eqb (numberOf (searched 64 (keyIn (scanOf (nameAt k)) 0) (letterOf (nameOperand (nameAt k))))) (numberOf (nameAt k))
+    || eqb (numberOf (nameAt k)) 14
+
+scans-to : (k : ℕ) → k < 64 → scanOf (nameAt k) ≡ named (keyIn (scanOf (nameAt k)) 0) (numIn (scanOf (nameAt k)) 0)
+unfolding scanTest scanOf same nameAt stemAt sizedAt pairAt plainOf stepOf scanStart
+scans-to k h =
+    let s = scanOf (nameAt k) in
+    let t = both _ _ (tested 64 scanTest refl k h) in
+    let u = both _ _ (t .1) in
+    let a = same-is (s .keys) _ (t .0) in
+    let b = same-is (s .nums) _ (u .0) in
+    let c = eqb-true (s .at) 1 (u .1) in
+    λ i. record { keys = a i; nums = b i; at = c i }
+
+found-number : (k : ℕ) → k < 64 → ¬ (numberOf (nameAt k) ≡ 14)
+    → numberOf (searched 64 (keyIn (scanOf (nameAt k)) 0) (letterOf (nameOperand (nameAt k)))) ≡ numberOf (nameAt k)
+unfolding foundTest scanOf isName searched nameAt stemAt sizedAt pairAt plainOf stepOf scanStart
+found-number k h n = eqb-true _ _ (simp (ne-eqb _ _ n, or-false) at (tested 64 foundTest refl k h))
+
+-- ---- every name
+
+pub name-named : (x : Name) → ¬ (numberOf x ≡ 14) → Named (nameText x) (nameOperand x) x
+unfolding nameFor scanOf
+name-named x n =
+    let e = name-back x in
+    let h = number-below x in
+    let f = found-number (numberOf x) h (rw e n) in
     record {
-      key = nameKey name;
-      num = nameNum name;
-      scan = piece (name ++ asc " ") (t .scan);
-      reads = λ r. table-for o r (nameKey name) ∙ t .table;
+      key = keyIn (scanOf x) 0;
+      num = numIn (scanOf x) 0;
+      scan = piece (nameText x ++ asc " ") (rw e at (scans-to (numberOf x) h));
+      reads = λ r. rw (letter-is (nameOperand x) r) (sym (name-back _) ∙ ap nameAt (rw e at f) ∙ e);
     }
 
-plain-told : (op : SizedOp) → Told (plainName op) (sizedOperand op) (PlainName op)
-unfolding nameKey nameNum plainOf stepOf scanStart narrowName wideName hintName
-plain-told StoreByte = record { scan = refl; table = refl }
-plain-told LoadByte = record { scan = refl; table = refl }
-plain-told LoadSignedByte64 = record { scan = refl; table = refl }
-plain-told LoadSignedByte32 = record { scan = refl; table = refl }
-plain-told StoreHalf = record { scan = refl; table = refl }
-plain-told LoadHalf = record { scan = refl; table = refl }
-plain-told LoadSignedHalf64 = record { scan = refl; table = refl }
-plain-told LoadSignedHalf32 = record { scan = refl; table = refl }
-plain-told StoreWord = record { scan = refl; table = refl }
-plain-told LoadWord = record { scan = refl; table = refl }
-plain-told LoadSignedWord64 = record { scan = refl; table = refl }
-plain-told StoreDouble = record { scan = refl; table = refl }
-plain-told LoadDouble = record { scan = refl; table = refl }
-plain-told Prefetch = record { scan = refl; table = refl }
+pub plain-named : (op : SizedOp) → Named (nameText (Name.Sized Stem.Plain op)) (nameOperand (Name.Sized Stem.Plain op)) (Name.Sized Stem.Plain op)
+plain-named op = name-named (Name.Sized Stem.Plain op) (λ e. omega arith)
 
-pub plain-named : (op : SizedOp) → Named (plainName op) (sizedOperand op) (PlainName op)
-plain-named op = told (plain-told op)
-
-unscaled-told : (op : SizedOp) → Told (unscaledName op) (sizedOperand op) (UnscaledName op)
-unfolding nameKey nameNum plainOf stepOf scanStart narrowName wideName hintName
-unscaled-told StoreByte = record { scan = refl; table = refl }
-unscaled-told LoadByte = record { scan = refl; table = refl }
-unscaled-told LoadSignedByte64 = record { scan = refl; table = refl }
-unscaled-told LoadSignedByte32 = record { scan = refl; table = refl }
-unscaled-told StoreHalf = record { scan = refl; table = refl }
-unscaled-told LoadHalf = record { scan = refl; table = refl }
-unscaled-told LoadSignedHalf64 = record { scan = refl; table = refl }
-unscaled-told LoadSignedHalf32 = record { scan = refl; table = refl }
-unscaled-told StoreWord = record { scan = refl; table = refl }
-unscaled-told LoadWord = record { scan = refl; table = refl }
-unscaled-told LoadSignedWord64 = record { scan = refl; table = refl }
-unscaled-told StoreDouble = record { scan = refl; table = refl }
-unscaled-told LoadDouble = record { scan = refl; table = refl }
-unscaled-told Prefetch = record { scan = refl; table = refl }
-
-pub unscaled-named : (op : SizedOp) → Named (unscaledName op) (sizedOperand op) (UnscaledName op)
-unscaled-named op = told (unscaled-told op)
+pub unscaled-named : (op : SizedOp) → Named (nameText (Name.Sized Stem.Unscale op)) (nameOperand (Name.Sized Stem.Unscale op)) (Name.Sized Stem.Unscale op)
+unscaled-named op = name-named (Name.Sized Stem.Unscale op) (λ e. omega arith)
 
 -- no ordered prefetch is allocated
-ordered-told : (op : SizedOp) → ¬ (op ≡ Prefetch) → Told (orderedName op) (sizedOperand op) (OrderedName op)
-unfolding nameKey nameNum plainOf stepOf scanStart narrowName wideName hintName
-ordered-told StoreByte n = record { scan = refl; table = refl }
-ordered-told LoadByte n = record { scan = refl; table = refl }
-ordered-told LoadSignedByte64 n = record { scan = refl; table = refl }
-ordered-told LoadSignedByte32 n = record { scan = refl; table = refl }
-ordered-told StoreHalf n = record { scan = refl; table = refl }
-ordered-told LoadHalf n = record { scan = refl; table = refl }
-ordered-told LoadSignedHalf64 n = record { scan = refl; table = refl }
-ordered-told LoadSignedHalf32 n = record { scan = refl; table = refl }
-ordered-told StoreWord n = record { scan = refl; table = refl }
-ordered-told LoadWord n = record { scan = refl; table = refl }
-ordered-told LoadSignedWord64 n = record { scan = refl; table = refl }
-ordered-told StoreDouble n = record { scan = refl; table = refl }
-ordered-told LoadDouble n = record { scan = refl; table = refl }
-ordered-told Prefetch n = absurd (n refl)
+pub ordered-named : (op : SizedOp) → ¬ (op ≡ Prefetch) → Named (nameText (Name.Sized Stem.Order op)) (nameOperand (Name.Sized Stem.Order op)) (Name.Sized Stem.Order op)
+unfolding sizedAt
+ordered-named op n = name-named (Name.Sized Stem.Order op) (λ e. let k : sizeOf op * 4 + opcOf op ≡ 14 = omega arith in n (sym (sized-at op) ∙ ap sizedAt k))
 
-pub ordered-named : (op : SizedOp) → ¬ (op ≡ Prefetch) → Named (orderedName op) (sizedOperand op) (OrderedName op)
-ordered-named op n = told (ordered-told op n)
+pub pair-named : (op : PairOp) → Named (nameText (Name.AllocatePair op)) (nameOperand (Name.AllocatePair op)) (Name.AllocatePair op)
+pair-named op = name-named (Name.AllocatePair op) (λ e. omega arith)
 
-pair-told : (op : PairOp) → Told (allocateName op) (pairOperand op) (PairName op)
-unfolding nameKey nameNum plainOf stepOf scanStart narrowName wideName hintName
-pair-told StoreWords = record { scan = refl; table = refl }
-pair-told LoadWords = record { scan = refl; table = refl }
-pair-told LoadSignedWords = record { scan = refl; table = refl }
-pair-told StoreDoubles = record { scan = refl; table = refl }
-pair-told LoadDoubles = record { scan = refl; table = refl }
+pub noallocate-named : (op : PairOp) → Named (nameText (Name.NoAllocatePair op)) (nameOperand (Name.NoAllocatePair op)) (Name.NoAllocatePair op)
+noallocate-named op = name-named (Name.NoAllocatePair op) (λ e. omega arith)
 
-pub pair-named : (op : PairOp) → Named (allocateName op) (pairOperand op) (PairName op)
-pair-named op = told (pair-told op)
-
--- nor is an ldpsw without allocation
-noallocate-told : (op : PairOp) → ¬ (op ≡ LoadSignedWords) → Told (noAllocateName op) (pairOperand op) (NoAllocateName op)
-unfolding nameKey nameNum plainOf stepOf scanStart narrowName wideName hintName
-noallocate-told StoreWords n = record { scan = refl; table = refl }
-noallocate-told LoadWords n = record { scan = refl; table = refl }
-noallocate-told LoadSignedWords n = absurd (n refl)
-noallocate-told StoreDoubles n = record { scan = refl; table = refl }
-noallocate-told LoadDoubles n = record { scan = refl; table = refl }
-
-pub noallocate-named : (op : PairOp) → ¬ (op ≡ LoadSignedWords) → Named (noAllocateName op) (pairOperand op) (NoAllocateName op)
-noallocate-named op n = told (noallocate-told op n)
-
--- the plain load that has the name of a load from a literal
-abbrev pub plainOp : LiteralOp → SizedOp
-plainOp LiteralWord = LoadWord
-plainOp LiteralDouble = LoadDouble
-plainOp LiteralSignedWord = LoadSignedWord64
-plainOp LiteralPrefetch = Prefetch
-
-pub literal-named : (op : LiteralOp) → Named (literalName op) (literalOperand op) (PlainName (plainOp op))
-literal-named LiteralWord = plain-named LoadWord
-literal-named LiteralDouble = plain-named LoadDouble
-literal-named LiteralSignedWord = plain-named LoadSignedWord64
-literal-named LiteralPrefetch = plain-named Prefetch
-
-pub literal-for : (op : LiteralOp) → literalFor (plainOp op) ≡ op
+-- a load from a literal has the name of a load with a size
+pub literal-for : (op : LiteralOp) → literalFor (literalSized op) ≡ op
+unfolding literalFor
 literal-for LiteralWord = refl
 literal-for LiteralDouble = refl
 literal-for LiteralSignedWord = refl

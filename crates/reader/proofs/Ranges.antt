@@ -1,26 +1,24 @@
 -- The operands of an allocated word are in the ranges that a line can show. Assumes nothing.
 use Prim.Native.Nat.{ℕ, _+_, _*_, _<_}
-use mathlib.Core.Path.{_≡_, refl, ap, sym, _∙_}
-use mathlib.Core.Bool.{Bool, true, false}
+use mathlib.Core.Path.{_≡_, sym}
+use mathlib.Core.Bool.{true, false}
 use mathlib.Core.List.{[], _∷_}
 use native.Mathlib.Nat.{pos-of-ne-zero}
 use native.Mathlib.Omega.{arith}
 use lib.Dec.{eqb}
-use borrow.Author.Tests.{eqb-true, eqb-false}
-use Rattle.bits.specs.Choice.{pick}
-use Rattle.bits.specs.Fields.{part, field}
-use Rattle.bits.proofs.Choices.{neither, tested}
+use borrow.Author.Tests.{eqb-false}
+use Rattle.bits.specs.Fields.{part}
+use Rattle.bits.proofs.Choices.{neither}
 use Rattle.bits.proofs.Parts.{part-lt, cut, Has}
 use Rattle.instruction.specs.declared.row.Row.{Row}
 use Rattle.instruction.specs.declared.row.Row.the-variants.{NoRow, LiteralRow, PairRow, OrderedRow, UnscaledRow, PostRow, PreRow, RegisterRow, UnsignedRow}
-use Rattle.instruction.specs.Undefined.{sizeOpc, undefinedSize, undefinedPrefetch, undefinedOption, undefinedPair}
+use Rattle.instruction.specs.Undefined.{sizeOpc, undefinedSize, undefinedPrefetch, undefinedOption}
 use Rattle.instruction.specs.Operands.{sizedIn, literalIn, pairOpIn, pairIn, signedIn, indexIn, unsignedIn}
 use Rattle.instruction.specs.Table.{columnsOf}
-use Rattle.instruction.specs.Operations.{pairAt, pairOpc, modeAt, modeCode}
 use Rattle.instruction.proofs.Rows.{prefetch-no, option-no}
-use Rattle.instruction.proofs.Codes.{sized-code, mode-code}
+use Rattle.instruction.proofs.Codes.{sized-code}
 use Rattle.instruction.proofs.Bounds.{literal-bounds, pair-bounds, signed-bounds, index-bounds, unsigned-bounds}
-use Rattle.reader.specs.Types.{Prefetch, LoadSignedWords, NoAllocate}
+use Rattle.reader.specs.Types.{Prefetch}
 use Rattle.reader.proofs.Families.{OffsetRange, IndexRange, LiteralRange, PairRange, InRange}
 
 -- ---- operations
@@ -36,28 +34,10 @@ no-prefetch w u e =
     let c = sized-code (sizeOpc w) (sizedRange w) (eqb-false _ _ (n .0)) (eqb-false _ _ (n .1)) in
     eqb-false (sizeOpc w) 0b11_10 (p .1) (sym (rw e at c))
 
-signedTest : ℕ → Bool
-signedTest k = pick (eqb (pairOpc (pairAt k)) 1) (eqb k 3) true
-
-signed-pair : (k : ℕ) → k < 8 → pairAt k ≡ LoadSignedWords → k ≡ 3
-unfolding signedTest pairAt
-signed-pair k h e = let t = tested 8 signedTest refl k h in eqb-true k 3 (rw e at t)
-
 one-of-four : (k a b : ℕ) → k ≡ a + (1 + b * 2) * 2 → a < 2 → b < 2 → ¬ (k ≡ 2) → ¬ (k ≡ 3) → ¬ (k ≡ 6) → k ≡ 7
 one-of-four k a b e h g p q r = omega arith
 
 module _ (w : ℕ) where
-  pair-mode : undefinedPair w ≡ false → modeAt (field 24 23 w) ≡ NoAllocate → ¬ (pairOpIn w ≡ LoadSignedWords)
-  unfolding undefinedPair pairOpIn
-  pair-mode u m e =
-      let k = signed-pair (field 31 30 w * 2 + field 22 22 w) (omega (arith, part-lt 30 2 w, part-lt 22 1 w)) e in
-      let mode : field 24 23 w ≡ 0 = sym (mode-code (field 24 23 w) (part-lt 23 2 w)) ∙ ap modeCode m in
-      let load : field 22 22 w ≡ 1 = omega (arith, part-lt 22 1 w) in
-      let opc : field 31 30 w ≡ 1 = omega (arith, part-lt 22 1 w) in
-      let f : true ≡ false = rw (opc, load, mode) at u in
-      let z : _≡_ {A = ℕ} 0 1 = cc in
-      omega arith
-
   -- ---- operands
 
   literal-range : LiteralRange (literalIn w)
@@ -69,11 +49,10 @@ module _ (w : ℕ) where
   unsigned-range : OffsetRange (unsignedIn (sizedIn w) w)
   unsigned-range = let b = unsigned-bounds w (sizedIn w) in record { target = b .target; base = b .base; offset = omega (arith, b .offset) }
 
-  pair-range : undefinedPair w ≡ false → PairRange (pairOpIn w) (pairIn (pairOpIn w) w)
-  unfolding pairIn
-  pair-range u =
+  pair-range : PairRange (pairIn (pairOpIn w) w)
+  pair-range =
       let b = pair-bounds w in
-      record { first = b .first; second = b .second; base = b .base; offset = omega (arith, b .offset); defined = pair-mode u }
+      record { first = b .first; second = b .second; base = b .base; offset = omega (arith, b .offset) }
 
   -- option bit 1 is 1
   index-range : undefinedOption w ≡ false → IndexRange (indexIn w)
@@ -94,7 +73,7 @@ module _ (w : ℕ) where
   pub in-range : (r : Row) → Has w (columnsOf r .fixed) → columnsOf r .undefined w ≡ false → InRange (columnsOf r .family w)
   in-range NoRow h u = absurd (omega arith)
   in-range LiteralRow h u = literal-range
-  in-range PairRow h u = pair-range u
+  in-range PairRow h u = pair-range
   in-range OrderedRow h u = (no-prefetch w u, signed-range)
   in-range UnscaledRow h u = signed-range
   in-range PostRow h u = signed-range

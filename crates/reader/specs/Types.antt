@@ -18,7 +18,7 @@ pub use Rattle.instruction.specs.declared.family.OffsetOperands.{OffsetOperands
 pub use Rattle.instruction.specs.declared.family.IndexOperands.{IndexOperands}
 pub use Rattle.reader.specs.declared.Reading.{Reading}
 pub use Rattle.reader.specs.declared.scan.Scan.{Scan}
-pub use Rattle.reader.specs.declared.name.Name.{Name}
-pub use Rattle.reader.specs.declared.name.Name.the-variants.{NoName, PlainName, UnscaledName, OrderedName, PairName, NoAllocateName}
+pub use Rattle.mnemonic.specs.declared.Stem.{Stem}
+pub use Rattle.mnemonic.specs.declared.names.Name.{Name}
 pub use Rattle.reader.specs.declared.tail.Tail.{Tail}
 pub use Rattle.reader.specs.declared.tail.Tail.the-variants.{AtOffset, Before, After, Indexed}

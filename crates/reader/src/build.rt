@@ -1,5 +1,4 @@
 // The one instruction whose line a scanned text can be.
-use crate::name::Name;
 use crate::name::name_for;
 use crate::scan::Scan;
 use crate::tail::Tail;
@@ -16,8 +15,10 @@ use instruction::OffsetOperands;
 use instruction::PairMode;
 use instruction::PairOperands;
 use instruction::SizedOp;
+use mnemonic::Name;
+use mnemonic::Stem;
 ghost use mathlib.Core.Path.{_≡_};
-ghost use Rattle.reader.specs.route.Build.{registerOf, literalFor, literalFrom, offsetFrom, indexFrom, pairFrom, modeFor, bracketedFor, plainFor, familyFor, buildOf};
+ghost use Rattle.reader.specs.route.Build.{registerOf, literalFor, literalFrom, offsetFrom, indexFrom, pairFrom, modeFor, bracketedFor, plainFor, sizedFor, familyFor, buildOf};
 
 fn register(number: u64) -> u32
     ensures { λ r. ⌜ r ≡ registerOf number ⌝ }
@@ -25,25 +26,15 @@ fn register(number: u64) -> u32
     (number % 32) as u32
 }
 
-// The load from a literal that has a plain load's name.
+// The load from a literal that has the name of a load with a size.
 fn literal_for(op: SizedOp) -> LiteralOp
     ensures { λ r. ⌜ r ≡ literalFor op ⌝ }
 {
-    match op {
-        SizedOp::StoreByte => LiteralOp::LiteralWord,
-        SizedOp::LoadByte => LiteralOp::LiteralWord,
-        SizedOp::LoadSignedByte64 => LiteralOp::LiteralWord,
-        SizedOp::LoadSignedByte32 => LiteralOp::LiteralWord,
-        SizedOp::StoreHalf => LiteralOp::LiteralWord,
-        SizedOp::LoadHalf => LiteralOp::LiteralWord,
-        SizedOp::LoadSignedHalf64 => LiteralOp::LiteralWord,
-        SizedOp::LoadSignedHalf32 => LiteralOp::LiteralWord,
-        SizedOp::StoreWord => LiteralOp::LiteralWord,
-        SizedOp::LoadWord => LiteralOp::LiteralWord,
-        SizedOp::LoadSignedWord64 => LiteralOp::LiteralSignedWord,
-        SizedOp::StoreDouble => LiteralOp::LiteralDouble,
-        SizedOp::LoadDouble => LiteralOp::LiteralDouble,
-        SizedOp::Prefetch => LiteralOp::LiteralPrefetch,
+    match instruction::size_field(op) * 4 + instruction::opc_field(op) {
+        0b10_10 => LiteralOp::LiteralSignedWord,
+        0b11_01 => LiteralOp::LiteralDouble,
+        0b11_10 => LiteralOp::LiteralPrefetch,
+        _ => LiteralOp::LiteralWord,
     }
 }
 
@@ -123,16 +114,23 @@ fn plain_for(op: SizedOp, s: Scan) -> Family
     Family::Literal(literal_for(op), literal_from(s))
 }
 
+fn sized_for(stem: Stem, op: SizedOp, s: Scan) -> Family
+    ensures { λ r. ⌜ r ≡ sizedFor stem op s ⌝ }
+{
+    match stem {
+        Stem::Plain => plain_for(op, s),
+        Stem::Unscale => Family::Unscaled(op, offset_from(s)),
+        Stem::Order => Family::Ordered(op, offset_from(s)),
+    }
+}
+
 fn family_for(name: Name, s: Scan) -> Family
     ensures { λ r. ⌜ r ≡ familyFor name s ⌝ }
 {
     match name {
-        Name::NoName => Family::Empty,
-        Name::PlainName(op) => plain_for(op, s),
-        Name::UnscaledName(op) => Family::Unscaled(op, offset_from(s)),
-        Name::OrderedName(op) => Family::Ordered(op, offset_from(s)),
-        Name::PairName(op) => Family::Pair(op, pair_from(mode_for(tail_at(s.keys[5])), s)),
-        Name::NoAllocateName(op) => Family::Pair(op, pair_from(PairMode::NoAllocate, s)),
+        Name::Sized(stem, op) => sized_for(stem, op, s),
+        Name::NoAllocatePair(op) => Family::Pair(op, pair_from(PairMode::NoAllocate, s)),
+        Name::AllocatePair(op) => Family::Pair(op, pair_from(mode_for(tail_at(s.keys[5])), s)),
     }
 }
 

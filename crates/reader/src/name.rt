@@ -1,106 +1,49 @@
-// The mnemonic of a line with the first operand: what family they name, and the operation. A word's letters are
-// packed into one number, the first letter highest.
-use instruction::PairOp;
-use instruction::SizedOp;
+// The name of a line by its mnemonic and first operand: a search in the table of mnemonics, from its end.
+use mnemonic::Mnemonic;
+use mnemonic::Name;
 ghost use mathlib.Core.Path.{_≡_};
-ghost use Rattle.reader.specs.route.Names.{narrowName, wideName, hintName, nameFor};
+ghost use Prim.Native.Nat.{_%_};
+ghost use Rattle.reader.specs.route.Names.{letterFor, aligned, isName, nameFor};
 
-// A plain name is a literal's, or of one of the four families that the rest of the line tells apart.
-pub enum Name {
-    NoName,
-    PlainName(SizedOp),
-    UnscaledName(SizedOp),
-    OrderedName(SizedOp),
-    PairName(PairOp),
-    NoAllocateName(PairOp),
+// The name with the keys of the first operand and the mnemonic. A mnemonic that no name has gives one too: it is a guess.
+pub fn name_for(operand: u64, name: u64) -> Name
+    ensures { λ r. ⌜ r ≡ nameFor operand name ⌝ }
+{
+    let letter = letter_for(operand);
+    let mut number = 64;
+    while number > 0 {
+        number -= 1;
+        let found = mnemonic::name_at(number);
+        if is_name(found, name, letter) {
+            return found;
+        }
+    }
+    mnemonic::name_at(0)
 }
 
-// The names of operations on registers of 32 bits.
-fn narrow_name(name: u64) -> Name
-    ensures { λ r. ⌜ r ≡ narrowName name ⌝ }
+// The letter that mnemonics have for a first operand: w, x, or # for all others.
+fn letter_for(operand: u64) -> u16
+    ensures { λ r. ⌜ r ≡ letterFor operand ⌝ }
 {
-    match name {
-        0x7374_7262 => Name::PlainName(SizedOp::StoreByte), // strb
-        0x6c64_7262 => Name::PlainName(SizedOp::LoadByte), // ldrb
-        0x6c_6472_7362 => Name::PlainName(SizedOp::LoadSignedByte32), // ldrsb
-        0x7374_7268 => Name::PlainName(SizedOp::StoreHalf), // strh
-        0x6c64_7268 => Name::PlainName(SizedOp::LoadHalf), // ldrh
-        0x6c_6472_7368 => Name::PlainName(SizedOp::LoadSignedHalf32), // ldrsh
-        0x73_7472 => Name::PlainName(SizedOp::StoreWord), // str
-        0x6c_6472 => Name::PlainName(SizedOp::LoadWord), // ldr
-        0x73_7475_7262 => Name::UnscaledName(SizedOp::StoreByte), // sturb
-        0x6c_6475_7262 => Name::UnscaledName(SizedOp::LoadByte), // ldurb
-        0x6c64_7572_7362 => Name::UnscaledName(SizedOp::LoadSignedByte32), // ldursb
-        0x73_7475_7268 => Name::UnscaledName(SizedOp::StoreHalf), // sturh
-        0x6c_6475_7268 => Name::UnscaledName(SizedOp::LoadHalf), // ldurh
-        0x6c64_7572_7368 => Name::UnscaledName(SizedOp::LoadSignedHalf32), // ldursh
-        0x7374_7572 => Name::UnscaledName(SizedOp::StoreWord), // stur
-        0x6c64_7572 => Name::UnscaledName(SizedOp::LoadWord), // ldur
-        0x7374_6c75_7262 => Name::OrderedName(SizedOp::StoreByte), // stlurb
-        0x6c_6461_7075_7262 => Name::OrderedName(SizedOp::LoadByte), // ldapurb
-        0x6c64_6170_7572_7362 => Name::OrderedName(SizedOp::LoadSignedByte32), // ldapursb
-        0x7374_6c75_7268 => Name::OrderedName(SizedOp::StoreHalf), // stlurh
-        0x6c_6461_7075_7268 => Name::OrderedName(SizedOp::LoadHalf), // ldapurh
-        0x6c64_6170_7572_7368 => Name::OrderedName(SizedOp::LoadSignedHalf32), // ldapursh
-        0x73_746c_7572 => Name::OrderedName(SizedOp::StoreWord), // stlur
-        0x6c64_6170_7572 => Name::OrderedName(SizedOp::LoadWord), // ldapur
-        0x73_7470 => Name::PairName(PairOp::StoreWords), // stp
-        0x6c_6470 => Name::PairName(PairOp::LoadWords), // ldp
-        0x7374_6e70 => Name::NoAllocateName(PairOp::StoreWords), // stnp
-        0x6c64_6e70 => Name::NoAllocateName(PairOp::LoadWords), // ldnp
-        _ => Name::NoName,
+    match operand {
+        0x2c77_0000_0000_0000 => 0x77, // w,
+        0x2c72_7a77_0000_0000 => 0x77, // wzr,
+        0x2c78_0000_0000_0000 => 0x78, // x,
+        0x2c72_7a78_0000_0000 => 0x78, // xzr,
+        _ => 0x23,
     }
 }
 
-// The names of operations on registers of 64 bits.
-fn wide_name(name: u64) -> Name
-    ensures { λ r. ⌜ r ≡ wideName name ⌝ }
+fn is_name(found: Name, name: u64, letter: u16) -> bool
+    ensures { λ r. ⌜ r ≡ isName found name letter ⌝ }
 {
-    match name {
-        0x6c_6472_7362 => Name::PlainName(SizedOp::LoadSignedByte64), // ldrsb
-        0x6c_6472_7368 => Name::PlainName(SizedOp::LoadSignedHalf64), // ldrsh
-        0x6c_6472_7377 => Name::PlainName(SizedOp::LoadSignedWord64), // ldrsw
-        0x73_7472 => Name::PlainName(SizedOp::StoreDouble), // str
-        0x6c_6472 => Name::PlainName(SizedOp::LoadDouble), // ldr
-        0x6c64_7572_7362 => Name::UnscaledName(SizedOp::LoadSignedByte64), // ldursb
-        0x6c64_7572_7368 => Name::UnscaledName(SizedOp::LoadSignedHalf64), // ldursh
-        0x6c64_7572_7377 => Name::UnscaledName(SizedOp::LoadSignedWord64), // ldursw
-        0x7374_7572 => Name::UnscaledName(SizedOp::StoreDouble), // stur
-        0x6c64_7572 => Name::UnscaledName(SizedOp::LoadDouble), // ldur
-        0x6c64_6170_7572_7362 => Name::OrderedName(SizedOp::LoadSignedByte64), // ldapursb
-        0x6c64_6170_7572_7368 => Name::OrderedName(SizedOp::LoadSignedHalf64), // ldapursh
-        0x6c64_6170_7572_7377 => Name::OrderedName(SizedOp::LoadSignedWord64), // ldapursw
-        0x73_746c_7572 => Name::OrderedName(SizedOp::StoreDouble), // stlur
-        0x6c64_6170_7572 => Name::OrderedName(SizedOp::LoadDouble), // ldapur
-        0x6c_6470_7377 => Name::PairName(PairOp::LoadSignedWords), // ldpsw
-        0x73_7470 => Name::PairName(PairOp::StoreDoubles), // stp
-        0x6c_6470 => Name::PairName(PairOp::LoadDoubles), // ldp
-        0x7374_6e70 => Name::NoAllocateName(PairOp::StoreDoubles), // stnp
-        0x6c64_6e70 => Name::NoAllocateName(PairOp::LoadDoubles), // ldnp
-        _ => Name::NoName,
-    }
+    let m = mnemonic::mnemonic_of(found);
+    (m.shape / 256 == letter) & (high(m) == name)
 }
 
-// The names of prefetches.
-fn hint_name(name: u64) -> Name
-    ensures { λ r. ⌜ r ≡ hintName name ⌝ }
+// The letters of a mnemonic in the highest bytes, as a key has them.
+fn high(m: Mnemonic) -> u64
+    ensures { λ r. ⌜ r ≡ aligned (m .letters) (m .shape % 256) ⌝ }
 {
-    match name {
-        0x7072_666d => Name::PlainName(SizedOp::Prefetch), // prfm
-        0x70_7266_756d => Name::UnscaledName(SizedOp::Prefetch), // prfum
-        _ => Name::NoName,
-    }
-}
-
-// The name with the key of the first operand.
-pub fn name_for(target: u64, name: u64) -> Name
-    ensures { λ r. ⌜ r ≡ nameFor target name ⌝ }
-{
-    match target {
-        0x772c => narrow_name(name), // w,
-        0x777a_722c => narrow_name(name), // wzr,
-        0x782c => wide_name(name), // x,
-        0x787a_722c => wide_name(name), // xzr,
-        _ => hint_name(name),
-    }
+    m.letters << (8 * (7 - (m.shape as u64 % 256 + 7) % 8))
 }

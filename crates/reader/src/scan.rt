@@ -1,5 +1,5 @@
-// A text, cut at its spaces into words. Of each word the scan keeps the bytes that are no digits, packed into
-// a key, and the number that its digits make. Nothing is refused here: what a text lost on the way is found
+// A text, cut at its spaces into words. Of each word the scan keeps the last eight bytes that are no digits, packed
+// into the highest bytes of a key with the first of them lowest, and the number that its digits make. Nothing is refused here: what a text lost on the way is found
 // by writing the line of what was read.
 ghost use mathlib.Core.Path.{_≡_};
 ghost use mathlib.Core.List.{foldl};
@@ -18,7 +18,7 @@ fn with_key(s: Scan, byte: u8) -> Scan
 {
     let at = s.at % 8;
     let mut t = s;
-    t.keys[at] = t.keys[at] % 0x100_0000_0000_0000 * 256 + byte as u64;
+    t.keys[at] = t.keys[at] / 256 % 0x100_0000_0000_0000 + byte as u64 * 0x100_0000_0000_0000;
     t
 }
 

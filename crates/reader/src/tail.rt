@@ -15,12 +15,12 @@ pub fn tail_at(key: u64) -> Tail
 {
     match key {
         0 => Tail::AtOffset,
-        0x235d => Tail::AtOffset, // #]
-        0x23_2d5d => Tail::AtOffset, // #-]
-        0x23_5d21 => Tail::Before, // #]!
-        0x232d_5d21 => Tail::Before, // #-]!
-        0x23 => Tail::After, // #
-        0x232d => Tail::After, // #-
+        0x5d23_0000_0000_0000 => Tail::AtOffset, // #]
+        0x5d2d_2300_0000_0000 => Tail::AtOffset, // #-]
+        0x215d_2300_0000_0000 => Tail::Before, // #]!
+        0x215d_2d23_0000_0000 => Tail::Before, // #-]!
+        0x2300_0000_0000_0000 => Tail::After, // #
+        0x2d23_0000_0000_0000 => Tail::After, // #-
         _ => Tail::Indexed,
     }
 }
@@ -42,9 +42,9 @@ pub fn offset_at(key: u64, number: u64) -> i64
     ensures { λ r. ⌜ r ≡ offsetAt key number ⌝ }
 {
     match key {
-        0x232d => minus(number), // #-
-        0x23_2d5d => minus(number), // #-]
-        0x232d_5d21 => minus(number), // #-]!
+        0x2d23_0000_0000_0000 => minus(number), // #-
+        0x5d2d_2300_0000_0000 => minus(number), // #-]
+        0x215d_2d23_0000_0000 => minus(number), // #-]!
         _ => plus(number),
     }
 }
@@ -55,11 +55,11 @@ pub fn option_at(key: u64) -> u32
 {
     match key {
         0 => 0b011,
-        0x6c_736c => 0b011, // lsl
-        0x75_7874_775d => 0b010, // uxtw]
-        0x7578_7477 => 0b010, // uxtw
-        0x73_7874_775d => 0b110, // sxtw]
-        0x7378_7477 => 0b110, // sxtw
+        0x6c73_6c00_0000_0000 => 0b011, // lsl
+        0x5d77_7478_7500_0000 => 0b010, // uxtw]
+        0x7774_7875_0000_0000 => 0b010, // uxtw
+        0x5d77_7478_7300_0000 => 0b110, // sxtw]
+        0x7774_7873_0000_0000 => 0b110, // sxtw
         _ => 0b111,
     }
 }
@@ -69,10 +69,10 @@ pub fn scaled_at(key: u64) -> u32
     ensures { λ r. ⌜ r ≡ scaledAt key ⌝ }
 {
     match key {
-        0x6c_736c => 1, // lsl
-        0x7578_7477 => 1, // uxtw
-        0x7378_7477 => 1, // sxtw
-        0x7378_7478 => 1, // sxtx
+        0x6c73_6c00_0000_0000 => 1, // lsl
+        0x7774_7875_0000_0000 => 1, // uxtw
+        0x7774_7873_0000_0000 => 1, // sxtw
+        0x7874_7873_0000_0000 => 1, // sxtx
         _ => 0,
     }
 }

@@ -12,15 +12,13 @@ use Rattle.bits.specs.Choice.{pick}
 use Rattle.bits.specs.Fields.{part}
 use Rattle.instruction.specs.declared.operation.SizedOp.{SizedOp}
 use Rattle.instruction.specs.declared.operation.LiteralOp.{LiteralOp}
-use Rattle.instruction.specs.declared.operation.LiteralOp.the-variants.{LiteralWord, LiteralDouble, LiteralSignedWord, LiteralPrefetch}
 use Rattle.instruction.specs.declared.operation.PairOp.{PairOp}
-use Rattle.instruction.specs.declared.operation.PairOp.the-variants.{StoreWords, LoadWords, LoadSignedWords, StoreDoubles, LoadDoubles}
 use Rattle.instruction.specs.declared.operation.PairMode.{PairMode}
 use Rattle.instruction.specs.declared.operation.PairMode.the-variants.{NoAllocate, Post, Offset, Pre}
 use Rattle.instruction.specs.declared.family.Family.{Family}
 use Rattle.instruction.specs.declared.family.Family.the-variants.{Empty, Literal, Pair, Ordered, Unscaled, PostIndex, PreIndex, Register, Unsigned}
 use Rattle.instruction.specs.declared.family.IndexOperands.{IndexOperands}
-use Rattle.instruction.specs.Operations.{sizedCode, sizedAt, sizeOf, opcOf}
+use Rattle.instruction.specs.Operations.{sizedCode, sizedAt, sizeOf, opcOf, pairOpc, pairLoad, modeCode}
 use Rattle.instruction.specs.Undefined.{undefinedSize, undefinedOption}
 use Rattle.instruction.specs.Operands.{sizedIn, indexIn}
 use Rattle.instruction.specs.Table.{inSet, rowOf, undefined, allocated, instructionOf}
@@ -30,7 +28,7 @@ use Rattle.instruction.proofs.Codes.{sized}
 use Rattle.decoder.proofs.Decodes.{decoded-bounded}
 use Rattle.ascii.specs.Ascii.{asc, dec, signedDec}
 use Rattle.mnemonic.specs.Operands.{Operand, Narrow, Wide, Hint, sizedOperand, pairOperand}
-use Rattle.mnemonic.specs.Mnemonics.{sizeLetter, suffix, stemmed, noAllocateName, allocateName, plainName, unscaledName, orderedName, literalName, pairName}
+use Rattle.mnemonic.specs.Mnemonics.{sizeLetter, suffix, stemmed, plainName, unscaledName, orderedName, literalSized, literalName, pairName}
 use Rattle.text.specs.Texts.{registerText, baseText, operandText, offsetTail, preTail, postTail, pairTail, extendName, amountText, extendText, indexTail, frontText, literalText, pairText, sizedText, familyText, textOf, textMost}
 use Rattle.text.specs.Writing.{wordText}
 use Rattle.ascii.proofs.Decimals.{dec-short}
@@ -148,30 +146,14 @@ ordered : (op : SizedOp) → Short 8 (orderedName op)
 ordered op = stem 6 (within (asc "stlur") (omega arith)) (within (asc "ldapur") (omega arith)) (within (asc "prfum") (omega arith)) op
 
 literal : (op : LiteralOp) → Short 5 (literalName op)
-literal LiteralWord = omega arith
-literal LiteralDouble = omega arith
-literal LiteralSignedWord = omega arith
-literal LiteralPrefetch = omega arith
+literal op = plain (literalSized op)
 
-no-allocate : (op : PairOp) → Short 5 (noAllocateName op)
-no-allocate StoreWords = omega arith
-no-allocate LoadWords = omega arith
-no-allocate LoadSignedWords = omega arith
-no-allocate StoreDoubles = omega arith
-no-allocate LoadDoubles = omega arith
-
-allocate : (op : PairOp) → Short 5 (allocateName op)
-allocate StoreWords = omega arith
-allocate LoadWords = omega arith
-allocate LoadSignedWords = omega arith
-allocate StoreDoubles = omega arith
-allocate LoadDoubles = omega arith
-
-pair : (m : PairMode) (op : PairOp) → Short 5 (pairName m op)
-pair NoAllocate op = no-allocate op
-pair Post op = allocate op
-pair Offset op = allocate op
-pair Pre op = allocate op
+pair : (m : PairMode) (op : PairOp) → Short 6 (pairName m op)
+pair m op =
+    joined {n = 2} (trail 1 (asc "p") (omega arith)
+    (joined {m = 2} {n = 1} (either (eqb (pairLoad op) 0) (within (asc "st") (omega arith)) (within (asc "ld") (omega arith)))
+    (either (eqb (modeCode m) 0) (within (asc "n") (omega arith)) (within [] (omega arith)))))
+    (either (eqb (pairOpc op) 1) (within (asc "sw") (omega arith)) (within [] (omega arith)))
 
 -- ---- lines
 
@@ -192,7 +174,7 @@ family (Literal op o) b =
     wider (joined (trail 1 (asc "#") (omega arith) (front 5 _ (b .target) (literal op))) (signed 6 (o .offset) (omega (arith, b .offset)))) (omega arith)
 family (Pair op o) b =
     wider
-    (joined (joined (trail 3 (asc ", [") (omega arith) (joined (front 5 _ (b .first) (pair (o .mode) op)) (operand (pairOperand op) (b .second)))) (base (b .base)))
+    (joined (joined (trail 3 (asc ", [") (omega arith) (joined (front 6 _ (b .first) (pair (o .mode) op)) (operand (pairOperand op) (b .second)))) (base (b .base)))
     (pair-tail 2 (o .offset) (omega (arith, b .offset)) (o .mode))) (omega arith)
 family (Ordered op o) b = line 8 9 op (b .target) (b .base) (ordered op) (offset 2 (o .offset) (omega (arith, b .offset))) (omega arith)
 family (Unscaled op o) b = line 6 9 op (b .target) (b .base) (unscaled op) (offset 2 (o .offset) (omega (arith, b .offset))) (omega arith)

@@ -1,4 +1,5 @@
 -- `mnemonic::pair_name` meets its contract. Assumes nothing.
+use Rattle.mnemonic.proofs.Told.{pair-is}
 use borrow.Author.Needs.{needs}
 use Rattle.mnemonic.proofs.pair_name.Statement.{statement}
 use Rattle.mnemonic.proofs.pair_name.Tie as tie
@@ -7,15 +8,10 @@ pub pair-name-spec : {M : Type 1} → statement M
 pair-name-spec =
     tie.close
     (tie.spec
-    (λ c. search needs)
     (λ c κs. search needs)
-    (λ c. search needs)
     (λ c κs. search needs)
-    (λ c. search needs)
     (λ c κs. search needs)
-    (λ c. search needs)
     (λ c κs. search needs)
-    (λ c. rw (c .before .enum-told .given .1) (c .no-allocate-name .ensures))
-    (λ c. rw (c .before .enum-told2 .given .1) (c .allocate-name .ensures))
-    (λ c. rw (c .before .enum-told3 .given .1) (c .allocate-name2 .ensures))
-    (λ c. rw (c .before .enum-told4 .given .1) (c .allocate-name3 .ensures)))
+    (λ c.
+    let entry = c .before .before .before .before in
+    pair-is (entry .args .mode) (entry .args .op) (c .before .before .before .pair-code .ensures) (c .before .before .pair-entry .ensures) (c .before .pair-stem .ensures) (c .behind-stem .ensures)))

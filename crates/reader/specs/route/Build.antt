@@ -1,11 +1,13 @@
 -- The one instruction whose line a scanned text can be. It is a guess: whether the text is its line is seen by writing it.
-use Prim.Native.Nat.{ℕ, _%_}
+use Prim.Native.Nat.{ℕ, _+_, _*_, _%_}
+use mathlib.Core.List.{List, [], _∷_}
 use lib.Dec.{eqb}
 use lib.ListN.{getD}
-use Rattle.bits.specs.Choice.{pick}
+use Rattle.bits.specs.Choice.{pick, lookup}
+use Rattle.instruction.specs.Operations.{sizeOf, opcOf}
 use Rattle.reader.specs.route.Names.{nameFor}
 use Rattle.reader.specs.route.Tails.{tailAt, offsetAt, optionAt, scaledAt}
-use Rattle.reader.specs.Types.{Scan, Name, NoName, PlainName, UnscaledName, OrderedName, PairName, NoAllocateName, Tail, AtOffset, Before, After, Indexed, SizedOp, StoreByte, LoadByte, LoadSignedByte64, LoadSignedByte32, StoreHalf, LoadHalf, LoadSignedHalf64, LoadSignedHalf32, StoreWord, LoadWord, LoadSignedWord64, StoreDouble, LoadDouble, Prefetch, LiteralOp, LiteralWord, LiteralDouble, LiteralSignedWord, LiteralPrefetch, PairMode, NoAllocate, Post, Offset, Pre, Family, Empty, Literal, Pair, Ordered, Unscaled, PostIndex, PreIndex, Register, Unsigned, Instruction, LiteralOperands, PairOperands, OffsetOperands, IndexOperands}
+use Rattle.reader.specs.Types.{Scan, Name, Stem, Tail, AtOffset, Before, After, Indexed, SizedOp, LiteralOp, LiteralWord, LiteralDouble, LiteralSignedWord, LiteralPrefetch, PairMode, NoAllocate, Post, Offset, Pre, Family, Literal, Pair, Ordered, Unscaled, PostIndex, PreIndex, Register, Unsigned, Instruction, LiteralOperands, PairOperands, OffsetOperands, IndexOperands}
 
 -- the key and the number of a word
 abbrev pub keyIn : Scan → ℕ → ℕ
@@ -17,22 +19,12 @@ numIn s i = getD (s .nums) i 0
 abbrev pub registerOf : ℕ → ℕ
 registerOf n = n % 32
 
--- the load from a literal that has a plain load's name; the other names have none
-abbrev pub literalFor : SizedOp → LiteralOp
-literalFor StoreByte = LiteralWord
-literalFor LoadByte = LiteralWord
-literalFor LoadSignedByte64 = LiteralWord
-literalFor LoadSignedByte32 = LiteralWord
-literalFor StoreHalf = LiteralWord
-literalFor LoadHalf = LiteralWord
-literalFor LoadSignedHalf64 = LiteralWord
-literalFor LoadSignedHalf32 = LiteralWord
-literalFor StoreWord = LiteralWord
-literalFor LoadWord = LiteralWord
-literalFor LoadSignedWord64 = LiteralSignedWord
-literalFor StoreDouble = LiteralDouble
-literalFor LoadDouble = LiteralDouble
-literalFor Prefetch = LiteralPrefetch
+-- the load from a literal that has the name of a load with a size; the other names have none
+abbrev pub literalTable : List (ℕ × LiteralOp)
+literalTable = (0b10_10, LiteralSignedWord) ∷ (0b11_01, LiteralDouble) ∷ (0b11_10, LiteralPrefetch) ∷ []
+
+unfoldable pub literalFor : SizedOp → LiteralOp
+literalFor op = lookup LiteralWord literalTable (sizeOf op * 4 + opcOf op)
 
 unfoldable pub literalFrom : Scan → LiteralOperands
 literalFrom s = record { target = registerOf (numIn s 1); offset = offsetAt (keyIn s 2) (numIn s 2) }
@@ -76,13 +68,15 @@ bracketedFor Indexed op s = Register op (indexFrom s)
 unfoldable pub plainFor : SizedOp → Scan → Family
 plainFor op s = pick (eqb (keyIn s 2) 0) (bracketedFor (tailAt (keyIn s 5)) op s) (Literal (literalFor op) (literalFrom s))
 
+abbrev pub sizedFor : Stem → SizedOp → Scan → Family
+sizedFor Stem.Plain op s = plainFor op s
+sizedFor Stem.Unscale op s = Unscaled op (offsetFrom s)
+sizedFor Stem.Order op s = Ordered op (offsetFrom s)
+
 abbrev pub familyFor : Name → Scan → Family
-familyFor NoName s = Empty
-familyFor (PlainName op) s = plainFor op s
-familyFor (UnscaledName op) s = Unscaled op (offsetFrom s)
-familyFor (OrderedName op) s = Ordered op (offsetFrom s)
-familyFor (PairName op) s = Pair op (pairFrom (modeFor (tailAt (keyIn s 5))) s)
-familyFor (NoAllocateName op) s = Pair op (pairFrom NoAllocate s)
+familyFor (Name.Sized stem op) s = sizedFor stem op s
+familyFor (Name.NoAllocatePair op) s = Pair op (pairFrom NoAllocate s)
+familyFor (Name.AllocatePair op) s = Pair op (pairFrom (modeFor (tailAt (keyIn s 5))) s)
 
 unfoldable pub buildOf : Scan → Instruction
 buildOf s = record { family = familyFor (nameFor (keyIn s 1) (keyIn s 0)) s }

@@ -1,5 +1,5 @@
 -- A text as the reader keeps it: of each word the bytes that are no digits, packed, and the number that its digits make.
-use Prim.Native.Nat.{ℕ, _+_, _*_, _%_}
+use Prim.Native.Nat.{ℕ, _+_, _*_, _/_, _%_}
 use Prim.Native.String.{String}
 use mathlib.Core.List.{List, [], _∷_, foldl}
 use lib.Dec.{ltb}
@@ -8,9 +8,9 @@ use Rattle.bits.specs.Choice.{pick, lookup}
 use Rattle.ascii.specs.Ascii.{asc}
 use Rattle.reader.specs.Types.{Scan}
 
--- one more byte behind those of a key, which holds the last eight
+-- one more byte above those of a key, which holds the last eight, the first of them lowest
 abbrev pub packed : ℕ → ℕ → ℕ
-packed k byte = k % 0x100_0000_0000_0000 * 256 + byte
+packed k byte = k / 256 % 0x100_0000_0000_0000 + byte * 0x100_0000_0000_0000
 
 -- the key of a quoted text
 abbrev pub key : String → ℕ

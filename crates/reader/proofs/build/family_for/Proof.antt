@@ -12,9 +12,6 @@ family-for-spec =
     tie.close
     (tie.spec
     (λ c. search needs)
-    (λ c. search needs)
-    (λ c κs. search needs)
-    (λ c. search needs)
     (λ c κs. search needs)
     (λ c. search needs)
     (λ c κs. search needs)
@@ -23,20 +20,11 @@ family-for-spec =
     (λ c κs. search needs)
     (λ c κs. search needs)
     (λ c κs. search needs)
-    (λ c. search needs)
-    (λ c κs. search needs)
-    (λ c. search needs)
-    (λ c. by-case (λ n. familyFor n (c .before .before .before .before .args .t2)) (c .before .before .name .given .1) (c .plain-for .ensures))
+    (λ c. by-case (λ n. familyFor n (c .before .before .before .before .args .t2)) (c .before .before .name .given .1) (c .sized-for .ensures))
     (λ c.
     by-case (λ n. familyFor n (c .before .before .before .before .args .t2)) (c .before .before .name2 .given .1)
-    (ap (Family.Unscaled (c .before .before .name2 .given .0 .0)) (c .offset-from .ensures)))
-    (λ c.
-    by-case (λ n. familyFor n (c .before .before .before .before .args .t2)) (c .before .before .name3 .given .1)
-    (ap (Family.Ordered (c .before .before .name3 .given .0 .0)) (c .offset-from2 .ensures)))
+    (ap (Family.Pair (c .before .before .name2 .given .0 .0)) (c .pair-from .ensures)))
     (λ c.
     let s = c .before .before .before .before .before .before .before .args .t2 in
-    let n = c .before .before .before .before .before .name4 .given in
-    by-case (λ n. familyFor n s) (n .1) (pair-family s (n .0 .0) (c .before .before .tail-at .ensures) (c .before .mode-for .ensures) (c .pair-from .ensures)))
-    (λ c.
-    by-case (λ n. familyFor n (c .before .before .before .before .args .t2)) (c .before .before .name5 .given .1)
-    (ap (Family.Pair (c .before .before .name5 .given .0 .0)) (c .pair-from2 .ensures))))
+    let n = c .before .before .before .before .before .name3 .given in
+    by-case (λ n. familyFor n s) (n .1) (pair-family s (n .0 .0) (c .before .before .tail-at .ensures) (c .before .mode-for .ensures) (c .pair-from2 .ensures))))

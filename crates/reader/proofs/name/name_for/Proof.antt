@@ -1,23 +1,63 @@
--- `reader::name::name_for` meets its contract: each arm is an entry of the table. Assumes nothing.
-use mathlib.Core.Path.{_∙_}
-use Rattle.bits.proofs.Choices.{absent, entry}
-use Rattle.reader.specs.route.Names.{targetTable, nameFor}
+-- `reader::name::name_for` meets its contract: the search of what is left finds what the whole search does. Assumes nothing.
+use Prim.Native.Nat.{ℕ, suc, _≤_}
+use mathlib.Core.Path.{_≡_, refl, sym, ap, _∙_}
+use mathlib.Core.Bool.{true, false}
+use native.Mathlib.Omega.{arith}
+use Rattle.mnemonic.specs.route.Names.{nameAt}
+use Rattle.reader.specs.Types.{Name}
+use Rattle.reader.specs.route.Names.{isName, searched, nameFor, letterFor}
 use borrow.Author.Needs.{needs}
 use Rattle.reader.proofs.name.name_for.Statement.{statement}
 use Rattle.reader.proofs.name.name_for.Tie as tie
+
+abbrev Inv-loop : tie.InvT-loop
+Inv-loop operand name letter number₀ number = (number ≤ 64) × (searched number name letter ≡ searched 64 name letter)
+
+abbrev μ-loop : tie.MeasureT-loop
+μ-loop operand name letter number₀ number = number
+
+nowhere : (name letter : ℕ) {n : ℕ} → n ≡ 0 → searched n name letter ≡ nameAt 0
+unfolding searched
+nowhere name letter e = rw e
+
+module _ (name letter : ℕ) {n m : ℕ} (e : n ≡ suc m) where
+  here : isName (nameAt m) name letter ≡ true → searched n name letter ≡ nameAt m
+  unfolding searched
+  here h = rw (e, h)
+
+  farther : isName (nameAt m) name letter ≡ false → searched n name letter ≡ searched m name letter
+  unfolding searched
+  farther h = rw (e, h)
 
 pub name-for-spec : {M : Type 1} → statement M
 unfolding nameFor
 name-for-spec =
     tie.close
-    (tie.spec
+    (tie.spec Inv-loop μ-loop
+    (λ c κs. search needs)
+    (λ c. (omega arith, refl))
+    (λ c. omega arith)
     (λ c κs. search needs)
     (λ c κs. search needs)
+    (λ c.
+    let call = c .before .before .name-at in
+    let loop = c .before .before .before .before .loop in
+    let letter = c .before .before .before .before .before .letter-for in
+    let name = c .before .before .before .before .before .before .args .name in
+    call .ensures ∙ sym (here name (letter .result) (omega (arith, c .before .before .before .loop-test .taken)) (ap (λ (x : Name). isName x name (letter .result)) (sym (call .ensures)) ∙ sym (c .before .is-name .ensures) ∙ c .if1 .taken))
+    ∙ loop .inv .1 ∙ ap (searched 64 name) (letter .ensures))
+    (λ c. omega arith)
+    (λ c.
+    let call = c .before .before .name-at in
+    let loop = c .before .before .before .before .loop in
+    let letter = c .before .before .before .before .before .letter-for in
+    let name = c .before .before .before .before .before .before .args .name in (
+      omega arith,
+      sym (farther name (letter .result) (omega (arith, c .before .before .before .loop-test .taken)) (ap (λ (x : Name). isName x name (letter .result)) (sym (call .ensures)) ∙ sym (c .before .is-name .ensures) ∙ c .if1 .left))
+          ∙ loop .inv .1,
+    ))
     (λ c κs. search needs)
-    (λ c κs. search needs)
-    (λ c κs. search needs)
-    (λ c. c .narrow-name .ensures ∙ entry _ (targetTable _) (c .before .match .keys1))
-    (λ c. c .narrow-name2 .ensures ∙ entry _ (targetTable _) (c .before .match .keys2))
-    (λ c. c .wide-name .ensures ∙ entry _ (targetTable _) (c .before .match .keys3))
-    (λ c. c .wide-name2 .ensures ∙ entry _ (targetTable _) (c .before .match .keys4))
-    (λ c. c .hint-name .ensures ∙ absent _ (targetTable _) _ (c .before .match .rest)))
+    (λ c.
+    let letter = c .before .before .before .letter-for in
+    let name = c .before .before .before .before .args .name in
+    c .name-at2 .ensures ∙ sym (nowhere name (letter .result) (omega (arith, c .before .loop-test .left))) ∙ c .before .before .loop .inv .1 ∙ ap (searched 64 name) (letter .ensures)))

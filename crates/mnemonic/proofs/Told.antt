@@ -1,0 +1,95 @@
+-- The two parts of a mnemonic make its name: one computed test for each stem over the codes of all operations. Assumes nothing.
+use Prim.Native.Nat.{ℕ, _+_, _*_, _<_}
+use mathlib.Core.Path.{_≡_, refl}
+use mathlib.Core.Bool.{Bool, true, false, _&&_, false≢true}
+use mathlib.Core.List.{List, [], _∷_}
+use native.Mathlib.Omega.{arith}
+use lib.Dec.{eqb}
+use borrow.Author.Tests.{eqb-true}
+use Rattle.bits.specs.Bytes.{bytesOf}
+use Rattle.bits.proofs.Choices.{both, upTo, tested}
+use Rattle.instruction.specs.Operations.{sizeOf, opcOf, sizedAt, pairOpc, pairLoad, pairAt}
+use Rattle.instruction.specs.declared.operation.SizedOp.{SizedOp}
+use Rattle.instruction.specs.declared.operation.PairOp.{PairOp}
+use Rattle.instruction.specs.declared.operation.PairMode.{PairMode}
+use Rattle.instruction.proofs.Codes.{sized, sized-at, paired, pair-at}
+use Rattle.mnemonic.specs.Mnemonics.{sizedName, pairName}
+use Rattle.mnemonic.specs.Operands.{Operand, letterOf, sizedOperand, pairOperand}
+use Rattle.mnemonic.specs.declared.Stem.{Stem}
+use Rattle.mnemonic.specs.declared.Mnemonic.{Mnemonic}
+use Rattle.mnemonic.specs.declared.table.SizedEntry.{SizedEntry}
+use Rattle.mnemonic.specs.declared.table.PairEntry.{PairEntry}
+use Rattle.mnemonic.specs.route.Named.{Known, known, told}
+use Rattle.mnemonic.specs.route.Parts.{sizedStem, pairStem, sizedEntry, pairEntry, behindStem}
+
+-- ---- a test of what a mnemonic tells
+
+unfoldable pub same : List ℕ → List ℕ → Bool
+same [] [] = true
+same [] (b ∷ bs) = false
+same (a ∷ as′) [] = false
+same (a ∷ as′) (b ∷ bs) = eqb a b && same as′ bs
+
+pub same-is : (as′ bs : List ℕ) → same as′ bs ≡ true → as′ ≡ bs
+unfolding same
+same-is [] [] h = refl
+same-is [] (b ∷ bs) h = absurd (false≢true h)
+same-is (a ∷ as′) [] h = absurd (false≢true h)
+same-is (a ∷ as′) (b ∷ bs) h =
+    let t = both (eqb a b) (same as′ bs) h in
+    rw (eqb-true a b (t .0), same-is as′ bs (t .1))
+
+tells : Mnemonic → List ℕ → Operand → Bool
+tells m name operand = same (known m .letters) name && (eqb (known m .letter) (letterOf operand) && known m .fits)
+
+tells-is : (m : Mnemonic) (name : List ℕ) (operand : Operand) → tells m name operand ≡ true → known m ≡ told name operand
+unfolding tells
+tells-is m name operand h =
+    let t = both (same (known m .letters) name) (eqb (known m .letter) (letterOf operand) && known m .fits) h in
+    let u = both (eqb (known m .letter) (letterOf operand)) (known m .fits) (t .1) in
+    let a = same-is (known m .letters) name (t .0) in
+    let b = eqb-true (known m .letter) (letterOf operand) (u .0) in
+    λ i. record { letters = a i; letter = b i; fits = u .1 i }
+
+-- ---- the operations with a size
+
+sizedMade : Stem → SizedEntry → Mnemonic
+sizedMade stem e = behindStem (sizedStem stem (e .kind)) (e .letters) (e .shape)
+
+sizedTest : Stem → ℕ → Bool
+sizedTest stem k = tells (sizedMade stem (sizedEntry (sizedAt k))) (sizedName stem (sizedAt k)) (sizedOperand (sizedAt k))
+
+all-sized : (stem : Stem) → upTo 16 (sizedTest stem) ≡ true
+unfolding sizedTest sizedMade tells same sizedAt bytesOf
+all-sized Stem.Plain = refl
+all-sized Stem.Unscale = refl
+all-sized Stem.Order = refl
+
+pub sized-is : (stem : Stem) (op : SizedOp) {size opc t : ℕ} {e : SizedEntry} {m : Mnemonic} → size ≡ sizeOf op → opc ≡ opcOf op → e ≡ sizedEntry (sizedAt (size * 4 + opc))
+    → t ≡ sizedStem stem (e .kind) → m ≡ behindStem t (e .letters) (e .shape) → known m ≡ told (sizedName stem op) (sizedOperand op)
+unfolding sizedTest sizedMade
+sized-is stem op s o e t m =
+    let k : sizeOf op * 4 + opcOf op < 16 = omega (arith, sized op .size, sized op .opc) in
+    rw (m, t, e, s, o, sized-at op) (tells-is _ _ (sizedOperand op) (rw (sized-at op) at (tested 16 (sizedTest stem) (all-sized stem) (sizeOf op * 4 + opcOf op) k)))
+
+-- ---- pairs
+
+pairMade : PairMode → PairEntry → Mnemonic
+pairMade mode e = behindStem (pairStem mode (e .kind)) (e .letters) (e .shape)
+
+pairTest : PairMode → ℕ → Bool
+pairTest mode k = tells (pairMade mode (pairEntry (pairAt k))) (pairName mode (pairAt k)) (pairOperand (pairAt k))
+
+all-pairs : (mode : PairMode) → upTo 8 (pairTest mode) ≡ true
+unfolding pairTest pairMade tells same pairAt bytesOf
+all-pairs PairMode.NoAllocate = refl
+all-pairs PairMode.Post = refl
+all-pairs PairMode.Offset = refl
+all-pairs PairMode.Pre = refl
+
+pub pair-is : (mode : PairMode) (op : PairOp) {code t : ℕ} {e : PairEntry} {m : Mnemonic} → code ≡ pairOpc op * 2 + pairLoad op → e ≡ pairEntry (pairAt code)
+    → t ≡ pairStem mode (e .kind) → m ≡ behindStem t (e .letters) (e .shape) → known m ≡ told (pairName mode op) (pairOperand op)
+unfolding pairTest pairMade
+pair-is mode op s e t m =
+    let k : pairOpc op * 2 + pairLoad op < 8 = omega (arith, paired op .opc, paired op .load) in
+    rw (m, t, e, s, pair-at op) (tells-is _ _ (pairOperand op) (rw (pair-at op) at (tested 8 (pairTest mode) (all-pairs mode) (pairOpc op * 2 + pairLoad op) k)))

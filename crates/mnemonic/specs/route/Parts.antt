@@ -1,0 +1,84 @@
+-- A mnemonic in two parts, the stem by the kind of the operation and what stands behind it.
+use Prim.Native.Nat.{ℕ, _+_, _*_, _/_, _%_, _^_}
+use mathlib.Core.List.{List, [], _∷_, _++_}
+use lib.Dec.{eqb, ltb}
+use lib.ListN.{length}
+use Rattle.bits.specs.Choice.{pick, lookup}
+use Rattle.instruction.specs.Operations.{sizedCode, sizeOf, opcOf, pairOpc, pairLoad, modeCode}
+use Rattle.instruction.specs.declared.operation.SizedOp.{SizedOp}
+use Rattle.instruction.specs.declared.operation.PairOp.{PairOp}
+use Rattle.instruction.specs.declared.operation.PairMode.{PairMode}
+use Rattle.ascii.specs.Ascii.{asc}
+use Rattle.mnemonic.specs.Mnemonics.{suffix}
+use Rattle.mnemonic.specs.Operands.{Operand, letterOf, sizedOperand, pairOperand}
+use Rattle.mnemonic.specs.declared.Stem.{Stem}
+use Rattle.mnemonic.specs.declared.Mnemonic.{Mnemonic}
+use Rattle.mnemonic.specs.declared.table.SizedEntry.{SizedEntry}
+use Rattle.mnemonic.specs.declared.table.PairEntry.{PairEntry}
+
+-- letters in a number, the first lowest
+abbrev pub packed : List ℕ → ℕ
+packed [] = 0
+packed (b ∷ bs) = b + packed bs * 256
+
+-- a stem, with how many letters it has in the highest of eight bytes
+abbrev pub stemIn : List ℕ → ℕ
+stemIn letters = packed letters + length letters * 0x100_0000_0000_0000
+
+-- the stems of a store, a load and a prefetch, by kind
+abbrev pub kinds : List ℕ → List ℕ → List ℕ → List (ℕ × ℕ)
+kinds store load hint = (0, stemIn store) ∷ (1, stemIn load) ∷ (2, stemIn hint) ∷ []
+
+abbrev pub plainStem : ℕ → ℕ
+plainStem kind = lookup 0 (kinds (asc "str") (asc "ldr") (asc "prfm")) kind
+
+abbrev pub unscaledStem : ℕ → ℕ
+unscaledStem kind = lookup 0 (kinds (asc "stur") (asc "ldur") (asc "prfum")) kind
+
+abbrev pub orderedStem : ℕ → ℕ
+orderedStem kind = lookup 0 (kinds (asc "stlur") (asc "ldapur") (asc "prfum")) kind
+
+abbrev pub sizedStem : Stem → ℕ → ℕ
+sizedStem Stem.Plain kind = plainStem kind
+sizedStem Stem.Unscale kind = unscaledStem kind
+sizedStem Stem.Order kind = orderedStem kind
+
+-- no pair has a hint; a fourth stem makes the match a table
+abbrev pub noAllocateStem : ℕ → ℕ
+noAllocateStem kind = lookup 0 (kinds (asc "stn") (asc "ldn") (asc "ldn")) kind
+
+abbrev pub allocateStem : ℕ → ℕ
+allocateStem kind = lookup 0 (kinds (asc "st") (asc "ld") (asc "ld")) kind
+
+abbrev pub pairStem : PairMode → ℕ → ℕ
+pairStem PairMode.NoAllocate kind = noAllocateStem kind
+pairStem PairMode.Post kind = allocateStem kind
+pairStem PairMode.Offset kind = allocateStem kind
+pairStem PairMode.Pre kind = allocateStem kind
+
+-- how many letters stand behind the stem, and the letter of the operand
+abbrev pub shapeIn : List ℕ → Operand → ℕ
+shapeIn letters operand = letterOf operand * 256 + length letters
+
+abbrev pub sizedEntry : SizedOp → SizedEntry
+sizedEntry op =
+    let behind = pick (eqb (sizedCode op) 0b11_10) [] (suffix (sizeOf op) (ltb 0b01 (opcOf op))) in
+    record {
+      op = op;
+      kind = pick (eqb (sizedCode op) 0b11_10) 2 (pick (eqb (opcOf op) 0b00) 0 1);
+      letters = packed behind;
+      shape = shapeIn behind (sizedOperand op);
+    }
+
+abbrev pub pairEntry : PairOp → PairEntry
+pairEntry op =
+    let behind = asc "p" ++ pick (eqb (pairOpc op) 0b01) (asc "sw") [] in
+    record { op = op; kind = pairLoad op; letters = packed behind; shape = shapeIn behind (pairOperand op) }
+
+-- letters behind a stem
+abbrev pub behindStem : ℕ → ℕ → ℕ → Mnemonic
+behindStem stem letters shape =
+    record {
+      letters = (stem % 0x100_0000_0000_0000 + letters * 2 ^ (8 * (stem / 0x100_0000_0000_0000 % 8)) % 2 ^ 64) % 2 ^ 64;
+      shape = (shape + stem / 0x100_0000_0000_0000) % 2 ^ 16;
+    }
