@@ -1,7 +1,8 @@
 -- `mnemonic::table::pair_entry` meets its contract: each arm is an entry of the table. Assumes nothing.
 use mathlib.Core.Path.{ap, _∙_}
+use Rattle.bits.specs.Choice.{byCode}
 use Rattle.bits.proofs.Choices.{absent, entry}
-use Rattle.instruction.specs.Operations.{pairTable, pairAt}
+use Rattle.instruction.specs.Operations.{pairCode, pairOps, pairAt}
 use Rattle.mnemonic.specs.route.Parts.{pairEntry}
 use borrow.Author.Needs.{needs}
 use Rattle.mnemonic.proofs.table.pair_entry.Statement.{statement}
@@ -18,9 +19,9 @@ pair-entry-spec =
     (λ c κs. search needs)
     (λ c κs. search needs)
     (λ c κs. search needs)
-    (λ c. c .pair .ensures ∙ ap pairEntry (entry _ pairTable (c .before .match .keys1)))
-    (λ c. c .pair2 .ensures ∙ ap pairEntry (entry _ pairTable (c .before .match .keys2)))
-    (λ c. c .pair3 .ensures ∙ ap pairEntry (entry _ pairTable (c .before .match .keys3)))
-    (λ c. c .pair4 .ensures ∙ ap pairEntry (entry _ pairTable (c .before .match .keys4)))
-    (λ c. c .pair5 .ensures ∙ ap pairEntry (entry _ pairTable (c .before .match .keys5)))
-    (λ c. c .pair6 .ensures ∙ ap pairEntry (absent _ pairTable _ (c .before .match .rest .0))))
+    (λ c. c .pair .ensures ∙ ap pairEntry (entry _ (byCode pairCode pairOps) (c .before .match .keys1)))
+    (λ c. c .pair2 .ensures ∙ ap pairEntry (entry _ (byCode pairCode pairOps) (c .before .match .keys2)))
+    (λ c. c .pair3 .ensures ∙ ap pairEntry (entry _ (byCode pairCode pairOps) (c .before .match .keys3)))
+    (λ c. c .pair4 .ensures ∙ ap pairEntry (entry _ (byCode pairCode pairOps) (c .before .match .keys4)))
+    (λ c. c .pair5 .ensures ∙ ap pairEntry (entry _ (byCode pairCode pairOps) (c .before .match .keys5)))
+    (λ c. c .pair6 .ensures ∙ ap pairEntry (absent _ (byCode pairCode pairOps) _ (c .before .match .rest .0))))
