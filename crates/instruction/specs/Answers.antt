@@ -1,4 +1,4 @@
--- The number that 01, "Answer numbers", gives each answer.
+-- The number that 01, "Answer numbers", and 02 give each answer.
 use Prim.Native.Nat.{ℕ}
 use Rattle.instruction.specs.Types.{Answer}
 
@@ -15,3 +15,4 @@ answerNumber Answer.ReadOnly = 8
 answerNumber Answer.NoSuchText = 9
 answerNumber Answer.NoRoom = 10
 answerNumber Answer.NoSuchInstruction = 11
+answerNumber Answer.Closed = 16

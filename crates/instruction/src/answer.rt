@@ -18,6 +18,7 @@ pub enum Answer {
     NoSuchText,
     NoRoom,
     NoSuchInstruction,
+    Closed,
 }
 
 // 01's number of an answer.
@@ -37,6 +38,7 @@ pub fn answer_number(answer: Answer) -> u32
         Answer::NoSuchText => 9,
         Answer::NoRoom => 10,
         Answer::NoSuchInstruction => 11,
+        Answer::Closed => 16,
     }
 }
 
