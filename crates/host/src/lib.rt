@@ -4,11 +4,14 @@ mod file;
 
 use instruction::Answer;
 use plan::Window;
+use stream::Lister;
+use stream::Pushed;
 ghost use mathlib.Core.Path.{_≡_};
 ghost use Rattle.instruction.specs.Answers.{answerNumber};
 ghost use Rattle.text.specs.Writing.{writeOf};
 ghost use Rattle.listing.specs.Listing.{listOf};
-ghost use Rattle.host.specs.Replies.{textOutcome, numbered, ReadAs};
+ghost use Rattle.stream.specs.Streams.{push, close, callOf};
+ghost use Rattle.host.specs.Replies.{textOutcome, numbered, ReadAs, listerOutcome, listerNumbered};
 ghost use Rattle.host.specs.Hosting.{hosted, hostRun};
 
 // What a run returns beside what it leaves in the slices.
@@ -32,6 +35,14 @@ pub struct TextReply {
 pub struct WordReply {
     pub answer: u64,
     pub word: u64,
+}
+
+// The length is 0 where the answer is not, and the lister is then the one handed in.
+#[repr(C)]
+pub struct ListerReply {
+    pub lister: Lister,
+    pub answer: u64,
+    pub length: u64,
 }
 
 // A run from registers that cross as 33 numbers, x0 to x30, sp and pc, with a flag for the taint of each but pc.
@@ -113,6 +124,38 @@ pub extern "C" fn milestarling_list(bytes: &[u8], output: &mut [u8]) -> TextRepl
     TextReply {
         answer: answer_number(answer),
         length: listed.length as u64,
+    }
+}
+
+// The lines of the words that are whole with one more fragment of a stream, at the start of an output.
+#[no_mangle]
+pub extern "C" fn milestarling_lister_push(
+    lister: Lister,
+    fragment: &[u8],
+    output: &mut [u8],
+) -> ListerReply
+    ensures { λ r. ⌜ listerOutcome r (now (output .exit)) ≡ listerNumbered (callOf lister (push (now (fragment .entry)) (now (output .entry)))) ⌝ }
+{
+    lister_reply(lister.push(fragment, output))
+}
+
+// The line of the bytes over at the end of a stream, at the start of an output.
+#[no_mangle]
+pub extern "C" fn milestarling_lister_close(lister: Lister, output: &mut [u8]) -> ListerReply
+    ensures { λ r. ⌜ listerOutcome r (now (output .exit)) ≡ listerNumbered (callOf lister (close (now (output .entry)))) ⌝ }
+{
+    lister_reply(lister.close(output))
+}
+
+fn lister_reply(pushed: Pushed) -> ListerReply
+    ensures { λ r. ⌜ r ≡ record { lister = pushed .lister; answer = answerNumber (pushed .answer); length = pushed .length } ⌝ }
+{
+    let answer = pushed.answer;
+    let lister = pushed.lister;
+    ListerReply {
+        lister,
+        answer: answer_number(answer),
+        length: pushed.length as u64,
     }
 }
 

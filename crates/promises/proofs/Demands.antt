@@ -46,7 +46,10 @@ use Rattle.reader.specs.declared.Reading.{Reading}
 use Rattle.reader.specs.Reading.{LineOf, ReadOf}
 use Rattle.reader.proofs.RoundTrip.{read-once}
 use Rattle.reader.proofs.Triangle.{triangle}
-use Rattle.host.specs.Replies.{numbered}
+use Rattle.stream.specs.declared.Lister.{Lister}
+use Rattle.stream.specs.Streams.{refuses, Call, lent, linesOf, callOf}
+use Rattle.stream.proofs.Calls.{streamed, call-answer, call-unchanged, call-puts}
+use Rattle.host.specs.Replies.{numbered, listerNumbered}
 use Rattle.host.specs.Hosting.{hostRun}
 use Rattle.host.proofs.Runs.{refused-unchanged as refused-calls}
 use Rattle.host.proofs.Secrecy.{hosted-taints, hosted-same}
@@ -230,6 +233,9 @@ demand-3 =
       marked-address = λ w word m t a e h. ap (λ s. answerNumber (performed m s .answer)) (tainted-refused w word m t a e h) ∙ tainted-answer (bad w m) (eqb (answerNumber (classOf word)) 0) (classOf word);
     }
 
+lister-number : (l : Lister) (c : Call) → oneOf (0 ∷ 16 ∷ 10 ∷ []) (answerNumber (callOf l c .answer)) ≡ true
+lister-number l c = rw (call-answer l c) (first-one ((refuses l, 16) ∷ (ltb (length (lent c)) (length (linesOf l c)), 10) ∷ []))
+
 pub library : Library
 library =
     record {
@@ -237,6 +243,7 @@ library =
       text = λ word buffer. by-definition (numbered (writeOf word buffer)) (written-number word buffer);
       word = word-answered;
       list = λ bytes output. by-definition (numbered (listOf bytes output)) (listed-number bytes output);
+      lister = λ l c. by-definition (listerNumbered (callOf l c)) (lister-number l c);
       early = refused-calls;
       two-calls = λ w words registers flags memory taint trace others raised bytes marks trail h many wide room. hosted-same w words registers flags memory taint trace others raised bytes marks trail h many wide room;
       marks-at-end = hosted-taints;
@@ -255,4 +262,8 @@ requests =
       line-most = line-within;
       short-most = short-within;
       line-reached = line-reached;
+      stream-listed = streamed;
+      stream-answers = call-answer;
+      stream-unchanged = call-unchanged;
+      stream-puts = call-puts;
     }

@@ -44,7 +44,10 @@ use Rattle.listing.specs.Examples.{exampleBytes, exampleLines}
 use Rattle.reader.specs.declared.Reading.{Reading}
 use Rattle.reader.specs.Reading.{LineOf, ReadOf}
 use Rattle.reader.specs.Triangle.{Bijection, Allocated, Encodable, Readable}
-use Rattle.host.specs.Replies.{numbered, ReadAs}
+use Rattle.stream.specs.declared.Lister.{Lister}
+use Rattle.stream.specs.Streams.{holding, refuses, refused, Call, lent, linesOf, callOf}
+use Rattle.stream.specs.Calls.{played}
+use Rattle.host.specs.Replies.{numbered, ReadAs, listerNumbered}
 use Rattle.host.specs.Hosting.{machineIn, hosted, hostRun}
 use Rattle.host.specs.Secrecy.{machineLeft, ShowsHosted}
 use Rattle.promises.specs.Answered.{Answered, Is}
@@ -156,6 +159,7 @@ pub record Library : Type 0 where
   pub text : (word : ℕ) (buffer : List ℕ) → Answered (Is (numbered (writeOf word buffer))) (λ r. r .answer) (0 ∷ 2 ∷ 3 ∷ 10 ∷ [])
   pub word : (t : List ℕ) → Answered (ReadAs t) (λ r. r .answer) (0 ∷ 9 ∷ [])
   pub list : (bytes output : List ℕ) → Answered (Is (numbered (listOf bytes output))) (λ r. r .answer) (0 ∷ 10 ∷ [])
+  pub lister : (l : Lister) (c : Call) → Answered (Is (listerNumbered (callOf l c))) (λ r. r .answer) (0 ∷ 16 ∷ 10 ∷ [])
   -- with 1 and 10 every slice is as it was
   pub early : (w : Window) (words registers flags memory taint trace : List ℕ)
       → let ran = hostRun w words registers flags memory taint trace in
@@ -187,3 +191,15 @@ pub record Requests : Type 0 where
   pub short-most : (n : ℕ) → Within lineMost (shortText (suc n))
   -- and the line of that word needs them, with one more for its newline
   pub line-reached : ListN.length (lineText 0x38aa594a) ≡ suc lineMost
+  -- CR 5: "However an image is cut, the joined output of all unrefused calls, from a new lister to its closing, is 01's listing of
+  -- their joined fragments"
+  pub stream-listed : (calls : List Call) → let all = played (holding []) calls in
+      eqb (all .lister .closed) 0 ≡ false → all .output ≡ listingOf (all .fragments)
+  -- "16 for any call after closing, or with a lister of more than three bytes over; then 10 exactly if the lent output can't hold
+  -- this call's lines, closing included"
+  pub stream-answers : (l : Lister) (c : Call) → answerNumber (callOf l c .answer) ≡ pick (refuses l) 16 (pick (ltb (ListN.length (lent c)) (ListN.length (linesOf l c))) 10 0)
+  -- "Either way output and lister are unchanged", and "a refusal's length is 0"
+  pub stream-unchanged : (l : Lister) (c : Call) → ¬ (answerNumber (callOf l c .answer) ≡ 0) → callOf l c ≡ refused (callOf l c .answer) l (lent c)
+  -- "output fills its buffer from the start, the rest stays"
+  pub stream-puts : (l : Lister) (c : Call) → answerNumber (callOf l c .answer) ≡ 0
+      → (callOf l c .length ≡ ListN.length (linesOf l c)) × (callOf l c .buffer ≡ sets (lent c) 0 (linesOf l c))

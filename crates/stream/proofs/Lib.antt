@@ -1,0 +1,4 @@
+pub mod Splits
+pub mod Returns
+pub mod Calls
+pub mod Rooms
