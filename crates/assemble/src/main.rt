@@ -1,10 +1,10 @@
 // Reads lines of text from standard input and writes the word and the answer of each on standard output, in
 // constant memory. The reading is done by the crate reader; here bytes are only moved.
-use libc::STDIN_FILENO;
-use libc::STDOUT_FILENO;
+use console::Input;
 use reader::Reading;
 use text::TEXT_MAX;
 ghost use mathlib.Core.Path.{_≡_};
+ghost use mathlib.Core.Bool.{false};
 ghost use Prim.Native.Nat.{_≤_, _+_, _*_};
 ghost use lib.Dec.{eqb};
 ghost use lib.ListN.{length};
@@ -37,30 +37,41 @@ fn main() {
     };
     let mut turns = u64::MAX;
     while turns > 0 && kept.going {
-        kept = assemble_block(&mut line, kept.count);
+        kept = assemble_some(&mut line, kept.count);
         turns -= 1;
     }
-    finish(&line, kept.count)
 }
 
-// Answers the lines that end in the next block. It stops after the last block, and after a write that failed.
-fn assemble_block(line: &mut [u8], count: usize) -> Kept
+// Answers the lines that end in what one read gives. It stops after the end of the input, and after a read or a write that
+// failed, which is said where it happens: a line that such an input breaks off in is not answered.
+fn assemble_some(line: &mut [u8], count: usize) -> Kept
     requires { ⌜ count ≤ length (now line) ⌝ }
     ensures { λ r. ⌜ r .count ≤ length (now (line .exit)) ⌝ }
 {
     let mut block = io::buffer();
-    let n = io::read_full(STDIN_FILENO, &mut block);
-    let mut output = io::large_buffer();
-    let progress = assemble_bytes(&block[..n], line, count, &mut output);
-    if !write_start(&output, progress.end) {
-        return Kept {
-            going: false,
-            count: 0,
-        };
+    match console::read(&mut block) {
+        Input::Bytes(n) => {
+            let mut output = io::large_buffer();
+            let progress = assemble_bytes(&block[..n], line, count, &mut output);
+            Kept {
+                going: console::write(&output, progress.end),
+                count: progress.count,
+            }
+        }
+        Input::End => {
+            finish(line, count);
+            ended()
+        }
+        Input::Failed => ended(),
     }
+}
+
+fn ended() -> Kept
+    ensures { λ r. ⌜ r ≡ record { going = false; count = 0 } ⌝ }
+{
     Kept {
-        going: n == 4096,
-        count: progress.count,
+        going: false,
+        count: 0,
     }
 }
 
@@ -102,7 +113,7 @@ fn finish(line: &[u8], count: usize)
     if count > 0 {
         let mut output = [0u8; 16];
         let end = put_answer(&mut output, 0, line, count);
-        write_start(&output, end);
+        console::write(&output, end);
     }
 }
 
@@ -126,11 +137,4 @@ fn put_reading(output: &mut [u8], at: usize, reading: Reading) -> usize
     let digit = ascii::put_byte(output, tab, b'\t');
     let end = ascii::put_byte(output, digit, (48 + number) as u8);
     ascii::put_byte(output, end, b'\n')
-}
-
-fn write_start(output: &[u8], end: usize) -> bool {
-    if end <= output.len() {
-        return io::write_all(STDOUT_FILENO, &output[0..end]);
-    }
-    false
 }

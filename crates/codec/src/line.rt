@@ -5,22 +5,13 @@ use crate::record;
 use crate::text;
 use instruction::Answer;
 use instruction::Instruction;
-use libc::STDOUT_FILENO;
 
 // Says whether the line was written.
 pub fn write_answer(c: Case) -> bool {
     // More bytes than any line has.
     let mut line = [0u8; 256];
     let end = put_answer(&mut line, c);
-    write_start(&line, end)
-}
-
-// The start of a range, 0, is written out: without it the prover asks for the length of the part.
-fn write_start(line: &[u8], end: usize) -> bool {
-    if end <= line.len() {
-        return io::write_all(STDOUT_FILENO, &line[0..end]);
-    }
-    false
+    console::write(&line, end)
 }
 
 fn put_answer(line: &mut [u8], c: Case) -> usize {

@@ -5,8 +5,6 @@ mod line;
 mod record;
 mod text;
 
-use libc::STDIN_FILENO;
-
 // A proved loop has to end, and nothing says that the input does. So the loop counts its turns down, from a
 // number that no run uses up.
 fn main() {
@@ -20,7 +18,7 @@ fn main() {
 // that failed. A block holds a whole number of cases, so that none lies in two.
 fn answer_block() -> bool {
     let mut block = io::large_buffer();
-    let n = io::read_full(STDIN_FILENO, &mut block);
+    let n = console::fill(&mut block);
     if !answer_cases(&block[..n]) {
         return false;
     }

@@ -1,13 +1,12 @@
 // Bytes of standard input, and the numbers in them, little-endian. Past the end of the bytes there is nothing but 0.
-use libc::STDIN_FILENO;
 use registers::Registers;
 ghost use Prim.Native.Nat.{_≤_};
 ghost use mathlib.Core.Path.{_≡_};
 ghost use lib.ListN.{length};
 
-// Says how many bytes came: fewer than there is room for only where the input ends.
+// Says how many bytes came: fewer than there is room for only where the input ends or a read fails.
 pub fn read(bytes: &mut [u8]) -> usize {
-    io::read_full(STDIN_FILENO, bytes)
+    console::fill(bytes)
 }
 
 // Says whether the input had as many.

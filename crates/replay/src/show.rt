@@ -1,7 +1,6 @@
 // The lines of a case, put into the output one behind the other and written at once. The largest case takes less
 // than 40,000 bytes, for which the output has room.
 use execution::Ran;
-use libc::STDOUT_FILENO;
 use registers::Registers;
 
 // Says whether the lines were written.
@@ -20,7 +19,7 @@ pub fn case(
     let memory_end = put_bytes(output, registers_end, b"memory\t", memory);
     let taint_end = put_bytes(output, memory_end, b"taint\t", taint);
     let end = put_trace(output, taint_end, trace);
-    write_start(output, end)
+    console::write(output, end)
 }
 
 // The one line of a case that is not replayed. Nothing comes after it.
@@ -29,7 +28,7 @@ pub fn refusal(output: &mut [u8], number: u64, why: &[u8]) {
     let tab_end = ascii::put_byte(output, number_end, b'\t');
     let why_end = ascii::put_text(output, tab_end, why);
     let end = ascii::put_byte(output, why_end, b'\n');
-    write_start(output, end);
+    console::write(output, end);
 }
 
 fn put_name(output: &mut [u8], number: u64) -> usize {
@@ -102,11 +101,4 @@ fn put_trace(output: &mut [u8], at: usize, trace: &[u64]) -> usize {
         i += 1;
     }
     ascii::put_byte(output, end, b'\n')
-}
-
-fn write_start(output: &[u8], end: usize) -> bool {
-    if end <= output.len() {
-        return io::write_all(STDOUT_FILENO, &output[0..end]);
-    }
-    false
 }
