@@ -141,29 +141,17 @@ unsigned-back op o w h =
       omega (arith, q .1, size, opc, base, target, imm12),
     )
 
--- the row of a family
-abbrev pub rowFor : Family → Row
-rowFor Family.Empty = Row.NoRow
-rowFor (Family.Literal op o) = Row.LiteralRow
-rowFor (Family.Pair op o) = Row.PairRow
-rowFor (Family.Ordered op o) = Row.OrderedRow
-rowFor (Family.Unscaled op o) = Row.UnscaledRow
-rowFor (Family.PostIndex op o) = Row.PostRow
-rowFor (Family.PreIndex op o) = Row.PreRow
-rowFor (Family.Register op o) = Row.RegisterRow
-rowFor (Family.Unsigned op o) = Row.UnsignedRow
-
-pub back : (F : Family) (w : ℕ) → wordOf F ≡ Field.Holds w → Back w (rowFor F) F
+pub back : (F : Family) (w : ℕ) → wordOf F ≡ Field.Holds w → (r : Row) × Back w r F
 back Family.Empty w h = absurd (unfit h)
-back (Family.Literal op o) w h = literal-back op o w h
-back (Family.Pair op o) w h = pair-back op o w h
+back (Family.Literal op o) w h = (Row.LiteralRow, literal-back op o w h)
+back (Family.Pair op o) w h = (Row.PairRow, pair-back op o w h)
 back (Family.Ordered op o) w h =
-    signed-family op o w 3 1 0 (omega arith) (omega arith) (omega arith) Row.OrderedRow Family.Ordered refl h (row-is w Row.OrderedRow) refl
+    (Row.OrderedRow, signed-family op o w 3 1 0 (omega arith) (omega arith) (omega arith) Row.OrderedRow Family.Ordered refl h (row-is w Row.OrderedRow) refl)
 back (Family.Unscaled op o) w h =
-    signed-family op o w 7 0 0 (omega arith) (omega arith) (omega arith) Row.UnscaledRow Family.Unscaled refl h (row-is w Row.UnscaledRow) refl
+    (Row.UnscaledRow, signed-family op o w 7 0 0 (omega arith) (omega arith) (omega arith) Row.UnscaledRow Family.Unscaled refl h (row-is w Row.UnscaledRow) refl)
 back (Family.PostIndex op o) w h =
-    signed-family op o w 7 0 1 (omega arith) (omega arith) (omega arith) Row.PostRow Family.PostIndex refl h (row-is w Row.PostRow) refl
+    (Row.PostRow, signed-family op o w 7 0 1 (omega arith) (omega arith) (omega arith) Row.PostRow Family.PostIndex refl h (row-is w Row.PostRow) refl)
 back (Family.PreIndex op o) w h =
-    signed-family op o w 7 0 3 (omega arith) (omega arith) (omega arith) Row.PreRow Family.PreIndex refl h (row-is w Row.PreRow) refl
-back (Family.Register op o) w h = index-back op o w h
-back (Family.Unsigned op o) w h = unsigned-back op o w h
+    (Row.PreRow, signed-family op o w 7 0 3 (omega arith) (omega arith) (omega arith) Row.PreRow Family.PreIndex refl h (row-is w Row.PreRow) refl)
+back (Family.Register op o) w h = (Row.RegisterRow, index-back op o w h)
+back (Family.Unsigned op o) w h = (Row.UnsignedRow, unsigned-back op o w h)

@@ -52,11 +52,11 @@ not-encoded e =
 
 word-of : (i : Instruction) (w : ℕ) → wordOf (i .family) ≡ Field.Holds w → allocated w ≡ true → Word i w
 word-of i w h a =
-    let b = back (i .family) w h in
+    let (r, (row, family, below)) = back (i .family) w h in
     record {
-      below = b .2;
+      below = below;
       defined = a;
-      instruction = rowed w (b .0) .instruction-is ∙ ap (λ (F : Family). record { family = F }) (b .1);
+      instruction = rowed w row .instruction-is ∙ ap (λ (F : Family). record { family = F }) family;
     }
 
 exact-from : (i : Instruction) → Given (wordOf (i .family)) (encodeOf i) → Exact i (encodeOf i)

@@ -1,4 +1,4 @@
--- The rows of the table: a word matches at most one, and keys tell which. Assumes nothing.
+-- The rows of the table: a word matches at most one, its columns say what the word is, and keys tell which row. Assumes nothing.
 use Prim.Native.Nat.{ℕ, _+_, _*_, _<_}
 use mathlib.Core.Path.{_≡_, refl, sym, ap, _∙_}
 use mathlib.Core.Bool.{Bool, true, false, _||_}
