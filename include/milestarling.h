@@ -18,9 +18,9 @@
 #include <stddef.h>
 #include <stdint.h>
 
-/* The most bytes that the text of a word has, and a line of a listing with its newline. Both are reached, by 38aa594a. */
-#define MILESTARLING_TEXT_MAX 30
-#define MILESTARLING_LINE_MAX 42
+/* The most bytes that the text of a word has, and a line of a listing with its newline. Both are reached, by f8aa5940. */
+#define MILESTARLING_TEXT_MAX 35
+#define MILESTARLING_LINE_MAX 47
 
 /* What a call answers. Of those that apply to a step, the lowest is given. */
 enum milestarling_answer {

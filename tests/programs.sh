@@ -84,15 +84,15 @@ try_lines "$GOOD\n" "$GOOD_ANSWER" "a line"
 try_lines "$GOOD" "$GOOD_ANSWER" "a line without its newline"
 try_lines "$GOOD\n$GOOD" "$GOOD_ANSWER$GOOD_ANSWER" "two lines, the second without its newline"
 # The longest line that a word has, and one that is no longer.
-LONGEST='ldrsb w30, [x30, w30, uxtw #0]'
-try_lines "$LONGEST\n$GOOD\n" "38fe5bde\t0\n$GOOD_ANSWER" "the longest line"
-try_lines "$LONGEST" '38fe5bde\t0\n' "the longest line without its newline"
+LONGEST='prfm pldl1keep, [x10, w10, uxtw #3]'
+try_lines "$LONGEST\n$GOOD\n" "f8aa5940\t0\n$GOOD_ANSWER" "the longest line"
+try_lines "$LONGEST" 'f8aa5940\t0\n' "the longest line without its newline"
 try_lines "${LONGEST}0\n$GOOD\n" "$NO_ANSWER$GOOD_ANSWER" "the longest line and one byte more"
 try_lines "${LONGEST}0" "$NO_ANSWER" "the longest line and one byte more, without its newline"
-try_lines 'ldrsb w30, [x30, w30, uxtw #1]\n'"$GOOD\n" "$NO_ANSWER$GOOD_ANSWER" "30 bytes that are no line"
+try_lines 'prfm pldl1keep, [x10, w10, uxtw #2]\n'"$GOOD\n" "$NO_ANSWER$GOOD_ANSWER" "35 bytes that are no line"
 
 # A line of so many bytes that begins as a good one does, before a good one and at the end of the input.
-for bytes in 29 30 31 106 107 255 256 257 4095 4096 4097 70000; do
+for bytes in 29 30 31 34 35 36 106 107 255 256 257 4095 4096 4097 70000; do
     long=$(printf '%-*s' "$bytes" "$GOOD")
     try_lines "$long\n$GOOD\n" "$NO_ANSWER$GOOD_ANSWER" "a line of $bytes bytes and a good one"
     try_lines "$GOOD\n$long" "$GOOD_ANSWER$NO_ANSWER" "a good line, and one of $bytes bytes without its newline"

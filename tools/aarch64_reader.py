@@ -14,7 +14,6 @@ NO_LINE = 0, 9
 # The numbers of 01 have at most seven digits.
 NUMBER = '#(?P<number>0|-?[1-9][0-9]{0,6})'
 NOT_ZERO = '#(?P<number>-?[1-9][0-9]{0,6})'
-COUNT = '[12]?[0-9]|3[01]'
 REGISTER_COUNT = '[12]?[0-9]|30'
 BASE = '(?P<base>x(?:%s)|sp)' % REGISTER_COUNT
 
@@ -24,7 +23,8 @@ def general(name, letters='wx'):
 
 
 TARGET = general('target')
-HINT = '(?P<hint>#(?:%s))' % COUNT
+# 02's names, and the numbers that have none.
+HINT = '(?P<hint>p(?:ld|li|st)l[123](?:keep|strm)|#(?:6|7|14|15|22|23|2[4-9]|3[01]))'
 OFFSET = r'\[' + BASE + '(?:, ' + NOT_ZERO + r')?\]'
 AFTER = r'\[' + BASE + r'\], ' + NUMBER
 BEFORE = r'\[' + BASE + ', ' + NUMBER + r'\]!'
@@ -65,17 +65,25 @@ TWOS = [(mode, names, re.compile(TWO + place)) for mode, names, place in (
     (PAIR_PRE, PAIRS, BEFORE))]
 
 
+def hint_of(name):
+    """The number of a hint, by its three fields or as it stands."""
+    if name.startswith('#'):
+        return int(name[1:])
+    kind, level, policy = name[1:3], name[4], name[5:]
+    return ('ld', 'li', 'st').index(kind) * 8 + '123'.index(level) * 2 + ('keep', 'strm').index(policy)
+
+
 def number_of(name):
-    """Of a register or a hint, behind its letter."""
+    """Of a register, behind its letter."""
     return 31 if name in ('wzr', 'xzr', 'sp') else int(name[1:])
 
 
 def single_record(family, found):
-    target = found['target'] or found['hint']
-    operation = NAMES[family].get(found['name'] + ' ' + target[0])
+    target, hint = found['target'], found['hint']
+    operation = NAMES[family].get(found['name'] + ' ' + (target[0] if target else '#'))
     if operation is None:
         return None
-    record = Record(family, operation, number_of(target))
+    record = Record(family, operation, number_of(target) if target else hint_of(hint))
     if family == LITERAL:
         return record._replace(offset=int(found['number']))
     record = record._replace(base=number_of(found['base']))

@@ -84,7 +84,7 @@ def record_in(text, address):
 
 
 def first_operand(mnemonic, name):
-    """The letter and number of a general register, or '#' and the number of a prefetch's hint."""
+    """The letter and number of a general register, or '#' and the number of a prefetch's hint, named or not."""
     if mnemonic in ('prfm', 'prfum'):
         return '#', hint_number(name)
     found = REGISTER_NAME.match(name)
@@ -168,14 +168,15 @@ def range_prefetch(hint, rest):
 def line_in(text, address):
     """A disassembler's text in 01's notation. All but the following is 01's already, and is kept as it is.
 
-    A tab after the mnemonic; a comment; a prefetch's hint, which is a name, or objdump's hexadecimal number; the
-    place of a literal, which objdump gives as an address; range prefetch, which only llvm-mc prints.
+    A tab after the mnemonic; a comment; the hint of a prefetch without one of 02's names, which is objdump's
+    hexadecimal number, and for llvm-mc has a later name where bits 2..1 are 3; the place of a literal, which objdump
+    gives as an address; range prefetch, which only llvm-mc prints.
     """
     mnemonic, _, operands = text.split('//')[0].strip().partition('\t')
     first, _, rest = operands.partition(', ')
     if mnemonic == 'rprfm':
         return text_of(range_prefetch(first, rest))
-    if mnemonic in ('prfm', 'prfum'):
+    if first.startswith('#') or 'slc' in first:
         first = '#%d' % hint_number(first)
     if rest.startswith('0x'):
         rest = '#%d' % (int(rest, 0) - address)
@@ -211,7 +212,15 @@ def text_of(record, here='#'):
 
 
 def target_text(letter, number):
-    return '#%d' % number if letter == '#' else register_text(letter, number)
+    return hint_text(number) if letter == '#' else register_text(letter, number)
+
+
+def hint_text(number):
+    """02's three fields, or a number where one of the first two has no name."""
+    kind, level, policy = number >> 3, number >> 1 & 3, number & 1
+    if kind == 3 or level == 3:
+        return '#%d' % number
+    return ('pld', 'pli', 'pst')[kind] + 'l%d' % (level + 1) + ('keep', 'strm')[policy]
 
 
 def pair_text(record):

@@ -52,7 +52,7 @@ def listed_texts():
 
 
 def sample(rng, texts):
-    """The first, which are 01's; offsets at their edges; and others, one of each instruction at least."""
+    """The first, which are 01's; offsets at their edges; and others, one of each instruction and hint at least."""
     chosen = texts[:OF_THE_RULES]
     groups = collections.defaultdict(list)
     for text in texts:
@@ -61,11 +61,12 @@ def sample(rng, texts):
         scale = scale_of(record.family, record.operation)
         if record.family != REGISTER and record.offset in (low, low + scale, -scale, 0, scale, high - scale, high):
             chosen.append(text)
-        groups[record.family, record.operation, record.mode, record.scaled].append(text)
+        hint = record.target if text.startswith(b'prf') else None
+        groups[record.family, record.operation, record.mode, record.scaled, hint].append(text)
     for group in groups.values():
         chosen += rng.sample(group, min(len(group), OF_EACH))
     chosen = list(dict.fromkeys(chosen))
-    print('%d texts at edges or for the %d instructions' % (len(chosen), len(groups)))
+    print('%d texts at edges or for the %d instructions and hints' % (len(chosen), len(groups)))
     others = sorted(set(texts) - set(chosen))
     return chosen + rng.sample(others, TAKEN_FROM_LIST - len(chosen))
 

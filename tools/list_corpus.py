@@ -29,6 +29,8 @@ LISTED = '''\
 91000000\t-\t2
 f8408421\tldr x1, [x1], #8\t4
 '''
+# A prefetch whose text is as long as any.
+LONGEST = 0xf8aa5940
 LEFT_OVER = b'\x20\xf0\x5f'
 
 
@@ -130,11 +132,15 @@ def literal_offsets(rng):
 
 
 def prefetch_words(rng):
-    """Every hint in each family with a size; with an index the highest eight are range prefetches elsewhere."""
+    """Every hint in each family with prefetches; with an index the highest eight are range prefetches elsewhere."""
     for family in (UNSCALED, REGISTER, UNSIGNED):
         for hint in range(32):
             for _ in range(16):
                 yield put_all(word_of_line(rng, family), (SIZE, OPC, RT), (3, 2, hint))
+    for hint in range(32):
+        for _ in range(16):
+            yield put_all(word_of_line(rng, LITERAL), (SIZE, RT), (3, hint))
+    yield LONGEST
 
 
 def near_words(rng, each):

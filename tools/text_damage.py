@@ -4,7 +4,7 @@ import re
 ALPHABET = ' !#+,-0123456789[]abcdefhlmnopqrstuwxyz\t'
 ANY_REGISTER = r'\b[wx](?:\d+|zr)\b|\bsp\b'
 ANY_NUMBER = r'#(-?)(\d+)'
-A_HINT = r'(?<=^prfm )#\d+|(?<=^prfum )#\d+'
+A_HINT = r'(?<=^prfm )[^,]+|(?<=^prfum )[^,]+'
 MNEMONIC = r'^\w+'
 
 MNEMONICS = (
@@ -14,8 +14,13 @@ UNKNOWN_MNEMONICS = (
     'strsb strsh strsw stursb stursw stlursb stlursw stlursh stpsw stnpsw ldnpsw ldprfm prflum stlprfm ldaprfm prfmb '
     'prfur rprfm ldtr ldtrb sttr ldxr stxr ldar stlr ldapr ldapru ldapurw ldraa stgp ldg stg ldrd strd ldrw ldrx ldrs '
     'ldps ldpw ldurs ld st l s ldrsbw ldrbs swp ldadd mov add b nop ldr.w ldrb.w').split()
-HINTS = [kind + level + policy for kind in ('pld', 'pli', 'pst') for level in ('l1', 'l2', 'l3', 'slc')
+HINTS = [kind + level + policy for kind in ('pld', 'pli', 'pst') for level in ('l1', 'l2', 'l3')
          for policy in ('keep', 'strm')]
+# Hints that are none, and such as only look like one.
+NO_HINTS = (
+    '#32 #33 #-1 #031 #00 #06 #0x5 #0x06 # #256 #+7 5 6 x5 w5 xzr keep strm pld pldl1 plil1 l1keep pldkeep pldl0keep '
+    'pldl4keep pldl1keeps pldl1 pldl1kep pldl1str pldl01keep pldl1strmkeep pddl1keep pltl1keep pspl1keep dldl1keep '
+    'pldslckeep plislcstrm pstslckeep PLDL1KEEP pldL1keep Pldl1keep pldl1Keep pldl1keep# #pldl1keep pldl1-keep').split()
 
 # A place, and what may stand there instead.
 REPLACEMENTS = {
@@ -49,9 +54,10 @@ REPLACEMENTS = {
     'other mnemonic': (MNEMONIC, MNEMONICS),
     'unknown mnemonic': (MNEMONIC, UNKNOWN_MNEMONICS),
     'longer mnemonic': (MNEMONIC, [r'\g<0>' + letters for letters in ('b', 'h', 'w', 'x', 'sw', 'r', 'm', 'p')]),
-    'hint by name': (A_HINT, HINTS),
-    'no hint': (A_HINT, ['#32', '#33', '#-1', '#031', '#00', '#0x5', '5', 'x5', 'w5', 'xzr', '#', '#256']),
-    'hint for a register': (r'(?<= )[wx]\w+', ['#%d' % number for number in range(32)]),
+    'other hint': (A_HINT, HINTS),
+    'hint by number': (A_HINT, ['#%d' % number for number in range(32)]),
+    'no hint': (A_HINT, NO_HINTS),
+    'hint for a register': (r'(?<= )[wx]\w+', HINTS + ['#%d' % number for number in range(32)]),
     'other amount': (r'(?<=[a-z] #)[0-3](?=\]$)', ['0', '1', '2', '3', '4', '00', '-1', '8']),
     'amount dropped': (r' #[0-3]\]$', [']']),
     'amount added': (r'(?<=xt[wx])\]$', [' #%d]' % amount for amount in range(5)]),
@@ -159,12 +165,15 @@ def damaged_texts(rng, texts, kinds, each):
 
 # A text and lines that it is a part of, by their lengths: those of buffers that a reader may have among them.
 TEXT = b'ldr x0, [x1, #8]'
-LENGTHS = (15, 16, 17, 29, 30, 31, 32, 33, 63, 64, 65, 127, 128, 255, 256, 257, 1000, 4095, 4096, 4097, 5000)
+LENGTHS = (15, 16, 17, 29, 30, 31, 32, 33, 34, 35, 36, 37, 63, 64, 65, 127, 128, 255, 256, 257, 1000, 4095, 4096, 4097, 5000)
 
 # Almost the line of a word, or another assembler's line; some are lines.
 NEAR_MISSES = '''\
 ldpsw w0, w1, [x2]|ldpsw x0, w1, [x2]|ldpsw x0, x1, [x2]|ldnpsw x0, x1, [x2]|stpsw x0, x1, [x2]|stlur #5, [x1]
-ldapur #5, [x1]|prflum #5, [x1]|prfm #5, [x1], #8|prfm #5, [x1, #8]!|prfum #5, [x1], #8|prfum #5, #8|prfum #5, [x1, x2]
+ldapur #7, [x1]|prflum #7, [x1]|prfm #7, [x1], #8|prfm #7, [x1, #8]!|prfum #7, [x1], #8|prfum #7, #8|prfum #7, [x1, x2]
+ldapur pldl1keep, [x1]|prfm pldl1keep, [x1], #8|prfm pldl1keep, [x1, #8]!|prfum pldl1keep, #8|ldr pldl1keep, [x1]
+prfum #0, [x1]|prfum pldl1keep, [x1]|prfm #1, [x1]|prfm #6, [x1]|prfm #06, [x1]|prfm pldl4keep, [x1]|prfm plil1, [x1]
+prfm pldl1keep, [x10, w10, uxtw #3]|prfm pstl3strm, #-1048576|prfm #23, [x1]|prfm PLDL1KEEP, [x1]|stp pldl1keep, x1, [x2]
 ldur x0, [x1, x2]|ldur x0, #8|stlurb w0, [x1], #1|ldapurb w0, #4|str x0, #8|ldrb w0, #8|ldrsh x0, #8|ldrsw w0, #8
 stp x0, x1, #8|stp x0, x1, [x2, x3]|ldnp x0, x1, [x2], #16|ldnp x0, x1, [x2, #16]!|stnp w0, w1, [x2, #8]
 ldrb x0, [x1]|ldrsb w0, [x1]|ldrsb x0, [x1]|strb x0, [x1]|ldr x0, [x1, #-8]|ldr x0, [x1, #7]|ldr x0, [x1, #255]
@@ -174,7 +183,7 @@ ldrb w0, [x1, x2, lsl #0]|ldrb w0, [x1, x2, lsl #1]|ldrb w0, [x1, x2, sxtx #0]|l
 ldr x0, [x1, x2, uxtx #3]|ldr x0, [x1, w2]|ldr x0, [x1, w2, lsl #3]|ldr x0, [x1, w2, sxtx]|ldr x0, [x1, x2, uxtw]
 ldr x0, [x1, x2, sxtw #3]|ldr x0, [x1, x2]!|ldr x0, [x1], x2|ldr x0, [x1, sp]|ldr x0, [xzr]|ldr sp, [x0]
 ldr x0, [x31]|ldr x31, [x0]|ldr x0, [w1]|ldr x0, [wsp]|ldr x0, [sp, xzr]|ldr xzr, [sp, wzr, sxtw]
-prfm pldl1keep, [x1]|prfm #31, [x1]|prfm #32, [x1]|prfm x0, [x1]|ldr #0, [x1]|ldr x0, #-0|ldr x0, #0|ldr x0, #00
+prfm pldl1keep, [x1]|prfm pldl1keep,[x1]|prfm #31, [x1]|prfm #32, [x1]|prfm x0, [x1]|ldr #0, [x1]|ldr x0, #-0|ldr x0, #0|ldr x0, #00
 ldr x0, 0|ldr x0, #2|ldr x0, #1048572|ldr x0, #1048576|ldr x0, #-1048576|ldr x0, #-1048580|ldr x0, #4294967296
 ldr x0, #18446744073709551616|ldr x0, #-18446744073709551612|ldr q0, [x1]|ldr d0, #8|ldp q0, q1, [x2]
 rprfm #0, x1, [x2]|ldtr x0, [x1]|ldxr x0, [x1]|nop|.word 0|385ff020|short\t-\t1|385ff020\tldurb w0, [x1, #-1]\t0

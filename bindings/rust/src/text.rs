@@ -11,8 +11,8 @@ use std::str::FromStr;
 /// use milestarling::{list, LINE_MAX};
 ///
 /// let mut output = [0; LINE_MAX];
-/// assert_eq!(list(&0x38aa594a_u32.to_le_bytes(), &mut output), Ok(LINE_MAX));
-/// assert_eq!(&output[..], b"38aa594a\tldrsb x10, [x10, w10, uxtw #0]\t0\n");
+/// assert_eq!(list(&0xf8aa5940_u32.to_le_bytes(), &mut output), Ok(LINE_MAX));
+/// assert_eq!(&output[..], b"f8aa5940\tprfm pldl1keep, [x10, w10, uxtw #3]\t0\n");
 /// ```
 pub const LINE_MAX: usize = 8 + 1 + Instruction::TEXT_MAX + 1 + 1 + 1;
 
@@ -44,17 +44,17 @@ const BATCH: usize = 256;
 pub struct Instruction(u32);
 
 impl Instruction {
-    /// The most bytes that a text has. No word's is proved to be longer, and that of 38aa594a is as long.
+    /// The most bytes that a text has. No word's is proved to be longer, and that of f8aa5940 is as long.
     ///
     /// ```
     /// use milestarling::Instruction;
     ///
     /// # fn main() -> Result<(), milestarling::Refusal> {
-    /// assert_eq!(Instruction::new(0x38aa594a)?.to_string().len(), Instruction::TEXT_MAX);
+    /// assert_eq!(Instruction::new(0xf8aa5940)?.to_string().len(), Instruction::TEXT_MAX);
     /// # Ok(())
     /// # }
     /// ```
-    pub const TEXT_MAX: usize = 30;
+    pub const TEXT_MAX: usize = 35;
 
     /// The instruction of a word.
     ///
@@ -98,9 +98,9 @@ impl Instruction {
     /// use milestarling::Instruction;
     ///
     /// # fn main() -> Result<(), milestarling::Refusal> {
-    /// let mut buffer = [b'.'; 20];
+    /// let mut buffer = [b'.'; 24];
     /// let length = Instruction::new(0xf8800020)?.write(&mut buffer)?;
-    /// assert_eq!(&buffer[..length], b"prfum #0, [x1]");
+    /// assert_eq!(&buffer[..length], b"prfum pldl1keep, [x1]");
     /// # Ok(())
     /// # }
     /// ```

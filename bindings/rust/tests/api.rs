@@ -14,7 +14,7 @@ fn examples_of_lines() {
         (0x38e4_c862, "ldrsb w2, [x3, w4, sxtw]"),
         (0x1980_00c5, "ldapursb x5, [x6]"),
         (0x58ff_ffe7, "ldr x7, #-4"),
-        (0xf880_0020, "prfum #0, [x1]"),
+        (0xf880_0020, "prfum pldl1keep, [x1]"),
         (0x3900_03ff, "strb wzr, [sp]"),
     ];
     for (word, line) in examples {

@@ -51,7 +51,7 @@ fn random_bytes_and_rooms() {
 #[test]
 fn room_for_the_longest_lines() {
     for words in [0, 1, 2, 255, 256, 257, 4096] {
-        let mut bytes = 0x38aa_594a_u32.to_le_bytes().repeat(words);
+        let mut bytes = 0xf8aa_5940_u32.to_le_bytes().repeat(words);
         assert_eq!(list(&bytes, &mut vec![0; words * LINE_MAX]), Ok(words * LINE_MAX));
         bytes.extend([0xff; 3]);
         let room = words * LINE_MAX + 10;

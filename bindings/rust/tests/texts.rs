@@ -97,7 +97,7 @@ fn buffers_of_every_length() {
 }
 
 /// A word whose text is as long as any.
-const LONGEST: u32 = 0x38aa_594a;
+const LONGEST: u32 = 0xf8aa_5940;
 
 #[test]
 fn the_longest_text() {
@@ -137,9 +137,9 @@ const MNEMONICS: [&str; 40] = [
     "ldnpsw", "stgp", "ldtr", "ldxr", "rprfm", "ld",
 ];
 
-const REGISTERS: [&str; 20] = [
+const REGISTERS: [&str; 26] = [
     "x0", "x1", "x9", "x10", "x29", "x30", "x31", "w0", "w5", "w30", "w31", "xzr", "wzr", "sp", "wsp", "x01", "x-1",
-    "x", "lr", "X2",
+    "x", "lr", "X2", "pldl1keep", "plil2strm", "pstl3keep", "pldl4keep", "plil1", "pldslckeep",
 ];
 
 const NUMBERS: [&str; 36] = [
@@ -271,7 +271,7 @@ fn offsets_about_their_ends() {
         "ldr w1, #N",
         "ldr x1, #N",
         "ldrsw x1, #N",
-        "prfm #1, #N",
+        "prfm pldl1strm, #N",
         "stp w1, w2, [x3, #N]",
         "ldp x1, x2, [sp, #N]!",
         "ldpsw x1, x2, [x3], #N",
@@ -284,8 +284,8 @@ fn offsets_about_their_ends() {
         "ldrh w1, [x2, #N]",
         "str w1, [x2, #N]",
         "ldr x1, [x2, #N]",
-        "prfm #3, [x2, #N]",
-        "prfum #3, [x2, #N]",
+        "prfm pldl2strm, [x2, #N]",
+        "prfum #7, [x2, #N]",
         "ldrb w1, [x2, x3, lsl #N]",
         "ldr x1, [x2, w3, sxtw #N]",
     ];
@@ -334,8 +334,8 @@ fn noise() {
 #[test]
 fn long_texts() {
     let mut random = Random::new(6);
-    for length in [29, 30, 31, 32, 100, 106, 107, 255, 256, 257, 4096, 65_535, 65_536, 1 << 20] {
-        for head in ["", "ldr x0, [x1, #", "ldr x0, #-", "ldr x", "prfm #", "ldr x0, [x1, x2, lsl #", "stp x0, x1, "] {
+    for length in [29, 30, 31, 32, 34, 35, 36, 100, 106, 107, 255, 256, 257, 4096, 65_535, 65_536, 1 << 20] {
+        for head in ["", "ldr x0, [x1, #", "ldr x0, #-", "ldr x", "prfm #", "prfm pldl1", "ldr x0, [x1, x2, lsl #", "stp x0, x1, "] {
             for filling in [b"0", b"1", b"9", b" ", b"["] {
                 let mut text = head.as_bytes().to_vec();
                 text.extend(filling.iter().cycle().take(length));

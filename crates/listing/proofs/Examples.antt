@@ -11,6 +11,7 @@ use Rattle.instruction.specs.Table.{inSet, rowOf, undefined, allocated, unpredi
 use Rattle.instruction.specs.Operations.{sizedAt}
 use Rattle.decoder.specs.Decoding.{classOf}
 use Rattle.ascii.specs.Ascii.{dec, signedDec}
+use Rattle.text.specs.Hints.{hintText}
 use Rattle.text.specs.Texts.{registerText, baseText, offsetTail, postTail, extendName, amountText, extendText, indexTail, frontText, sizedText, textOf}
 use Rattle.text.specs.Writing.{wordText}
 use Rattle.listing.specs.Listing.{hexDigit, hex4, hex8, contentText, answerText, lineText, shortText, lineMost, wordOf, listingOf}
@@ -20,7 +21,7 @@ pub listing-example : listingOf exampleBytes ≡ exampleLines
 unfolding lineText hexDigit hex4 hex8 contentText answerText shortText wordOf wordText textOf registerText baseText offsetTail postTail frontText sizedText dec signedDec instructionOf rowOf part signedOf sizedAt sizedIn signedIn classOf inSet allocated undefined undefinedSize undefinedPrefetch unpredictable baseIs
 listing-example = refl
 
--- ldrsb x10, [x10, w10, uxtw #0]
-pub line-reached : length (lineText 0x38aa594a) ≡ suc lineMost
-unfolding lineText hexDigit hex4 hex8 contentText answerText wordText textOf registerText baseText extendName amountText extendText indexTail frontText sizedText dec instructionOf rowOf part sizedAt sizedIn indexIn classOf inSet allocated undefined undefinedSize undefinedOption
+-- prfm pldl1keep, [x10, w10, uxtw #3]
+pub line-reached : length (lineText 0xf8aa5940) ≡ suc lineMost
+unfolding lineText hexDigit hex4 hex8 contentText answerText wordText textOf hintText registerText baseText extendName amountText extendText indexTail frontText sizedText dec instructionOf rowOf part sizedAt sizedIn indexIn classOf inSet allocated undefined undefinedSize undefinedOption
 line-reached = refl

@@ -40,6 +40,7 @@ use Rattle.text.specs.Writing.{Outcome, wordText, copied, writeOf}
 use Rattle.text.proofs.Examples.{starred-examples}
 use Rattle.text.proofs.Lengths.{text-short, text-reached}
 use Rattle.listing.specs.Listing.{listingOf, listOf}
+use Rattle.reader.proofs.Examples.{hints-read}
 use Rattle.listing.proofs.Examples.{listing-example, line-reached}
 use Rattle.listing.proofs.Steps.{line-within, short-within}
 use Rattle.reader.specs.declared.Reading.{Reading}
@@ -266,4 +267,5 @@ requests =
       stream-answers = call-answer;
       stream-unchanged = call-unchanged;
       stream-puts = call-puts;
+      hints = hints-read;
     }

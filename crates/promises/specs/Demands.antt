@@ -39,6 +39,7 @@ use Rattle.encoder.specs.Exact.{Exact}
 use Rattle.text.specs.Texts.{textOf, textMost}
 use Rattle.text.specs.Writing.{wordText, writeOf}
 use Rattle.text.specs.Examples.{Holds, examples}
+use Rattle.reader.specs.Examples.{HintsRead}
 use Rattle.listing.specs.Listing.{lineText, shortText, lineMost, Within, listingOf, listOf}
 use Rattle.listing.specs.Examples.{exampleBytes, exampleLines}
 use Rattle.reader.specs.declared.Reading.{Reading}
@@ -183,14 +184,15 @@ pub record Requests : Type 0 where
   pub stack-refused : (w : Window) (word : ℕ) (m : Machine) (t : Transfer) (a : Addressing) → wordAccess word ≡ Moves t a → a .relative ≡ false → a .base ≡ 31
       → bad w m ≡ false → answerNumber (classOf word) ≡ 0 → operandsOf a m .tainted ≡ false → ¬ (ListN.getD (m .values) 31 0 % 16 ≡ 0)
       → (stepAnswer w word m ≡ 6) × (stepped w word m .shown ≡ shown 0 (ListN.getD (m .values) 31 0))
-  -- CR 4: "Promise that no allocated word's text is longer than 30 bytes and show a word that reaches it"
+  -- CR 4: "Promise that no allocated word's text is longer than 30 bytes and show a word that reaches it"; CR 7: "CR 4's bound
+  -- becomes 35 and a line's becomes 46, both still reached"
   pub text-most : (word : ℕ) → allocated word ≡ true → ListN.length (wordText word) ≤ textMost
-  pub text-reached : (allocated 0x38aa594a ≡ true) × (ListN.length (wordText 0x38aa594a) ≡ textMost)
-  -- "A listing line then needs at most 41 bytes without its newline": a word's, whatever its answer, and a `short` line
+  pub text-reached : (allocated 0xf8aa5940 ≡ true) × (ListN.length (wordText 0xf8aa5940) ≡ textMost)
+  -- CR 4: "A listing line then needs at most 41 bytes without its newline": a word's, whatever its answer, and a `short` line
   pub line-most : (word : ℕ) → Within lineMost (lineText word)
   pub short-most : (n : ℕ) → Within lineMost (shortText (suc n))
   -- and the line of that word needs them, with one more for its newline
-  pub line-reached : ListN.length (lineText 0x38aa594a) ≡ suc lineMost
+  pub line-reached : ListN.length (lineText 0xf8aa5940) ≡ suc lineMost
   -- CR 5: "However an image is cut, the joined output of all unrefused calls, from a new lister to its closing, is 01's listing of
   -- their joined fragments"
   pub stream-listed : (calls : List Call) → let all = played (holding []) calls in
@@ -203,3 +205,5 @@ pub record Requests : Type 0 where
   -- "output fills its buffer from the start, the rest stays"
   pub stream-puts : (l : Lister) (c : Call) → answerNumber (callOf l c .answer) ≡ 0
       → (callOf l c .length ≡ ListN.length (linesOf l c)) × (callOf l c .buffer ≡ sets (lent c) 0 (linesOf l c))
+  -- CR 7: "The reader takes only the new form, so 01's example becomes `prfum pldl1keep, [x1]` and its old line answer 9"
+  pub hints : HintsRead

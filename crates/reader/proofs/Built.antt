@@ -7,6 +7,7 @@ use Rattle.bits.specs.Choice.{lookup}
 use Rattle.instruction.specs.Operations.{sizeOf, opcOf}
 use Rattle.reader.specs.Types.{Scan, Name, Tail, SizedOp, LiteralOp, LiteralWord, PairOp, PairMode, Family, Literal, Pair, LiteralOperands, PairOperands}
 use Rattle.reader.specs.route.Names.{nameFor}
+use Rattle.reader.specs.route.Targets.{targetAt}
 use Rattle.reader.specs.route.Tails.{tailAt, offsetAt, optionAt, scaledAt}
 use Rattle.reader.specs.route.Build.{keyIn, numIn, registerOf, literalTable, literalFor, literalFrom, offsetFrom, indexFrom, pairFrom, modeFor, bracketedFor, plainFor, familyFor, buildOf}
 
@@ -19,16 +20,16 @@ unfolding literalFor
 literal-by op p q e = e ∙ rw (p, q)
 
 module _ (s : Scan) where
-  pub literal-is : {t : ℕ} {z : ℤ} → t ≡ registerOf (numIn s 1) → z ≡ offsetAt (keyIn s 2) (numIn s 2) → record { target = t; offset = z } ≡ literalFrom s
+  pub literal-is : {t : ℕ} {z : ℤ} → t ≡ targetAt (keyIn s 1) (numIn s 1) → z ≡ offsetAt (keyIn s 2) (numIn s 2) → record { target = t; offset = z } ≡ literalFrom s
   unfolding literalFrom
   literal-is a b = cc
 
-  pub offset-is : {t n : ℕ} {z : ℤ} → t ≡ registerOf (numIn s 1) → n ≡ registerOf (numIn s 4) → z ≡ offsetAt (keyIn s 5) (numIn s 5)
+  pub offset-is : {t n : ℕ} {z : ℤ} → t ≡ targetAt (keyIn s 1) (numIn s 1) → n ≡ registerOf (numIn s 4) → z ≡ offsetAt (keyIn s 5) (numIn s 5)
       → record { target = t; base = n; offset = z } ≡ offsetFrom s
   unfolding offsetFrom
   offset-is a b d = cc
 
-  pub index-is : {t n m o x : ℕ} → t ≡ registerOf (numIn s 1) → n ≡ registerOf (numIn s 4) → m ≡ registerOf (numIn s 5) → o ≡ optionAt (keyIn s 6)
+  pub index-is : {t n m o x : ℕ} → t ≡ targetAt (keyIn s 1) (numIn s 1) → n ≡ registerOf (numIn s 4) → m ≡ registerOf (numIn s 5) → o ≡ optionAt (keyIn s 6)
       → x ≡ scaledAt (keyIn s 6) → record { target = t; base = n; index = m; option = o; scaled = x } ≡ indexFrom s
   unfolding indexFrom
   index-is a b d e f = cc

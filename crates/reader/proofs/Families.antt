@@ -1,16 +1,21 @@
 -- The family of a line comes back, if its operands are in range. Assumes nothing.
 use Prim.Native.Nat.{ℕ, _<_}
 use mathlib.Core.Path.{_≡_, refl, ap, _∙_}
+use mathlib.Core.Bool.{Bool, true, false}
 use mathlib.Core.List.{List, _++_, foldl}
+use lib.Dec.{eqb}
 use lib.IntN.{natAbs}
+use Rattle.bits.specs.Choice.{pick}
+use Rattle.instruction.specs.Operations.{pairOpc}
 use Rattle.ascii.specs.Ascii.{asc}
 use Rattle.mnemonic.specs.Mnemonics.{literalSized, pairName}
-use Rattle.mnemonic.specs.Operands.{pairOperand}
+use Rattle.mnemonic.specs.Operands.{Narrow, Wide, sizedOperand, pairOperand}
 use Rattle.text.specs.Texts.{operandText, baseText, frontText, offsetTail, preTail, postTail, indexTail, literalText, pairText, sizedText, familyText}
 use Rattle.reader.specs.Types.{Scan, Tail, SizedOp, Prefetch, LiteralOp, PairOp, PairMode, NoAllocate, Post, Offset, Pre, Family, Empty, Literal, Pair, Ordered, Unscaled, PostIndex, PreIndex, Register, Unsigned, LiteralOperands, PairOperands, OffsetOperands, IndexOperands}
 use Rattle.reader.specs.route.Scan.{stepOf, scanStart}
 use Rattle.reader.specs.route.Build.{modeFor, pairFrom, buildOf}
-use Rattle.reader.proofs.Named.{plain-named, unscaled-named, ordered-named, pair-named, noallocate-named, literal-for}
+use Rattle.reader.proofs.Named.{plain-named, unscaled-named, ordered-named, pair-named, noallocate-named, literal-for, target-is}
+use Rattle.reader.proofs.Scans.{operandNum}
 use Rattle.reader.proofs.Tails.{Words, here, OffsetEnd, offset-end, pre-end, post-end, index-end}
 use Rattle.reader.proofs.Fronts.{single, double, single-goes, double-goes, literal-goes, made, built-named, built-plain, offset-from, pair-from, index-from, literal-built}
 
@@ -70,48 +75,55 @@ module _ (op : SizedOp) (o : OffsetOperands) (v : OffsetRange o) where
   ordered-comes n =
       let N = ordered-named op n in
       let e = offset-end (single N (o .target) (v .target) (o .base)) (o .offset) (v .offset) in
-      ap buildOf (single-goes N (o .target) (v .target) (o .base) (v .base) (offsetTail (o .offset))) ∙ built-named (e .kept) (N .reads (o .target))
-      ∙ ap (λ (x : OffsetOperands). made (Ordered op x)) (offset-from (v .target) (v .base) e)
+      ap buildOf (single-goes N (o .target) (v .target) (o .base) (v .base) (offsetTail (o .offset))) ∙ built-named (e .kept) (N .reads (o .target) (v .target))
+      ∙ ap (λ (x : OffsetOperands). made (Ordered op x)) (offset-from (target-is (sizedOperand op) (o .target) (v .target)) (v .base) e)
 
   unscaled-comes : Comes (Unscaled op o)
   unfolding scanned sizedText
   unscaled-comes =
       let N = unscaled-named op in
       let e = offset-end (single N (o .target) (v .target) (o .base)) (o .offset) (v .offset) in
-      ap buildOf (single-goes N (o .target) (v .target) (o .base) (v .base) (offsetTail (o .offset))) ∙ built-named (e .kept) (N .reads (o .target))
-      ∙ ap (λ (x : OffsetOperands). made (Unscaled op x)) (offset-from (v .target) (v .base) e)
+      ap buildOf (single-goes N (o .target) (v .target) (o .base) (v .base) (offsetTail (o .offset))) ∙ built-named (e .kept) (N .reads (o .target) (v .target))
+      ∙ ap (λ (x : OffsetOperands). made (Unscaled op x)) (offset-from (target-is (sizedOperand op) (o .target) (v .target)) (v .base) e)
 
   post-comes : Comes (PostIndex op o)
   unfolding scanned sizedText
   post-comes =
       let N = plain-named op in
       let e = post-end (single N (o .target) (v .target) (o .base)) (o .offset) (v .offset) in
-      ap buildOf (single-goes N (o .target) (v .target) (o .base) (v .base) (postTail (o .offset))) ∙ built-plain op (e .kept) (N .reads (o .target)) refl (e .tail)
-      ∙ ap (λ (x : OffsetOperands). made (PostIndex op x)) (offset-from (v .target) (v .base) e)
+      ap buildOf (single-goes N (o .target) (v .target) (o .base) (v .base) (postTail (o .offset))) ∙ built-plain op (e .kept) (N .reads (o .target) (v .target)) refl (e .tail)
+      ∙ ap (λ (x : OffsetOperands). made (PostIndex op x)) (offset-from (target-is (sizedOperand op) (o .target) (v .target)) (v .base) e)
 
   pre-comes : Comes (PreIndex op o)
   unfolding scanned sizedText
   pre-comes =
       let N = plain-named op in
       let e = pre-end (single N (o .target) (v .target) (o .base)) (o .offset) (v .offset) in
-      ap buildOf (single-goes N (o .target) (v .target) (o .base) (v .base) (preTail (o .offset))) ∙ built-plain op (e .kept) (N .reads (o .target)) refl (e .tail)
-      ∙ ap (λ (x : OffsetOperands). made (PreIndex op x)) (offset-from (v .target) (v .base) e)
+      ap buildOf (single-goes N (o .target) (v .target) (o .base) (v .base) (preTail (o .offset))) ∙ built-plain op (e .kept) (N .reads (o .target) (v .target)) refl (e .tail)
+      ∙ ap (λ (x : OffsetOperands). made (PreIndex op x)) (offset-from (target-is (sizedOperand op) (o .target) (v .target)) (v .base) e)
 
   unsigned-comes : Comes (Unsigned op o)
   unfolding scanned sizedText
   unsigned-comes =
       let N = plain-named op in
       let e = offset-end (single N (o .target) (v .target) (o .base)) (o .offset) (v .offset) in
-      ap buildOf (single-goes N (o .target) (v .target) (o .base) (v .base) (offsetTail (o .offset))) ∙ built-plain op (e .kept) (N .reads (o .target)) refl (e .tail)
-      ∙ ap (λ (x : OffsetOperands). made (Unsigned op x)) (offset-from (v .target) (v .base) e)
+      ap buildOf (single-goes N (o .target) (v .target) (o .base) (v .base) (offsetTail (o .offset))) ∙ built-plain op (e .kept) (N .reads (o .target) (v .target)) refl (e .tail)
+      ∙ ap (λ (x : OffsetOperands). made (Unsigned op x)) (offset-from (target-is (sizedOperand op) (o .target) (v .target)) (v .base) e)
 
 index-comes : (op : SizedOp) (o : IndexOperands) → IndexRange o → Comes (Register op o)
 unfolding scanned sizedText
 index-comes op o v =
     let N = plain-named op in
     let e = index-end (single N (o .target) (v .target) (o .base)) op o (v .index) (v .option) (v .scaled) in
-    ap buildOf (single-goes N (o .target) (v .target) (o .base) (v .base) (indexTail op o)) ∙ built-plain op (e .kept) (N .reads (o .target)) refl (e .tail)
-    ∙ ap (λ (x : IndexOperands). made (Register op x)) (index-from (v .target) (v .base) (v .index) e)
+    ap buildOf (single-goes N (o .target) (v .target) (o .base) (v .base) (indexTail op o)) ∙ built-plain op (e .kept) (N .reads (o .target) (v .target)) refl (e .tail)
+    ∙ ap (λ (x : IndexOperands). made (Register op x)) (index-from (target-is (sizedOperand op) (o .target) (v .target)) (v .base) (v .index) e)
+
+register-num : (b : Bool) (r : ℕ) → operandNum (pick b Narrow Wide) r ≡ r
+register-num true r = refl
+register-num false r = refl
+
+pair-num : (op : PairOp) (r : ℕ) → operandNum (pairOperand op) r ≡ r
+pair-num op r = register-num (eqb (pairOpc op) 0) r
 
 module _ (op : PairOp) (o : PairOperands) (v : PairRange o) where
   noallocate-comes : o .mode ≡ NoAllocate → Comes (Pair op o)
@@ -121,7 +133,7 @@ module _ (op : PairOp) (o : PairOperands) (v : PairRange o) where
       let e = offset-end (double N (o .first) (v .first) (o .second) (o .base)) (o .offset) (v .offset) in
       rw m
       (ap buildOf (double-goes N (o .first) (v .first) (o .second) (o .base) (v .second) (v .base) (offsetTail (o .offset)))
-      ∙ built-named (e .kept) (N .reads (o .first)) ∙ ap (λ (x : PairOperands). made (Pair op x)) (pair-from (v .first) (v .base) NoAllocate (v .second) e))
+      ∙ built-named (e .kept) (N .reads (o .first) (v .first)) ∙ ap (λ (x : PairOperands). made (Pair op x)) (pair-from NoAllocate (pair-num op (o .first)) (pair-num op (o .second)) (v .first) (v .second) (v .base) e))
 
   -- the words before the tail of a pair with allocation
   words : Words
@@ -134,9 +146,9 @@ module _ (op : PairOp) (o : PairOperands) (v : PairRange o) where
   unfolding words
   allocate-comes {x} tail e =
       let N = pair-named op in
-      ap buildOf (double-goes N (o .first) (v .first) (o .second) (o .base) (v .second) (v .base) tail) ∙ built-named (e .kept) (N .reads (o .first))
+      ap buildOf (double-goes N (o .first) (v .first) (o .second) (o .base) (v .second) (v .base) tail) ∙ built-named (e .kept) (N .reads (o .first) (v .first))
       ∙ ap (λ (k : Tail). made (Pair op (pairFrom (modeFor k) (foldl stepOf (here words) tail)))) (e .tail)
-      ∙ ap (λ (p : PairOperands). made (Pair op p)) (pair-from (v .first) (v .base) (modeFor x) (v .second) e)
+      ∙ ap (λ (p : PairOperands). made (Pair op p)) (pair-from (modeFor x) (pair-num op (o .first)) (pair-num op (o .second)) (v .first) (v .second) (v .base) e)
 
   by-mode : (mode : PairMode) → o .mode ≡ mode → Comes (Pair op o)
   unfolding scanned pairText

@@ -11,10 +11,11 @@ use Rattle.mnemonic.specs.Operands.{Operand}
 use Rattle.reader.specs.Types.{Scan, Name, Stem, Tail, SizedOp, PairMode, Family, Literal, Instruction}
 use Rattle.reader.specs.route.Scan.{packed, plainOf, stepOf, scanStart}
 use Rattle.reader.specs.route.Names.{nameFor}
+use Rattle.reader.specs.route.Targets.{targetAt}
 use Rattle.reader.specs.route.Tails.{tailAt, offsetAt}
 use Rattle.reader.specs.route.Build.{keyIn, literalFor, literalFrom, offsetFrom, indexFrom, pairFrom, bracketedFor, plainFor, sizedFor, familyFor, buildOf}
-use Rattle.reader.proofs.Scans.{Scans, then, piece, word, operandKey, baseKey, signKey, operand-scan, base-scan, signed-scan}
-use Rattle.reader.proofs.Named.{Named, named}
+use Rattle.reader.proofs.Scans.{Scans, then, piece, word, operandKey, operandNum, baseKey, signKey, operand-scan, base-scan, signed-scan}
+use Rattle.reader.proofs.Named.{Named, named, target-is}
 use Rattle.reader.proofs.Tails.{Words, here, Kept, OffsetEnd, IndexEnd, plus-back, minus-back}
 
 -- ---- up to the tail
@@ -24,7 +25,7 @@ abbrev second : ℕ → ℕ → ℕ → ℕ → Scan
 second a x b t = record { keys = a ∷ b ∷ 0 ∷ 0 ∷ 0 ∷ 0 ∷ 0 ∷ 0 ∷ []; nums = x ∷ t ∷ 0 ∷ 0 ∷ 0 ∷ 0 ∷ 0 ∷ 0 ∷ []; at = 2 }
 
 module _ {name : List ℕ} {o : Operand} {m : Name} (N : Named name o m) (t : ℕ) (ht : t < 32) where
-  front : Scans scanStart (frontText name o t) (second (N .key) (N .num) (packed (operandKey o t) 44) t)
+  front : Scans scanStart (frontText name o t) (second (N .key) (N .num) (packed (operandKey o t) 44) (operandNum o t))
   unfolding frontText plainOf stepOf
   front = then (then (N .scan) (operand-scan (named (N .key) (N .num)) (lit< tt) (lit< tt) o t ht)) (piece (asc ", ") refl)
 
@@ -35,7 +36,7 @@ module _ {name : List ℕ} {o : Operand} {m : Name} (N : Named name o m) (t : �
         key0 = N .key;
         num0 = N .num;
         key1 = packed (operandKey o t) 44;
-        num1 = t;
+        num1 = operandNum o t;
         key2 = 0;
         num2 = 0;
         key4 = baseKey (packed 0 91) n;
@@ -48,9 +49,9 @@ module _ {name : List ℕ} {o : Operand} {m : Name} (N : Named name o m) (t : �
         key0 = N .key;
         num0 = N .num;
         key1 = packed (operandKey o t) 44;
-        num1 = t;
+        num1 = operandNum o t;
         key2 = packed (operandKey o u) 44;
-        num2 = u;
+        num2 = operandNum o u;
         key4 = baseKey (packed 0 91) n;
         num4 = n;
       }
@@ -59,7 +60,7 @@ module _ {name : List ℕ} {o : Operand} {m : Name} (N : Named name o m) (t : �
   opened k u =
       record {
         keys = N .key ∷ packed (operandKey o t) 44 ∷ k ∷ 0 ∷ 0 ∷ 0 ∷ 0 ∷ 0 ∷ [];
-        nums = N .num ∷ t ∷ u ∷ 0 ∷ 0 ∷ 0 ∷ 0 ∷ 0 ∷ [];
+        nums = N .num ∷ operandNum o t ∷ u ∷ 0 ∷ 0 ∷ 0 ∷ 0 ∷ 0 ∷ [];
         at = 4;
       }
 
@@ -73,16 +74,16 @@ module _ {name : List ℕ} {o : Operand} {m : Name} (N : Named name o m) (t : �
   unfolding plainOf stepOf
   double-goes u n hu hn tail =
       then (then (then (then front
-      (operand-scan (second (N .key) (N .num) (packed (operandKey o t) 44) t) (lit< tt) (lit< tt) o u hu))
+      (operand-scan (second (N .key) (N .num) (packed (operandKey o t) 44) (operandNum o t)) (lit< tt) (lit< tt) o u hu))
       (piece (asc ", [") refl))
-      (base-scan (opened (packed (operandKey o u) 44) u) (lit< tt) (lit< tt) (packed 0 91) n hn))
+      (base-scan (opened (packed (operandKey o u) 44) (operandNum o u)) (lit< tt) (lit< tt) (packed 0 91) n hn))
       (piece tail refl) .goes
 
   pub literal-goes : (z : ℤ) → natAbs z < 0x20_0000
-      → foldl stepOf scanStart (frontText name o t ++ asc "#" ++ signedDec z) ≡ word (second (N .key) (N .num) (packed (operandKey o t) 44) t) (signKey z) (natAbs z)
+      → foldl stepOf scanStart (frontText name o t ++ asc "#" ++ signedDec z) ≡ word (second (N .key) (N .num) (packed (operandKey o t) 44) (operandNum o t)) (signKey z) (natAbs z)
   unfolding plainOf stepOf
   literal-goes z h =
-      then (then front (piece (asc "#") refl)) (signed-scan (second (N .key) (N .num) (packed (operandKey o t) 44) t) (lit< tt) (lit< tt) z h) .goes
+      then (then front (piece (asc "#") refl)) (signed-scan (second (N .key) (N .num) (packed (operandKey o t) 44) (operandNum o t)) (lit< tt) (lit< tt) z h) .goes
 
 -- ---- what is built of it
 
@@ -99,26 +100,29 @@ module _ {w : Words} {s : Scan} where
   unfolding plainFor
   built-plain op k e z x = built-named k e ∙ rw (k .key2, z, x)
 
-  module _ (h1 : w .num1 < 32) (h4 : w .num4 < 32) where
-    pub offset-from : {x : Tail} {z : ℤ} → OffsetEnd w x z s → offsetFrom s ≡ record { target = w .num1; base = w .num4; offset = z }
+  -- the target is what the first operand means
+  module _ {t : ℕ} (h1 : targetAt (w .key1) (w .num1) ≡ t) (h4 : w .num4 < 32) where
+    pub offset-from : {x : Tail} {z : ℤ} → OffsetEnd w x z s → offsetFrom s ≡ record { target = t; base = w .num4; offset = z }
     unfolding offsetFrom
-    offset-from e = rw (e .kept .num1, e .kept .num4, e .offset, mod-eq-of-lt h1, mod-eq-of-lt h4)
-
-    pub pair-from : {x : Tail} {z : ℤ} (mode : PairMode) → w .num2 < 32 → OffsetEnd w x z s
-        → pairFrom mode s ≡ record { first = w .num1; second = w .num2; base = w .num4; mode = mode; offset = z }
-    unfolding pairFrom
-    pair-from mode h2 e = rw (e .kept .num1, e .kept .num2, e .kept .num4, e .offset, mod-eq-of-lt h1, mod-eq-of-lt h2, mod-eq-of-lt h4)
+    offset-from e = rw (e .kept .key1, e .kept .num1, e .kept .num4, e .offset, h1, mod-eq-of-lt h4)
 
     pub index-from : {r option scaled : ℕ} → r < 32 → IndexEnd w r option scaled s
-        → indexFrom s ≡ record { target = w .num1; base = w .num4; index = r; option = option; scaled = scaled }
+        → indexFrom s ≡ record { target = t; base = w .num4; index = r; option = option; scaled = scaled }
     unfolding indexFrom
     index-from h5 e =
-        rw (e .kept .num1, e .kept .num4, e .index, e .extend, e .scale, mod-eq-of-lt h1, mod-eq-of-lt h4, mod-eq-of-lt h5)
+        rw (e .kept .key1, e .kept .num1, e .kept .num4, e .index, e .extend, e .scale, h1, mod-eq-of-lt h4, mod-eq-of-lt h5)
+
+  -- a pair's two are registers
+  pub pair-from : {x : Tail} {z : ℤ} {a b : ℕ} (mode : PairMode) → w .num1 ≡ a → w .num2 ≡ b → a < 32 → b < 32 → w .num4 < 32 → OffsetEnd w x z s
+      → pairFrom mode s ≡ record { first = a; second = b; base = w .num4; mode = mode; offset = z }
+  unfolding pairFrom
+  pair-from mode p q h1 h2 h4 e =
+      rw (e .kept .num1, e .kept .num2, e .kept .num4, e .offset, p, q, mod-eq-of-lt h1, mod-eq-of-lt h2, mod-eq-of-lt h4)
 
 -- the one line without a base
 pub literal-built : {name : List ℕ} {o : Operand} (op : SizedOp) (N : Named name o (Name.Sized Stem.Plain op)) (t : ℕ) → t < 32 → (z : ℤ) → natAbs z < 0x20_0000
-    → buildOf (word (second (N .key) (N .num) (packed (operandKey o t) 44) t) (signKey z) (natAbs z))
+    → buildOf (word (second (N .key) (N .num) (packed (operandKey o t) 44) (operandNum o t)) (signKey z) (natAbs z))
     ≡ made (Literal (literalFor op) (record { target = t; offset = z }))
 unfolding buildOf plainFor literalFrom offsetAt
-literal-built op N t h (pos n) b = rw (N .reads t, mod-eq-of-lt h, plus-back n b)
-literal-built op N t h (negsuc n) b = rw (N .reads t, mod-eq-of-lt h, minus-back n b)
+literal-built {o = o} op N t h (pos n) b = rw (N .reads t h, target-is o t h, plus-back n b)
+literal-built {o = o} op N t h (negsuc n) b = rw (N .reads t h, target-is o t h, minus-back n b)

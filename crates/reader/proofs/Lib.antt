@@ -9,3 +9,4 @@ pub mod RoundTrip
 pub mod Triangle
 pub mod Written
 pub mod Answers
+pub mod Examples

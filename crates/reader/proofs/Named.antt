@@ -4,12 +4,15 @@ use mathlib.Core.Path.{_≡_, refl, sym, ap, _∙_}
 use mathlib.Core.Bool.{Bool, _&&_, _||_, or-false}
 use mathlib.Core.List.{List, [], _∷_, _++_, foldl}
 use native.Mathlib.Omega.{arith}
+use native.Mathlib.Nat.{mod-eq-of-lt}
 use lib.Dec.{eqb}
 use borrow.Author.Tests.{eqb-true, ne-eqb}
+use Rattle.bits.specs.Fields.{part}
 use Rattle.bits.proofs.Choices.{both, tested}
 use Rattle.instruction.specs.Operations.{sizeOf, opcOf, sizedAt, pairAt}
 use Rattle.instruction.proofs.Codes.{sized-at}
-use Rattle.ascii.specs.Ascii.{asc}
+use Rattle.ascii.specs.Ascii.{asc, dec}
+use Rattle.text.specs.Hints.{hintText}
 use Rattle.mnemonic.specs.Mnemonics.{literalSized}
 use Rattle.mnemonic.specs.Operands.{Operand, Narrow, Wide, Hint, letterOf}
 use Rattle.mnemonic.specs.route.Names.{stemAt, nameAt, nameText, nameOperand, numberOf}
@@ -18,15 +21,33 @@ use Rattle.mnemonic.proofs.Numbered.{number-below, name-back}
 use Rattle.reader.specs.Types.{Scan, Name, Stem, SizedOp, Prefetch, LiteralOp, LiteralWord, LiteralDouble, LiteralSignedWord, LiteralPrefetch, PairOp}
 use Rattle.reader.specs.route.Scan.{packed, plainOf, stepOf, scanStart}
 use Rattle.reader.specs.route.Names.{letterFor, isName, searched, nameFor}
+use Rattle.reader.specs.route.Targets.{lowBits, targetAt}
 use Rattle.reader.specs.route.Build.{keyIn, numIn, literalFor}
-use Rattle.reader.proofs.Scans.{by-test, Scans, piece, operandKey}
+use Rattle.reader.proofs.Scans.{by-test, Scans, piece, operandKey, operandNum}
 
--- the letter by the key of the first operand and its comma
-letter-is : (o : Operand) (r : ℕ) → letterFor (packed (operandKey o r) 44) ≡ letterOf o
-unfolding letterFor
-letter-is Narrow r = by-test (eqb r 31) (λ e. rw e) (λ e. rw e)
-letter-is Wide r = by-test (eqb r 31) (λ e. rw e) (λ e. rw e)
-letter-is Hint r = refl
+-- ---- the first operand
+
+letterTest : ℕ → Bool
+letterTest r = eqb (letterFor (packed (operandKey Hint r) 44)) 0x23
+
+-- the letter by the key of the operand and its comma
+letter-is : (o : Operand) (r : ℕ) → r < 32 → letterFor (packed (operandKey o r) 44) ≡ letterOf o
+unfolding letterFor letterTest hintText part dec
+letter-is Narrow r h = by-test (eqb r 31) (λ e. rw e) (λ e. rw e)
+letter-is Wide r h = by-test (eqb r 31) (λ e. rw e) (λ e. rw e)
+letter-is Hint r h = eqb-true _ _ (tested 32 letterTest refl r h)
+
+targetTest : ℕ → Bool
+targetTest r = eqb (targetAt (packed (operandKey Hint r) 44) (operandNum Hint r)) r
+
+-- which register or hint the key and the number mean
+pub target-is : (o : Operand) (r : ℕ) → r < 32 → targetAt (packed (operandKey o r) 44) (operandNum o r) ≡ r
+unfolding targetAt lowBits targetTest hintText part dec
+target-is Narrow r h = by-test (eqb r 31) (λ e. rw e (mod-eq-of-lt h)) (λ e. rw e (mod-eq-of-lt h))
+target-is Wide r h = by-test (eqb r 31) (λ e. rw e (mod-eq-of-lt h)) (λ e. rw e (mod-eq-of-lt h))
+target-is Hint r h = eqb-true _ _ (tested 32 targetTest refl r h)
+
+-- ---- mnemonics
 
 -- before the first operand, with what the mnemonic left
 abbrev pub named : ℕ → ℕ → Scan
@@ -39,7 +60,7 @@ pub record Named (name : List ℕ) (o : Operand) (n : Name) : Type 0 where
   pub key : ℕ
   pub num : ℕ
   pub scan : Scans scanStart (name ++ asc " ") (named key num)
-  pub reads : (r : ℕ) → nameFor (packed (operandKey o r) 44) key ≡ n
+  pub reads : (r : ℕ) → r < 32 → nameFor (packed (operandKey o r) 44) key ≡ n
 
 -- ---- the test
 
@@ -84,7 +105,7 @@ name-named x n =
       key = keyIn (scanOf x) 0;
       num = numIn (scanOf x) 0;
       scan = piece (nameText x ++ asc " ") (rw e at (scans-to (numberOf x) h));
-      reads = λ r. rw (letter-is (nameOperand x) r) (sym (name-back _) ∙ ap nameAt (rw e at f) ∙ e);
+      reads = λ r b. rw (letter-is (nameOperand x) r b) (sym (name-back _) ∙ ap nameAt (rw e at f) ∙ e);
     }
 
 pub plain-named : (op : SizedOp) → Named (nameText (Name.Sized Stem.Plain op)) (nameOperand (Name.Sized Stem.Plain op)) (Name.Sized Stem.Plain op)

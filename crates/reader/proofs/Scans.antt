@@ -1,17 +1,20 @@
 -- What the scan makes of the pieces of a line: digits, registers, bases and signed numbers. Assumes nothing.
 use Prim.Native.Nat.{ℕ, zero, suc, _+_, _*_, _/_, _%_, _^_, _≤_, _<_}
 use mathlib.Core.Path.{_≡_, refl, ap, _∙_}
-use mathlib.Core.Bool.{Bool, true, false}
+use mathlib.Core.Bool.{Bool, true, false, not, _&&_, _||_}
 use mathlib.Core.List.{List, [], _∷_, _++_, foldl, foldl-append}
 use native.Mathlib.Nat.{pow-suc, mod-eq-of-lt}
 use native.Mathlib.Omega.{arith}
-use borrow.Author.Tests.{lt-ltb, le-ltb, ne-eqb, eqb-true, eqb-false, ltb-true, ltb-false}
+use borrow.Author.Tests.{lt-ltb, le-ltb, ne-eqb, eqb-true, eqb-false, ltb-true, ltb-false, not-true}
 use lib.Dec.{ltb, eqb}
 use lib.IntN.{ℤ, pos, negsuc, natAbs}
 use lib.ListN.{length, set}
 use lib.Seq.{set-set, getD-set-same}
 use Rattle.bits.specs.Choice.{pick}
+use Rattle.bits.specs.Fields.{part}
+use Rattle.bits.proofs.Choices.{both, neither, tested}
 use Rattle.ascii.specs.Ascii.{dec, signedDec}
+use Rattle.text.specs.Hints.{hintText}
 use Rattle.text.specs.Texts.{registerText, baseText, operandText}
 use Rattle.mnemonic.specs.Operands.{Operand, Narrow, Wide, Hint}
 use Rattle.ascii.proofs.Decimals.{dec-one, dec-more}
@@ -60,10 +63,35 @@ registerKey letter r = pick (eqb r 31) (packed (packed (packed 0 letter) 122) 11
 abbrev pub baseKey : ℕ → ℕ → ℕ
 baseKey k r = pick (eqb r 31) (packed (packed k 115) 112) (packed k 120)
 
+-- what a byte adds to the key and the number of its word
+abbrev pub keyStep : ℕ → ℕ → ℕ
+keyStep k b = pick (ltb b 48) (packed k b) (pick (ltb b 58) k (packed k b))
+
+abbrev pub more : ℕ → ℕ → ℕ
+more n d = n % 1000000000000000000 * 10 + d
+
+abbrev pub numStep : ℕ → ℕ → ℕ
+numStep n b = pick (eqb b 112) (more n 31) (pick (eqb b 122) (more n 31) (pick (ltb b 48) n (pick (ltb b 58) (more n (b % 16)) n)))
+
+-- which key and which number an operand leaves
 abbrev pub operandKey : Operand → ℕ → ℕ
 operandKey Narrow r = registerKey 119 r
 operandKey Wide r = registerKey 120 r
-operandKey Hint r = packed 0 35
+operandKey Hint r = foldl keyStep 0 (hintText r)
+
+abbrev pub operandNum : Operand → ℕ → ℕ
+operandNum Narrow r = r
+operandNum Wide r = r
+operandNum Hint r = foldl numStep 0 (hintText r)
+
+-- no space and no bracket
+inWord : List ℕ → Bool
+inWord [] = true
+inWord (b ∷ bs) = not (eqb b 32 || eqb b 91) && inWord bs
+
+in-word : (r : ℕ) → r < 32 → inWord (hintText r) ≡ true
+unfolding inWord hintText part dec
+in-word r h = tested 32 (λ r. inWord (hintText r)) refl r h
 
 abbrev pub signKey : ℤ → ℕ
 signKey (pos n) = packed 0 35
@@ -75,6 +103,31 @@ module _ (s : Scan) (hk : s .at % 8 < length (s .keys)) (hn : s .at % 8 < length
 
   digited-word : (k n d : ℕ) → n < 1000000000000000000 → digited (word s k n) d ≡ word s k (n * 10 + d)
   digited-word k n d h = rw (getD-set-same (s .nums) (s .at % 8) n 0, set-set, mod-eq-of-lt h)
+
+  digited-any : (k n d : ℕ) → digited (word s k n) d ≡ word s k (n % 1000000000000000000 * 10 + d)
+  digited-any k n d = rw (getD-set-same (s .nums) (s .at % 8) n 0, set-set)
+
+  -- any byte that neither ends the word nor opens a bracket
+  byte-step : (k n b : ℕ) → eqb b 32 ≡ false → eqb b 91 ≡ false → stepOf (word s k n) b ≡ word s (keyStep k b) (numStep n b)
+  unfolding plainOf stepOf
+  byte-step k n b p q =
+      by-test (eqb b 112)
+      (λ e. rw (eqb-true b 112 e) (ap (λ (t : Scan). keyed t 112) (digited-any k n 31) ∙ keyed-word k _ 112))
+      (λ e.
+      by-test (eqb b 122)
+      (λ f. rw (eqb-true b 122 f) (ap (λ (t : Scan). keyed t 122) (digited-any k n 31) ∙ keyed-word k _ 122))
+      (λ f.
+      by-test (ltb b 48)
+      (λ g. rw (p, q, e, f, g) (keyed-word k n b))
+      (λ g. by-test (ltb b 58) (λ h. rw (p, q, e, f, g, h) (digited-any k n (b % 16))) (λ h. rw (p, q, e, f, g, h) (keyed-word k n b)))))
+
+  bytes-scan : (k n : ℕ) (l : List ℕ) → inWord l ≡ true → foldl stepOf (word s k n) l ≡ word s (foldl keyStep k l) (foldl numStep n l)
+  unfolding inWord
+  bytes-scan k n [] h = refl
+  bytes-scan k n (b ∷ bs) h =
+      let t = both (not (eqb b 32 || eqb b 91)) (inWord bs) h in
+      let (p, q) = neither (eqb b 32) (eqb b 91) (not-true _ (t .0)) in
+      ap (λ (x : Scan). foldl stepOf x bs) (byte-step k n b p q) ∙ bytes-scan (keyStep k b) (numStep n b) bs (t .1)
 
   digit-step : (k n d : ℕ) → n < 1000000000000000000 → d < 10 → stepOf (word s k n) (48 + d) ≡ word s k (n * 10 + d)
   unfolding plainOf stepOf
@@ -145,10 +198,10 @@ module _ (s : Scan) (hk : s .at % 8 < length (s .keys)) (hn : s .at % 8 < length
       (λ e. rw e (first 115 (letter-step k 0 115 (omega arith) (omega arith)) (first 112 (letter-31 _ 112) done)))
       (λ e. simp (ne-eqb r 31 e) (first 120 (letter-step k 0 120 (omega arith) (omega arith)) (dec-scan _ r (omega arith))))
 
-  pub operand-scan : (o : Operand) (r : ℕ) → r < 32 → Scans (word s 0 0) (operandText o r) (word s (operandKey o r) r)
+  pub operand-scan : (o : Operand) (r : ℕ) → r < 32 → Scans (word s 0 0) (operandText o r) (word s (operandKey o r) (operandNum o r))
   operand-scan Narrow r h = register-scan 119 r (omega arith) (omega arith) h
   operand-scan Wide r h = register-scan 120 r (omega arith) (omega arith) h
-  operand-scan Hint r h = first 35 (sign-step 0 35 (λ e. omega arith) (omega arith)) (dec-scan _ r (omega arith))
+  operand-scan Hint r h = piece (hintText r) (bytes-scan 0 0 (hintText r) (in-word r h))
 
   -- a number behind its #
   pub signed-scan : (z : ℤ) → natAbs z < 0x20_0000 → Scans (word s (packed 0 35) 0) (signedDec z) (word s (signKey z) (natAbs z))

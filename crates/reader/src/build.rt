@@ -6,6 +6,7 @@ use crate::tail::offset_at;
 use crate::tail::option_at;
 use crate::tail::scaled_at;
 use crate::tail::tail_at;
+use crate::target::target_at;
 use instruction::Family;
 use instruction::IndexOperands;
 use instruction::Instruction;
@@ -42,7 +43,7 @@ fn literal_from(s: Scan) -> LiteralOperands
     ensures { λ r. ⌜ r ≡ literalFrom s ⌝ }
 {
     LiteralOperands {
-        target: register(s.nums[1]),
+        target: target_at(s.keys[1], s.nums[1]),
         offset: offset_at(s.keys[2], s.nums[2]),
     }
 }
@@ -51,7 +52,7 @@ fn offset_from(s: Scan) -> OffsetOperands
     ensures { λ r. ⌜ r ≡ offsetFrom s ⌝ }
 {
     OffsetOperands {
-        target: register(s.nums[1]),
+        target: target_at(s.keys[1], s.nums[1]),
         base: register(s.nums[4]),
         offset: offset_at(s.keys[5], s.nums[5]),
     }
@@ -61,7 +62,7 @@ fn index_from(s: Scan) -> IndexOperands
     ensures { λ r. ⌜ r ≡ indexFrom s ⌝ }
 {
     IndexOperands {
-        target: register(s.nums[1]),
+        target: target_at(s.keys[1], s.nums[1]),
         base: register(s.nums[4]),
         index: register(s.nums[5]),
         option: option_at(s.keys[6]),

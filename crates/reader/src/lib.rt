@@ -5,6 +5,7 @@ mod compare;
 mod name;
 mod scan;
 mod tail;
+mod target;
 
 use instruction::Answer;
 use text::TEXT_MAX;

@@ -9,10 +9,11 @@ use Rattle.instruction.specs.Table.{inSet, rowOf, undefined, allocated, unpredi
 use Rattle.instruction.specs.Operations.{sizedAt, literalAt, pairAt, modeAt}
 use Rattle.decoder.specs.Decoding.{classOf}
 use Rattle.ascii.specs.Ascii.{dec, signedDec}
+use Rattle.text.specs.Hints.{hintText}
 use Rattle.text.specs.Texts.{registerText, baseText, offsetTail, preTail, postTail, extendName, amountText, extendText, indexTail, frontText, literalText, pairText, sizedText, textOf}
 use Rattle.text.specs.Writing.{wordText}
 use Rattle.text.specs.Examples.{Holds, examples}
 
 pub starred-examples : Holds examples
-unfolding wordText textOf registerText baseText offsetTail preTail postTail extendName amountText extendText indexTail frontText literalText pairText sizedText dec signedDec instructionOf rowOf part signedOf sizedAt literalAt pairAt modeAt sizedIn literalIn pairOpIn pairIn signedIn indexIn unsignedIn classOf inSet allocated undefined undefinedSize undefinedPrefetch undefinedOption undefinedPair unpredictable baseIs unpredictablePair
+unfolding wordText textOf hintText registerText baseText offsetTail preTail postTail extendName amountText extendText indexTail frontText literalText pairText sizedText dec signedDec instructionOf rowOf part signedOf sizedAt literalAt pairAt modeAt sizedIn literalIn pairOpIn pairIn signedIn indexIn unsignedIn classOf inSet allocated undefined undefinedSize undefinedPrefetch undefinedOption undefinedPair unpredictable baseIs unpredictablePair
 starred-examples = (refl, refl, (refl, refl, (refl, refl, (refl, refl, (refl, refl, (refl, refl, (refl, refl, (refl, refl, (refl, (refl, (refl, tt)))))))))))

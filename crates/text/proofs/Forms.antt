@@ -12,14 +12,17 @@ use Rattle.bits.specs.Choice.{pick}
 use Rattle.bits.specs.Bytes.{bytesOf}
 use Rattle.ascii.specs.Ascii.{asc, dec, signedDec}
 use Rattle.mnemonic.specs.declared.Mnemonic.{Mnemonic}
-use Rattle.mnemonic.specs.Operands.{Operand, Narrow, Wide, Hint, letterOf}
+use Rattle.mnemonic.specs.Operands.{Operand, Narrow, Wide, Hint, letterOf, pairOperand}
+use Rattle.instruction.specs.Operations.{pairOpc}
+use Rattle.instruction.specs.declared.operation.PairOp.{PairOp}
 use Rattle.mnemonic.specs.route.Named.{Known, known, told}
 use Rattle.text.specs.declared.piece.Piece.{Piece}
 use Rattle.text.specs.declared.store.Pieces.{Pieces}
-use Rattle.text.specs.Texts.{operandText, offsetTail, extendName, extendText, amountText, frontText}
+use Rattle.text.specs.Texts.{registerText, operandText, offsetTail, extendName, extendText, amountText, frontText}
 use Rattle.text.specs.route.Pieces.{textIn, Fit, Leads, Shows}
-use Rattle.text.proofs.Packing.{size, comma, shows}
-use Rattle.text.specs.route.Lines.{Made, letterText, frontIn, extendPart, amountPart}
+use Rattle.text.proofs.Packing.{size}
+use Rattle.text.proofs.Hinted.{hint-parts}
+use Rattle.text.specs.route.Lines.{Made, firstPart, restPart, frontIn, extendPart, amountPart}
 
 pub nothing-shown : Shows [] (record { bytes = 0; length = 0 })
 unfolding textIn bytesOf
@@ -38,18 +41,39 @@ name-shown m h =
     let (short, low) = both-true _ _ h in
     record { text = refl; fit = record { short = leb-true _ _ short; low = ltb-true _ _ low } }
 
-letter-is : (o : Operand) (r : ℕ) → letterText (letterOf o) r ≡ operandText o r
-unfolding letterText
-letter-is Narrow r = refl
-letter-is Wide r = refl
-letter-is Hint r = refl
+first-rest : (o : Operand) (r : ℕ) → firstPart (letterOf o) r ++ restPart (letterOf o) r ≡ operandText o r ++ asc ", "
+unfolding firstPart restPart
+first-rest Narrow r = append-nil (registerText 119 r ++ asc ", ")
+first-rest Wide r = append-nil (registerText 120 r ++ asc ", ")
+first-rest Hint r = hint-parts r
 
-pub operand-is : (m : Mnemonic) (name : List ℕ) (o : Operand) (r : ℕ) → known m ≡ told name o → letterText (m .shape / 256) r ≡ operandText o r
-operand-is m name o r e = rw (ap (λ (k : Known). k .letter) e) (letter-is o r)
-
-pub front-is : (m : Mnemonic) (name : List ℕ) (o : Operand) (r : ℕ) → known m ≡ told name o → frontIn m r ≡ frontText name o r
+-- a mnemonic, and both pieces of the first operand
+pub front-is : (m : Mnemonic) (name : List ℕ) (o : Operand) (r : ℕ) → known m ≡ told name o → frontIn m r ++ restPart (known m .letter) r ≡ frontText name o r
 unfolding frontIn frontText
-front-is m name o r e = rw (ap (λ (k : Known). k .letters) e, ap (λ (k : Known). k .letter) e, letter-is o r)
+front-is m name o r e =
+    rw (ap (λ (k : Known). k .letters) e, ap (λ (k : Known). k .letter) e)
+    (append-assoc (name ++ asc " ") (firstPart (letterOf o) r) (restPart (letterOf o) r) ∙ ap (λ (l : List ℕ). name ++ asc " " ++ l) (first-rest o r)
+    ∙ sym (append-assoc (name ++ asc " ") (operandText o r) (asc ", ")))
+
+-- the operands of a pair are registers
+register-is : (b : Bool) (r : ℕ) → registerText (letterOf (pick b Narrow Wide)) r ≡ operandText (pick b Narrow Wide) r
+register-is true r = refl
+register-is false r = refl
+
+first-is : (b : Bool) (r : ℕ) → firstPart (letterOf (pick b Narrow Wide)) r ≡ operandText (pick b Narrow Wide) r ++ asc ", "
+unfolding firstPart
+first-is true r = refl
+first-is false r = refl
+
+module _ (m : Mnemonic) (name : List ℕ) (op : PairOp) (r : ℕ) (e : known m ≡ told name (pairOperand op)) where
+  pub pair-operand : registerText (m .shape / 256) r ≡ operandText (pairOperand op) r
+  pair-operand = rw (ap (λ (k : Known). k .letter) e) (register-is (eqb (pairOpc op) 0) r)
+
+  pub pair-front : frontIn m r ≡ frontText name (pairOperand op) r
+  unfolding frontIn frontText
+  pair-front =
+      rw (ap (λ (k : Known). k .letters) e, ap (λ (k : Known). k .letter) e, first-is (eqb (pairOpc op) 0) r)
+      (sym (append-assoc (name ++ asc " ") (operandText (pairOperand op) r) (asc ", ")))
 
 pub fits : (m : Mnemonic) (name : List ℕ) (o : Operand) → known m ≡ told name o → known m .fits ≡ true
 fits m name o e = ap (λ (k : Known). k .fits) e
@@ -59,13 +83,12 @@ fits m name o e = ap (λ (k : Known). k .fits) e
 pub made-as : {s t : List ℕ} {p : Pieces} → s ≡ t → Made s p → Made t p
 made-as e a = record { text = a .text ∙ e; sound = a .sound }
 
-pub made : (m : Mnemonic) (n : ℕ) {a b : Piece} (c d e f : Piece) → Shows (known m .letters) a → Shows (asc " " ++ letterText (known m .letter) n ++ asc ", ") b → Fit c → Fit d → Fit e → Fit f
+pub made : (m : Mnemonic) (n : ℕ) {a b : Piece} (c d e f : Piece) → Shows (known m .letters) a → Shows (asc " " ++ firstPart (known m .letter) n) b → Fit c → Fit d → Fit e → Fit f
     → Made (frontIn m n ++ textIn c ++ textIn d ++ textIn e ++ textIn f) (record { name = a; first = b; second = c; third = d; fourth = e; last = f })
 unfolding frontIn
 made m n c d e f p q h i j k =
-    let l = letterText (known m .letter) n in
     let x = known m .letters in
-    let g : x ++ (asc " " ++ l ++ asc ", ") ≡ x ++ asc " " ++ l ++ asc ", " = sym (append-assoc x (asc " " ++ l) (asc ", ")) ∙ ap (λ (y : List ℕ). y ++ asc ", ") (sym (append-assoc x (asc " ") l)) in
+    let g = sym (append-assoc x (asc " ") (firstPart (known m .letter) n)) in
     record {
       text = rw (p .text, q .text, g);
       sound = record { name = p .fit; first = q .fit; second = h; third = i; fourth = j; last = k };
@@ -81,25 +104,26 @@ pub offset-parts : {y z : ℤ} {far : ℕ} → y ≡ z → far ≡ natAbs y → 
 unfolding offsetTail
 offset-parts {y} {z} e f = rw (f, e) (hidden-or-shown (signedDec z) (eqb (natAbs z) 0))
 
-module _ (f a base sign : List ℕ) where
-  grouped : (number close : List ℕ) → f ++ (a ++ base ++ sign) ++ number ++ close ≡ f ++ a ++ base ++ (sign ++ number ++ close)
-  grouped number close = simp append-assoc
-
-  index-grouped : (index extend amount : List ℕ) → f ++ (a ++ base ++ sign) ++ (index ++ []) ++ extend ++ amount ≡ f ++ a ++ base ++ (sign ++ index ++ (extend ++ amount))
-  index-grouped index extend amount = simp (append-assoc, append-nil)
+grouped : (f a base sign number close : List ℕ) → f ++ (a ++ base ++ sign) ++ number ++ close ≡ f ++ a ++ base ++ (sign ++ number ++ close)
+grouped f a base sign number close = simp append-assoc
 
 pub ended : (f : List ℕ) {base sign number close tail : List ℕ} {q o n c : Piece} {p : Pieces} → Leads (asc "[" ++ base) q o → Shows sign q → Shows number n → Shows close c
     → sign ++ number ++ close ≡ tail → Made (f ++ textIn o ++ textIn n ++ textIn c) p → Made (f ++ asc "[" ++ base ++ tail) p
 ended f {base} {sign} {number} {close} l s n c e m =
     made-as (grouped f (asc "[") base sign number close ∙ ap (λ (t : List ℕ). f ++ asc "[" ++ base ++ t) e) (rw (l .text, s .text, n .text, c .text) at m)
 
-pub indexed-by : (f end : List ℕ) {base index extend amount : List ℕ} {q o r i x a : Piece} {p : Pieces} → Leads (asc "[" ++ base) q o → Shows (asc ", ") q → Leads index r i → Shows [] r
-    → Shows extend x → Shows amount a → extend ++ amount ≡ end ++ asc "]" → Made (f ++ textIn o ++ textIn i ++ textIn x ++ textIn a) p
-    → Made (f ++ asc "[" ++ base ++ (asc ", " ++ index ++ end ++ asc "]")) p
-indexed-by f end {base} {index} {extend} {amount} l q i r x a e m =
+index-grouped : (f rest bracket base comma index extend amount : List ℕ)
+    → f ++ (rest ++ bracket) ++ (base ++ (comma ++ (index ++ []))) ++ extend ++ amount ≡ f ++ rest ++ bracket ++ base ++ (comma ++ index ++ (extend ++ amount))
+index-grouped f rest bracket base comma index extend amount = simp (append-assoc, append-nil)
+
+pub indexed-by : (f end : List ℕ) {rest base index extend amount : List ℕ} {k s q o r i x a : Piece} {p : Pieces} → Leads rest k s → Shows (asc "[") k → Leads base q o → Leads (asc ", ") i q
+    → Leads index r i → Shows [] r → Shows extend x → Shows amount a → extend ++ amount ≡ end ++ asc "]" → Made (f ++ textIn s ++ textIn o ++ textIn x ++ textIn a) p
+    → Made (f ++ rest ++ asc "[" ++ base ++ (asc ", " ++ index ++ end ++ asc "]")) p
+indexed-by f end {rest} {base} {index} {extend} {amount} s k l q i r x a e m =
     let h : asc ", " ++ index ++ (end ++ asc "]") ≡ asc ", " ++ index ++ end ++ asc "]" = sym (append-assoc (asc ", " ++ index) end (asc "]")) in
-    made-as (index-grouped f (asc "[") base (asc ", ") index extend amount ∙ ap (λ (t : List ℕ). f ++ asc "[" ++ base ++ (asc ", " ++ index ++ t)) e ∙ ap (λ (t : List ℕ). f ++ asc "[" ++ base ++ t) h)
-    (rw (l .text, q .text, i .text, r .text, x .text, a .text) at m)
+    let g : List ℕ → List ℕ = λ t. f ++ rest ++ asc "[" ++ base ++ t in
+    made-as (index-grouped f rest (asc "[") base (asc ", ") index extend amount ∙ ap (λ (t : List ℕ). g (asc ", " ++ index ++ t)) e ∙ ap g h)
+    (rw (s .text, k .text, l .text, q .text, i .text, r .text, x .text, a .text) at m)
 
 -- ---- pieces that are always the same
 
@@ -107,8 +131,9 @@ constant : {bytes length : ℕ} {t : List ℕ} → bytesOf length bytes ≡ t �
 unfolding textIn
 constant {bytes} {length} e short low = record { text = e; fit = record { short = leb-true length 8 short; low = ltb-true bytes (256 ^ length) low } }
 
-pub comma-shown : Shows (asc ", ") (record { bytes = 0x202c; length = 2 })
-comma-shown = shows comma (omega arith)
+pub open-shown : Shows (asc "[") (record { bytes = 0x5b; length = 1 })
+unfolding bytesOf
+open-shown = constant refl refl refl
 
 pub sign-shown : Shows (asc ", #") (record { bytes = 0x23_202c; length = 3 })
 unfolding bytesOf
@@ -169,6 +194,10 @@ index-parts option scaled size = by-parts [] (asc ", " ++ extendName option) (as
 
 pub shown-length : {t : List ℕ} {p : Piece} → Shows t p → p .length ≡ length t
 shown-length {t} {p} s = sym (size p) ∙ ap length (s .text)
+
+-- the rest of a first operand with nothing behind it
+pub rest-alone : {t : List ℕ} {q p : Piece} → Leads t q p → Shows [] q → textIn p ≡ t
+rest-alone {t} l q = l .text ∙ ap (λ (k : List ℕ). t ++ k) (q .text) ∙ append-nil t
 
 pub fit-of : {t : List ℕ} {rest p : Piece} → Leads t rest p → p .length ≤ 8 → Fit p
 fit-of l h = record { short = h; low = l .low }

@@ -2,16 +2,15 @@
 -- number is bounded by its digits, and the numbers by their family (`Bounded`). Assumes nothing.
 use Prim.Native.Nat.{ℕ, suc, _+_, _^_, _≤_, _<_}
 use mathlib.Core.Path.{_≡_, refl}
-use mathlib.Core.Bool.{Bool, true, false}
+use mathlib.Core.Bool.{Bool, true, false, _||_}
 use mathlib.Core.List.{List, [], _∷_, _++_}
 use native.Mathlib.Omega.{arith}
 use lib.Dec.{eqb, ltb}
 use lib.IntN.{ℤ, pos, negsuc, natAbs}
 use lib.ListN.{length, length-append}
-use Rattle.bits.specs.Choice.{pick}
-use Rattle.bits.specs.Fields.{part}
+use Rattle.bits.specs.Choice.{pick, lookup}
+use Rattle.bits.specs.Fields.{part, field}
 use Rattle.instruction.specs.declared.operation.SizedOp.{SizedOp}
-use Rattle.instruction.specs.declared.operation.LiteralOp.{LiteralOp}
 use Rattle.instruction.specs.declared.operation.PairOp.{PairOp}
 use Rattle.instruction.specs.declared.operation.PairMode.{PairMode}
 use Rattle.instruction.specs.declared.operation.PairMode.the-variants.{NoAllocate, Post, Offset, Pre}
@@ -28,7 +27,8 @@ use Rattle.instruction.proofs.Codes.{sized}
 use Rattle.decoder.proofs.Decodes.{decoded-bounded}
 use Rattle.ascii.specs.Ascii.{asc, dec, signedDec}
 use Rattle.mnemonic.specs.Operands.{Operand, Narrow, Wide, Hint, sizedOperand, pairOperand}
-use Rattle.mnemonic.specs.Mnemonics.{sizeLetter, suffix, stemmed, plainName, unscaledName, orderedName, literalSized, literalName, pairName}
+use Rattle.mnemonic.specs.Mnemonics.{sizeLetter, suffix, stemmed, plainName, unscaledName, orderedName, literalSized, pairName}
+use Rattle.text.specs.Hints.{unnamed, hintText}
 use Rattle.text.specs.Texts.{registerText, baseText, operandText, offsetTail, preTail, postTail, pairTail, extendName, amountText, extendText, indexTail, frontText, literalText, pairText, sizedText, familyText, textOf, textMost}
 use Rattle.text.specs.Writing.{wordText}
 use Rattle.ascii.proofs.Decimals.{dec-short}
@@ -48,6 +48,9 @@ either false h k = k
 
 joined : {p q : List ℕ} {m n : ℕ} → Short m p → Short n q → Short (m + n) (p ++ q)
 joined {p} {q} h k = record { most = omega (arith, length-append p q, h .most, k .most) }
+
+one-of : (n : ℕ) (a b c : List ℕ) → length a ≤ n → length b ≤ n → length c ≤ n → (k : ℕ) → Short n (lookup [] ((0, a) ∷ (1, b) ∷ (2, c) ∷ []) k)
+one-of n a b c f g h k = either (eqb k 0) (within a f) (either (eqb k 1) (within b g) (either (eqb k 2) (within c h) (within [] (omega arith))))
 
 -- a literal piece before or behind another
 lead : {q : List ℕ} {n : ℕ} (m : ℕ) (p : List ℕ) → length p ≤ m → Short n q → Short (m + n) (p ++ q)
@@ -75,10 +78,17 @@ base : {r : ℕ} → r < 32 → Short 3 (baseText r)
 unfolding baseText
 base {r} h = either (eqb r 31) (within (asc "sp") (omega arith)) (lead 1 (asc "x") (omega arith) (number 1 (omega arith)))
 
-operand : (o : Operand) {r : ℕ} → r < 32 → Short 3 (operandText o r)
-operand Narrow h = register 119 h
-operand Wide h = register 120 h
-operand Hint h = lead 1 (asc "#") (omega arith) (number 1 (omega arith))
+hint : {r : ℕ} → r < 32 → Short 9 (hintText r)
+unfolding hintText
+hint {r} h =
+    either (unnamed r) (wider (lead 1 (asc "#") (omega arith) (number 1 (omega arith))) (omega arith))
+    (joined {n = 4} (joined (one-of 3 (asc "pld") (asc "pli") (asc "pst") (omega arith) (omega arith) (omega arith) (field 4 3 r))
+    (one-of 2 (asc "l1") (asc "l2") (asc "l3") (omega arith) (omega arith) (omega arith) (field 2 1 r)))
+    (either (eqb (field 0 0 r) 0) (within (asc "keep") (omega arith)) (within (asc "strm") (omega arith))))
+
+pair-register : (b : Bool) {r : ℕ} → r < 32 → Short 3 (operandText (pick b Narrow Wide) r)
+pair-register true h = register 119 h
+pair-register false h = register 120 h
 
 -- ---- tails, by the digits of the offset
 
@@ -133,20 +143,27 @@ letter size signed =
 behind : (size : ℕ) (signed : Bool) → Short 2 (suffix size signed)
 behind size signed = joined {m = 1} (either signed (within (asc "s") (omega arith)) (within [] (omega arith))) (letter size signed)
 
-stem : (n : ℕ) {store load hint : List ℕ} → Short n store → Short n load → Short (n + 2) hint → (op : SizedOp) → Short (n + 2) (stemmed store load hint op)
-stem n s l h op = either (eqb (sizedCode op) 0b11_10) h (joined (either (eqb (opcOf op) 0b00) s l) (behind (sizeOf op) (ltb 0b01 (opcOf op))))
+-- a name and the first operand: a hint is longer, and the name of a prefetch shorter
+with-operand : (n : ℕ) (hinted wide : Bool) {name hintName : List ℕ} {r : ℕ} → r < 32 → Short (n + 2) name → Short (n + 1) hintName
+    → Short (n + 11) (pick hinted hintName name ++ asc " " ++ operandText (pick hinted Hint (pick wide Wide Narrow)) r)
+with-operand n true wide h s k = wider (joined (trail 1 (asc " ") (omega arith) k) (hint h)) (omega arith)
+with-operand n false true h s k = wider (joined (trail 1 (asc " ") (omega arith) s) (register 120 h)) (omega arith)
+with-operand n false false h s k = wider (joined (trail 1 (asc " ") (omega arith) s) (register 119 h)) (omega arith)
 
-plain : (op : SizedOp) → Short 5 (plainName op)
-plain op = stem 3 (within (asc "str") (omega arith)) (within (asc "ldr") (omega arith)) (within (asc "prfm") (omega arith)) op
+stem : (n : ℕ) {store load hintName : List ℕ} → Short n store → Short n load → Short (n + 1) hintName → (op : SizedOp) {r : ℕ} → r < 32
+    → Short (n + 11) (stemmed store load hintName op ++ asc " " ++ operandText (sizedOperand op) r)
+stem n s l k op h =
+    with-operand n (eqb (sizedCode op) 0b11_10) (eqb (sizeOf op) 0b11 || eqb (opcOf op) 0b10) h
+    (joined (either (eqb (opcOf op) 0b00) s l) (behind (sizeOf op) (ltb 0b01 (opcOf op)))) k
 
-unscaled : (op : SizedOp) → Short 6 (unscaledName op)
-unscaled op = stem 4 (within (asc "stur") (omega arith)) (within (asc "ldur") (omega arith)) (within (asc "prfum") (omega arith)) op
+plain : (op : SizedOp) {r : ℕ} → r < 32 → Short 14 (plainName op ++ asc " " ++ operandText (sizedOperand op) r)
+plain op h = stem 3 (within (asc "str") (omega arith)) (within (asc "ldr") (omega arith)) (within (asc "prfm") (omega arith)) op h
 
-ordered : (op : SizedOp) → Short 8 (orderedName op)
-ordered op = stem 6 (within (asc "stlur") (omega arith)) (within (asc "ldapur") (omega arith)) (within (asc "prfum") (omega arith)) op
+unscaled : (op : SizedOp) {r : ℕ} → r < 32 → Short 15 (unscaledName op ++ asc " " ++ operandText (sizedOperand op) r)
+unscaled op h = stem 4 (within (asc "stur") (omega arith)) (within (asc "ldur") (omega arith)) (within (asc "prfum") (omega arith)) op h
 
-literal : (op : LiteralOp) → Short 5 (literalName op)
-literal op = plain (literalSized op)
+ordered : (op : SizedOp) {r : ℕ} → r < 32 → Short 17 (orderedName op ++ asc " " ++ operandText (sizedOperand op) r)
+ordered op h = stem 6 (within (asc "stlur") (omega arith)) (within (asc "ldapur") (omega arith)) (within (asc "prfum") (omega arith)) op h
 
 pair : (m : PairMode) (op : PairOp) → Short 6 (pairName m op)
 pair m op =
@@ -157,31 +174,33 @@ pair m op =
 
 -- ---- lines
 
-front : (n : ℕ) {name : List ℕ} (o : Operand) {r : ℕ} → r < 32 → Short n name → Short (n + 6) (frontText name o r)
+front : (n : ℕ) (name : List ℕ) (o : Operand) (r : ℕ) → Short n (name ++ asc " " ++ operandText o r) → Short (n + 2) (frontText name o r)
 unfolding frontText
-front n o h s = wider (trail 2 (asc ", ") (omega arith) (joined (trail 1 (asc " ") (omega arith) s) (operand o h))) (omega arith)
+front n name o r s = trail 2 (asc ", ") (omega arith) s
 
--- ten bytes beside the name and the tail
-line : (n k : ℕ) {name tail : List ℕ} (op : SizedOp) {t b : ℕ} → t < 32 → b < 32 → Short n name → Short k tail → n + k + 10 ≤ textMost
+-- six bytes beside the name with its operand, and the tail
+line : (n k : ℕ) (name : List ℕ) {tail : List ℕ} (op : SizedOp) (t : ℕ) {b : ℕ} → b < 32 → Short n (name ++ asc " " ++ operandText (sizedOperand op) t) → Short k tail → n + k + 6 ≤ textMost
     → Short textMost (sizedText name op t b tail)
 unfolding sizedText
-line n k op g h s q m = wider (joined (joined (trail 1 (asc "[") (omega arith) (front n (sizedOperand op) g s)) (base h)) q) (omega arith)
+line n k name op t h s q m = wider (joined (joined (trail 1 (asc "[") (omega arith) (front n name (sizedOperand op) t s)) (base h)) q) (omega arith)
 
 family : (f : Family) → Bounded f → Short textMost (familyText f)
 unfolding literalText pairText
 family Empty b = within [] (omega arith)
 family (Literal op o) b =
-    wider (joined (trail 1 (asc "#") (omega arith) (front 5 _ (b .target) (literal op))) (signed 6 (o .offset) (omega (arith, b .offset)))) (omega arith)
+    wider (joined (trail 1 (asc "#") (omega arith) (front 14 (plainName (literalSized op)) _ (o .target) (plain (literalSized op) (b .target)))) (signed 6 (o .offset) (omega (arith, b .offset)))) (omega arith)
 family (Pair op o) b =
+    let narrow = eqb (pairOpc op) 0 in
+    let name = joined (trail 1 (asc " ") (omega arith) (pair (o .mode) op)) (pair-register narrow (b .first)) in
     wider
-    (joined (joined (trail 3 (asc ", [") (omega arith) (joined (front 6 _ (b .first) (pair (o .mode) op)) (operand (pairOperand op) (b .second)))) (base (b .base)))
+    (joined (joined (trail 3 (asc ", [") (omega arith) (joined (front 10 (pairName (o .mode) op) (pairOperand op) (o .first) name) (pair-register narrow (b .second)))) (base (b .base)))
     (pair-tail 2 (o .offset) (omega (arith, b .offset)) (o .mode))) (omega arith)
-family (Ordered op o) b = line 8 9 op (b .target) (b .base) (ordered op) (offset 2 (o .offset) (omega (arith, b .offset))) (omega arith)
-family (Unscaled op o) b = line 6 9 op (b .target) (b .base) (unscaled op) (offset 2 (o .offset) (omega (arith, b .offset))) (omega arith)
-family (PostIndex op o) b = line 5 9 op (b .target) (b .base) (plain op) (post 2 (o .offset) (omega (arith, b .offset))) (omega arith)
-family (PreIndex op o) b = line 5 9 op (b .target) (b .base) (plain op) (pre 2 (o .offset) (omega (arith, b .offset))) (omega arith)
-family (Register op o) b = line 5 15 op (b .target) (b .base) (plain op) (index op o (b .index)) (omega arith)
-family (Unsigned op o) b = line 5 11 op (b .target) (b .base) (plain op) (offset 4 (o .offset) (omega (arith, b .offset))) (omega arith)
+family (Ordered op o) b = line 17 9 (orderedName op) op (o .target) (b .base) (ordered op (b .target)) (offset 2 (o .offset) (omega (arith, b .offset))) (omega arith)
+family (Unscaled op o) b = line 15 9 (unscaledName op) op (o .target) (b .base) (unscaled op (b .target)) (offset 2 (o .offset) (omega (arith, b .offset))) (omega arith)
+family (PostIndex op o) b = line 14 9 (plainName op) op (o .target) (b .base) (plain op (b .target)) (post 2 (o .offset) (omega (arith, b .offset))) (omega arith)
+family (PreIndex op o) b = line 14 9 (plainName op) op (o .target) (b .base) (plain op (b .target)) (pre 2 (o .offset) (omega (arith, b .offset))) (omega arith)
+family (Register op o) b = line 14 15 (plainName op) op (o .target) (b .base) (plain op (b .target)) (index op o (b .index)) (omega arith)
+family (Unsigned op o) b = line 14 11 (plainName op) op (o .target) (b .base) (plain op (b .target)) (offset 4 (o .offset) (omega (arith, b .offset))) (omega arith)
 
 allocated-bounded : (w : ℕ) → allocated w ≡ true → Bounded (instructionOf w .family)
 unfolding decodeOf
@@ -191,7 +210,7 @@ pub text-short : (w : ℕ) → allocated w ≡ true → length (wordText w) ≤ 
 unfolding wordText textOf
 text-short w a = family (instructionOf w .family) (allocated-bounded w a) .most
 
--- ldrsb x10, [x10, w10, uxtw #0]
-pub text-reached : (allocated 0x38aa594a ≡ true) × (length (wordText 0x38aa594a) ≡ textMost)
-unfolding wordText textOf registerText baseText extendName amountText extendText indexTail frontText sizedText dec instructionOf rowOf part sizedAt sizedIn indexIn inSet allocated undefined undefinedSize undefinedOption
+-- prfm pldl1keep, [x10, w10, uxtw #3]
+pub text-reached : (allocated 0xf8aa5940 ≡ true) × (length (wordText 0xf8aa5940) ≡ textMost)
+unfolding wordText textOf hintText registerText baseText extendName amountText extendText indexTail frontText sizedText dec instructionOf rowOf part sizedAt sizedIn indexIn inSet allocated undefined undefinedSize undefinedOption
 text-reached = (refl, refl)

@@ -29,7 +29,7 @@ examples =
     ∷ line 0x38e4c862 "ldrsb w2, [x3, w4, sxtw]"
     ∷ line 0x198000c5 "ldapursb x5, [x6]"
     ∷ line 0x58ffffe7 "ldr x7, #-4"
-    ∷ line 0xf8800020 "prfum #0, [x1]"
+    ∷ line 0xf8800020 "prfum pldl1keep, [x1]"
     ∷ answer 0xb8c00020 3
     ∷ answer 0x38e00862 3
     ∷ answer 0xa9400020 4

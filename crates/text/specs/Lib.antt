@@ -1,3 +1,4 @@
+pub mod Hints
 pub mod Texts
 pub mod Writing
 pub mod Examples

@@ -5,6 +5,7 @@ use lib.Dec.{eqb}
 use lib.IntN.{ℤ, natAbs}
 use Rattle.bits.specs.Choice.{pick}
 use Rattle.ascii.specs.Ascii.{asc, dec, signedDec}
+use Rattle.text.specs.Hints.{hintText}
 use Rattle.mnemonic.specs.Operands.{Operand, Narrow, Wide, Hint, sizedOperand, literalOperand, pairOperand}
 use Rattle.mnemonic.specs.Mnemonics.{plainName, unscaledName, orderedName, literalName, pairName}
 use Rattle.instruction.specs.declared.operation.SizedOp.{SizedOp}
@@ -33,7 +34,7 @@ baseText r = pick (eqb r 31) (asc "sp") (asc "x" ++ dec r)
 abbrev pub operandText : Operand → ℕ → List ℕ
 operandText Narrow r = registerText 119 r
 operandText Wide r = registerText 120 r
-operandText Hint r = asc "#" ++ dec r
+operandText Hint r = hintText r
 
 -- ---- what stands behind the base
 
@@ -103,6 +104,6 @@ familyText (Unsigned op o) = sizedText (plainName op) op (o .target) (o .base) (
 unfoldable pub textOf : Instruction → List ℕ
 textOf i = familyText (i .family)
 
--- the most bytes that the text of an allocated word has: 02, CR 4
+-- the most bytes that the text of an allocated word has: 02, CR 4, with the names of CR 7
 abbrev pub textMost : ℕ
-textMost = 30
+textMost = 35

@@ -1,4 +1,5 @@
 // The forms of a line: what stands behind its operands. Offsets are shown but for a zero that is not written back.
+use crate::hint;
 use crate::number;
 use crate::piece;
 use crate::piece::Piece;
@@ -8,17 +9,18 @@ use mnemonic::Mnemonic;
 ghost use mathlib.Core.Path.{_≡_};
 ghost use mathlib.Core.Bool.{true};
 ghost use mathlib.Core.List.{[], _++_};
-ghost use Prim.Native.Nat.{_<_, _≤_};
+ghost use Prim.Native.Nat.{_+_, _<_, _≤_};
 ghost use lib.Dec.{eqb};
 ghost use lib.IntN.{natAbs};
 ghost use Rattle.bits.specs.Choice.{pick};
 ghost use Rattle.ascii.specs.Ascii.{asc, signedDec};
 ghost use Rattle.mnemonic.specs.route.Named.{known};
 ghost use Rattle.text.specs.Texts.{baseText, offsetTail, preTail, postTail};
-ghost use Rattle.text.specs.route.Pieces.{textIn, Fit, Shows};
-ghost use Rattle.text.specs.route.Lines.{Made, letterText, frontIn};
+ghost use Rattle.text.specs.route.Pieces.{textIn, Low, Leads, Fit, Shows};
+ghost use Rattle.text.specs.route.Lines.{Made, firstPart, restPart, frontIn};
 
-// A line by its mnemonic and first operand, and the further pieces.
+// A line by its mnemonic, the first piece of its first operand, and the further pieces. The second is the rest of the
+// first operand, or the second one.
 pub fn line_of(
     m: Mnemonic,
     first: u32,
@@ -54,9 +56,24 @@ fn name(m: Mnemonic) -> Piece
 
 fn first_operand(m: Mnemonic, n: u32) -> Piece
     requires { ⌜ n < 32 ⌝ }
-    ensures { λ r. ⌜ Shows (asc " " ++ letterText (known m .letter) n ++ asc ", ") r ⌝ }
+    ensures { λ r. ⌜ Shows (asc " " ++ firstPart (known m .letter) n) r ⌝ }
 {
-    piece::led(b' ', register::operand((m.shape / 256) as u8, n))
+    let letter = (m.shape / 256) as u8;
+    if letter == b'#' {
+        return hint::front(n);
+    }
+    piece::led(b' ', register::operand(letter, n))
+}
+
+// What a first operand has behind its first piece, before a piece.
+pub fn rest_operand(m: Mnemonic, n: u32, behind: Piece) -> Piece
+    requires { ⌜ (n < 32) × (behind .length ≤ 2) × Low behind ⌝ }
+    ensures { λ r. ⌜ Leads (restPart (known m .letter) n) behind r × (r .length ≤ behind .length + 6) ⌝ }
+{
+    if m.shape / 256 == 0x23 {
+        return hint::rest(n, behind);
+    }
+    behind
 }
 
 pub fn none() -> Piece
@@ -81,7 +98,7 @@ pub fn plain(m: Mnemonic, first: u32, second: Piece, base: u32, offset: i64) -> 
         m,
         first,
         second,
-        register::base(base, sign_for(far)),
+        register::bracketed(base, sign_for(far)),
         offset_for(far, offset),
         close,
     )
@@ -127,7 +144,7 @@ pub fn pre(m: Mnemonic, first: u32, second: Piece, base: u32, offset: i64) -> Pi
         m,
         first,
         second,
-        register::base(base, sign),
+        register::bracketed(base, sign),
         number::signed(offset),
         close,
     )
@@ -145,7 +162,7 @@ pub fn post(m: Mnemonic, first: u32, second: Piece, base: u32, offset: i64) -> P
         m,
         first,
         second,
-        register::base(base, sign),
+        register::bracketed(base, sign),
         number::signed(offset),
         none(),
     )
@@ -153,11 +170,18 @@ pub fn post(m: Mnemonic, first: u32, second: Piece, base: u32, offset: i64) -> P
 
 pub fn literal(m: Mnemonic, first: u32, offset: i64) -> Pieces
     requires { ⌜ (known m .fits ≡ true) × (first < 32) × (natAbs offset < 10000000) ⌝ }
-    ensures { λ r. ⌜ Made (frontIn m first ++ asc "#" ++ signedDec offset) r ⌝ }
+    ensures { λ r. ⌜ Made (frontIn m first ++ restPart (known m .letter) first ++ asc "#" ++ signedDec offset) r ⌝ }
 {
     let sign = Piece {
         bytes: 0x23, // #
         length: 1,
     };
-    line_of(m, first, none(), sign, number::signed(offset), none())
+    line_of(
+        m,
+        first,
+        rest_operand(m, first, none()),
+        sign,
+        number::signed(offset),
+        none(),
+    )
 }

@@ -1,5 +1,6 @@
 // The form of a line with an index.
 use crate::form;
+use crate::piece;
 use crate::piece::Piece;
 use crate::register;
 use crate::store::Pieces;
@@ -13,24 +14,24 @@ ghost use Rattle.ascii.specs.Ascii.{asc};
 ghost use Rattle.mnemonic.specs.route.Named.{known};
 ghost use Rattle.text.specs.Texts.{registerText, baseText, extendText};
 ghost use Rattle.text.specs.route.Pieces.{Shows};
-ghost use Rattle.text.specs.route.Lines.{Made, frontIn, extendPart, amountPart};
+ghost use Rattle.text.specs.route.Lines.{Made, restPart, frontIn, extendPart, amountPart};
 
 pub fn indexed(m: Mnemonic, o: IndexOperands, size: u32) -> Pieces
     requires { ⌜ (known m .fits ≡ true) × (o .target < 32) × (o .base < 32) × (o .index < 32) × (size < 4) ⌝ }
-    ensures { λ r. ⌜ Made (frontIn m (o .target) ++ asc "[" ++ baseText (o .base) ++ (asc ", " ++ registerText (119 + o .option % 2) (o .index) ++ extendText (o .option) (o .scaled) size ++ asc "]")) r ⌝ }
+    ensures { λ r. ⌜ Made (frontIn m (o .target) ++ restPart (known m .letter) (o .target) ++ asc "[" ++ baseText (o .base) ++ (asc ", " ++ registerText (119 + o .option % 2) (o .index) ++ extendText (o .option) (o .scaled) size ++ asc "]")) r ⌝ }
 {
-    let comma = Piece {
-        bytes: 0x202c,
-        length: 2,
+    let bracket = Piece {
+        bytes: 0x5b, // [
+        length: 1,
     };
     let option = o.option;
     let index = register::register((119 + option % 2) as u8, o.index, form::none());
-    let base = register::base(o.base, comma);
+    let base = register::base(o.base, piece::led(b',', piece::led(b' ', index)));
     form::line_of(
         m,
         o.target,
+        form::rest_operand(m, o.target, bracket),
         base,
-        index,
         extend(option, o.scaled),
         amount(o.scaled, size),
     )

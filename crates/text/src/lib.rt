@@ -1,5 +1,6 @@
 // The line of text of a word.
 mod form;
+mod hint;
 mod index;
 mod line;
 mod number;
@@ -19,7 +20,7 @@ ghost use Rattle.text.specs.Writing.{outcome, copied, writeOf};
 ghost use Rattle.text.specs.route.Lines.{Sound, whole};
 
 // The most bytes that the text of an allocated word has (`textMost`).
-pub const TEXT_MAX: usize = 30;
+pub const TEXT_MAX: usize = 35;
 
 // What writing a text returns. The length is 0 where it is refused.
 pub struct Written {

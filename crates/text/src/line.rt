@@ -94,7 +94,8 @@ fn offset(stem: Stem, op: SizedOp, o: OffsetOperands) -> Pieces
     ensures { λ r. ⌜ Made (sizedText (sizedName stem op) op (o .target) (o .base) (offsetTail (o .offset))) r ⌝ }
 {
     let m = mnemonic::sized_name(stem, op);
-    form::plain(m, o.target, form::none(), o.base, o.offset)
+    let rest = form::rest_operand(m, o.target, form::none());
+    form::plain(m, o.target, rest, o.base, o.offset)
 }
 
 fn pre(op: SizedOp, o: OffsetOperands) -> Pieces
@@ -102,7 +103,8 @@ fn pre(op: SizedOp, o: OffsetOperands) -> Pieces
     ensures { λ r. ⌜ Made (sizedText (plainName op) op (o .target) (o .base) (preTail (o .offset))) r ⌝ }
 {
     let m = mnemonic::sized_name(Stem::Plain, op);
-    form::pre(m, o.target, form::none(), o.base, o.offset)
+    let rest = form::rest_operand(m, o.target, form::none());
+    form::pre(m, o.target, rest, o.base, o.offset)
 }
 
 fn post(op: SizedOp, o: OffsetOperands) -> Pieces
@@ -110,7 +112,8 @@ fn post(op: SizedOp, o: OffsetOperands) -> Pieces
     ensures { λ r. ⌜ Made (sizedText (plainName op) op (o .target) (o .base) (postTail (o .offset))) r ⌝ }
 {
     let m = mnemonic::sized_name(Stem::Plain, op);
-    form::post(m, o.target, form::none(), o.base, o.offset)
+    let rest = form::rest_operand(m, o.target, form::none());
+    form::post(m, o.target, rest, o.base, o.offset)
 }
 
 fn indexed(op: SizedOp, o: IndexOperands) -> Pieces

@@ -6,7 +6,6 @@ ghost use Prim.Native.Nat.{_+_, _<_, _≤_};
 ghost use Rattle.ascii.specs.Ascii.{asc};
 ghost use Rattle.text.specs.Texts.{registerText, baseText};
 ghost use Rattle.text.specs.route.Pieces.{Low, Leads, Spells};
-ghost use Rattle.text.specs.route.Lines.{letterText};
 
 // The letter is w or x. Register 31 is the zero register.
 pub fn register(letter: u8, n: u32, rest: Piece) -> Piece
@@ -19,28 +18,33 @@ pub fn register(letter: u8, n: u32, rest: Piece) -> Piece
     piece::led(letter, piece::digits(n, rest))
 }
 
-// A base behind its bracket. Register 31 is the stack pointer.
+// A base. Register 31 is the stack pointer.
 pub fn base(n: u32, rest: Piece) -> Piece
+    requires { ⌜ (n < 32) × (rest .length ≤ 5) × Low rest ⌝ }
+    ensures { λ r. ⌜ Leads (baseText n) rest r × (r .length ≤ rest .length + 3) ⌝ }
+{
+    if n == 31 {
+        return piece::led(b's', piece::led(b'p', rest));
+    }
+    piece::led(b'x', piece::digits(n, rest))
+}
+
+// A base behind its bracket.
+pub fn bracketed(n: u32, rest: Piece) -> Piece
     requires { ⌜ (n < 32) × (rest .length ≤ 4) × Low rest ⌝ }
     ensures { λ r. ⌜ Leads (asc "[" ++ baseText n) rest r × (r .length ≤ rest .length + 4) ⌝ }
 {
-    if n == 31 {
-        return piece::led(b'[', piece::led(b's', piece::led(b'p', rest)));
-    }
-    piece::led(b'[', piece::led(b'x', piece::digits(n, rest)))
+    piece::led(b'[', base(n, rest))
 }
 
-// A first or second operand, by its letter, and the comma behind it.
+// A register as a first or second operand, and the comma behind it.
 pub fn operand(letter: u8, n: u32) -> Piece
     requires { ⌜ n < 32 ⌝ }
-    ensures { λ r. ⌜ Spells (letterText letter n ++ asc ", ") r × (r .length ≤ 5) ⌝ }
+    ensures { λ r. ⌜ Spells (registerText letter n ++ asc ", ") r × (r .length ≤ 5) ⌝ }
 {
     let comma = Piece {
         bytes: 0x202c,
         length: 2,
     };
-    if letter == b'#' {
-        return piece::led(letter, piece::digits(n, comma));
-    }
     register(letter, n, comma)
 }

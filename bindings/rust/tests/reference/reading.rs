@@ -15,11 +15,11 @@ enum Kind {
     NoAllocatePair,
 }
 
-/// A mnemonic, with the registers that it takes: W, X, either, or the number of a prefetch.
+/// A mnemonic, with the registers that it takes: W, X, either, or the hint of a prefetch.
 struct Name {
     text: &'static str,
     kind: Kind,
-    /// Size and opc where W, X or a number is the first operand; for a pair only opc, and L.
+    /// Size and opc where W, X or a hint is the first operand; for a pair only opc, and L.
     w: Option<(u32, u32)>,
     x: Option<(u32, u32)>,
     hint: Option<(u32, u32)>,
@@ -281,17 +281,28 @@ fn single(kind: Kind, size: u32, opc: u32, place: Place) -> Option<u32> {
     }
 }
 
+/// A hint by the names of its three fields, or by its number where a field of two bits is 3.
+fn hint(scanner: &mut Scanner) -> Option<u32> {
+    if scanner.takes("#") {
+        let number = scanner.natural().filter(|&number| number <= 31)? as u32;
+        return (number >> 3 == 3 || number >> 1 & 0b11 == 3).then_some(number);
+    }
+    let kind = ["pld", "pli", "pst"].iter().position(|kind| scanner.takes(kind))?;
+    let level = ["l1", "l2", "l3"].iter().position(|level| scanner.takes(level))?;
+    let policy = ["keep", "strm"].iter().position(|policy| scanner.takes(policy))?;
+    Some((kind << 3 | level << 1 | policy) as u32)
+}
+
 fn word_of(text: &[u8]) -> Option<u32> {
     let space = text.iter().position(|&byte| byte == b' ')?;
     let (mnemonic, rest) = text.split_at(space);
     let name = NAMES.iter().find(|name| name.text.as_bytes() == mnemonic)?;
     let mut scanner = Scanner(rest);
     scanner.expect(" ")?;
-    if scanner.takes("#") {
-        let (size, opc) = name.hint?;
-        let hint = scanner.natural().filter(|&number| number <= 31)?;
+    if let Some((size, opc)) = name.hint {
+        let hint = hint(&mut scanner)?;
         scanner.expect(", ")?;
-        return Some(single(name.kind, size, opc, place(&mut scanner)?)? | hint as u32);
+        return Some(single(name.kind, size, opc, place(&mut scanner)?)? | hint);
     }
     let (wide, register) = scanner.data()?;
     let (size, opc) = if wide { name.x? } else { name.w? };

@@ -53,9 +53,27 @@ fn base_register(number: u8) -> String {
     }
 }
 
+/// 02's names of three fields, or the number where one of the first two has none.
+fn hint(number: u8) -> String {
+    let kind = match number >> 3 {
+        0 => "pld",
+        1 => "pli",
+        2 => "pst",
+        _ => return format!("#{number}"),
+    };
+    let level = match number >> 1 & 0b11 {
+        0 => "l1",
+        1 => "l2",
+        2 => "l3",
+        _ => return format!("#{number}"),
+    };
+    let policy = if number & 1 == 0 { "keep" } else { "strm" };
+    format!("{kind}{level}{policy}")
+}
+
 fn operand(instruction: &Instruction, number: u8) -> String {
     let wide = match instruction.operation {
-        Operation::Prefetch => return format!("#{number}"),
+        Operation::Prefetch => return hint(number),
         Operation::LoadSigned64 => true,
         Operation::LoadSigned32 => false,
         Operation::Store | Operation::Load => instruction.size == 3,

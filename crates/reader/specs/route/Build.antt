@@ -6,6 +6,7 @@ use lib.ListN.{getD}
 use Rattle.bits.specs.Choice.{pick, lookup}
 use Rattle.instruction.specs.Operations.{sizeOf, opcOf}
 use Rattle.reader.specs.route.Names.{nameFor}
+use Rattle.reader.specs.route.Targets.{targetAt}
 use Rattle.reader.specs.route.Tails.{tailAt, offsetAt, optionAt, scaledAt}
 use Rattle.reader.specs.Types.{Scan, Name, Stem, Tail, AtOffset, Before, After, Indexed, SizedOp, LiteralOp, LiteralWord, LiteralDouble, LiteralSignedWord, LiteralPrefetch, PairMode, NoAllocate, Post, Offset, Pre, Family, Literal, Pair, Ordered, Unscaled, PostIndex, PreIndex, Register, Unsigned, Instruction, LiteralOperands, PairOperands, OffsetOperands, IndexOperands}
 
@@ -27,16 +28,16 @@ unfoldable pub literalFor : SizedOp → LiteralOp
 literalFor op = lookup LiteralWord literalTable (sizeOf op * 4 + opcOf op)
 
 unfoldable pub literalFrom : Scan → LiteralOperands
-literalFrom s = record { target = registerOf (numIn s 1); offset = offsetAt (keyIn s 2) (numIn s 2) }
+literalFrom s = record { target = targetAt (keyIn s 1) (numIn s 1); offset = offsetAt (keyIn s 2) (numIn s 2) }
 
 unfoldable pub offsetFrom : Scan → OffsetOperands
 offsetFrom s =
-    record { target = registerOf (numIn s 1); base = registerOf (numIn s 4); offset = offsetAt (keyIn s 5) (numIn s 5) }
+    record { target = targetAt (keyIn s 1) (numIn s 1); base = registerOf (numIn s 4); offset = offsetAt (keyIn s 5) (numIn s 5) }
 
 unfoldable pub indexFrom : Scan → IndexOperands
 indexFrom s =
     record {
-      target = registerOf (numIn s 1);
+      target = targetAt (keyIn s 1) (numIn s 1);
       base = registerOf (numIn s 4);
       index = registerOf (numIn s 5);
       option = optionAt (keyIn s 6);

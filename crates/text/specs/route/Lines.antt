@@ -1,10 +1,11 @@
 -- A line of text in six pieces: the route of the code to the texts of Texts.
 use Prim.Native.Nat.{ℕ, _+_}
 use mathlib.Core.Path.{_≡_}
-use mathlib.Core.List.{List, [], _∷_, _++_}
+use mathlib.Core.List.{List, [], _++_}
 use lib.Dec.{eqb}
 use Rattle.bits.specs.Choice.{pick}
-use Rattle.ascii.specs.Ascii.{asc, dec}
+use Rattle.ascii.specs.Ascii.{asc}
+use Rattle.text.specs.Hints.{hintKind, hintLevel, hintPolicy, unnamed, hintText}
 use Rattle.text.specs.Texts.{registerText, extendName, amountText}
 use Rattle.mnemonic.specs.declared.Mnemonic.{Mnemonic}
 use Rattle.mnemonic.specs.route.Named.{known}
@@ -31,11 +32,24 @@ pub record Made (t : List ℕ) (p : Pieces) : Type 0 where
 
 -- an operand by its letter: w, x or #
 unfoldable pub letterText : ℕ → ℕ → List ℕ
-letterText letter r = pick (eqb letter 35) (35 ∷ dec r) (registerText letter r)
+letterText letter r = pick (eqb letter 35) (hintText r) (registerText letter r)
 
--- a mnemonic and the first operand
+-- the first operand in two pieces, of which only the name of a hint has the second
+abbrev pub hintFront : ℕ → List ℕ
+hintFront r = pick (unnamed r) (hintText r ++ asc ", ") (hintKind r ++ hintLevel r)
+
+abbrev pub hintRest : ℕ → List ℕ
+hintRest r = pick (unnamed r) [] (hintPolicy r ++ asc ", ")
+
+unfoldable pub firstPart : ℕ → ℕ → List ℕ
+firstPart letter r = pick (eqb letter 35) (hintFront r) (registerText letter r ++ asc ", ")
+
+unfoldable pub restPart : ℕ → ℕ → List ℕ
+restPart letter r = pick (eqb letter 35) (hintRest r) []
+
+-- a mnemonic and the first piece of the first operand
 unfoldable pub frontIn : Mnemonic → ℕ → List ℕ
-frontIn m r = known m .letters ++ asc " " ++ letterText (known m .letter) r ++ asc ", "
+frontIn m r = known m .letters ++ asc " " ++ firstPart (known m .letter) r
 
 -- the extension of an index, and its amount with the bracket
 unfoldable pub extendPart : ℕ → ℕ → List ℕ

@@ -9,7 +9,6 @@ index-from-spec =
     tie.close
     (tie.spec
     (λ c. search needs)
-    (λ c κs. search needs)
     (λ c. search needs)
     (λ c κs. search needs)
     (λ c. search needs)
@@ -18,5 +17,7 @@ index-from-spec =
     (λ c κs. search needs)
     (λ c. search needs)
     (λ c κs. search needs)
-    (λ c. index-is (c .before .before .before .before .before .before .before .before .before .before .args .t1) (c .before .before .before .before .before .before .before .before .register .ensures) (c .before .before .before .before .before .before .register2 .ensures) (c .before .before .before .before .register3 .ensures)
+    (λ c. search needs)
+    (λ c κs. search needs)
+    (λ c. index-is (c .before .before .before .before .before .before .before .before .before .before .before .args .t1) (c .before .before .before .before .before .before .before .before .target-at .ensures) (c .before .before .before .before .before .before .register .ensures) (c .before .before .before .before .register2 .ensures)
     (c .before .before .option-at .ensures) (c .scaled-at .ensures)))

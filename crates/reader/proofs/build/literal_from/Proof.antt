@@ -11,8 +11,9 @@ literal-from-spec =
     tie.close
     (tie.spec
     (λ c. search needs)
+    (λ c. search needs)
     (λ c κs. search needs)
     (λ c. search needs)
     (λ c. search needs)
     (λ c κs. search needs)
-    (λ c. literal-is (c .before .before .before .before .before .args .t1) (c .before .before .before .register .ensures) (toZ-ofZ (sfits-of (c .offset-at .ok)) ∙ c .offset-at .ensures)))
+    (λ c. literal-is (c .before .before .before .before .before .before .args .t1) (c .before .before .before .target-at .ensures) (toZ-ofZ (sfits-of (c .offset-at .ok)) ∙ c .offset-at .ensures)))

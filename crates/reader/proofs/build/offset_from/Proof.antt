@@ -11,10 +11,11 @@ offset-from-spec =
     tie.close
     (tie.spec
     (λ c. search needs)
-    (λ c κs. search needs)
     (λ c. search needs)
     (λ c κs. search needs)
     (λ c. search needs)
+    (λ c κs. search needs)
+    (λ c. search needs)
     (λ c. search needs)
     (λ c κs. search needs)
-    (λ c. offset-is (c .before .before .before .before .before .before .before .args .t1) (c .before .before .before .before .before .register .ensures) (c .before .before .before .register2 .ensures) (toZ-ofZ (sfits-of (c .offset-at .ok)) ∙ c .offset-at .ensures)))
+    (λ c. offset-is (c .before .before .before .before .before .before .before .before .args .t1) (c .before .before .before .before .before .target-at .ensures) (c .before .before .before .register .ensures) (toZ-ofZ (sfits-of (c .offset-at .ok)) ∙ c .offset-at .ensures)))

@@ -19,4 +19,4 @@ plain-spec =
     (λ c κs. search needs)
     (λ c.
     let e = toZ-ofZ (c .before .before .before .before .before .fits .offset) in
-    ended (frontIn (c .before .before .before .before .before .args .m) (c .before .before .before .before .before .args .first) ++ textIn (c .before .before .before .before .before .args .second)) (c .before .before .base .ensures .0) (c .before .before .before .sign-for .ensures .0) (rw e at (c .before .offset-for .ensures)) bracket-shown (offset-parts e (c .before .before .before .before .magnitude .ensures)) (c .line-of .ensures)))
+    ended (frontIn (c .before .before .before .before .before .args .m) (c .before .before .before .before .before .args .first) ++ textIn (c .before .before .before .before .before .args .second)) (c .before .before .bracketed .ensures .0) (c .before .before .before .sign-for .ensures .0) (rw e at (c .before .offset-for .ensures)) bracket-shown (offset-parts e (c .before .before .before .before .magnitude .ensures)) (c .line-of .ensures)))

@@ -18,4 +18,4 @@ post-spec =
     (λ c κs. search needs)
     (λ c κs. search needs)
     (λ c κs. search needs)
-    (λ c. ended (frontIn (c .before .before .before .before .args .m) (c .before .before .before .before .args .first) ++ textIn (c .before .before .before .before .args .second)) (c .before .before .before .base .ensures .0) post-sign-shown (rw (toZ-ofZ (c .before .before .before .before .fits .offset)) at (c .before .before .signed .ensures)) (c .before .none .ensures) (append-nil _) (c .line-of .ensures)))
+    (λ c. ended (frontIn (c .before .before .before .before .args .m) (c .before .before .before .before .args .first) ++ textIn (c .before .before .before .before .args .second)) (c .before .before .before .bracketed .ensures .0) post-sign-shown (rw (toZ-ofZ (c .before .before .before .before .fits .offset)) at (c .before .before .signed .ensures)) (c .before .none .ensures) (append-nil _) (c .line-of .ensures)))

@@ -18,4 +18,4 @@ pre-spec =
     (λ c κs. search needs)
     (λ c κs. search needs)
     (λ c κs. search needs)
-    (λ c. ended (frontIn (c .before .before .before .args .m) (c .before .before .before .args .first) ++ textIn (c .before .before .before .args .second)) (c .before .before .base .ensures .0) sign-shown (rw (toZ-ofZ (c .before .before .before .fits .offset)) at (c .before .signed .ensures)) close-shown refl (c .line-of .ensures)))
+    (λ c. ended (frontIn (c .before .before .before .args .m) (c .before .before .before .args .first) ++ textIn (c .before .before .before .args .second)) (c .before .before .bracketed .ensures .0) sign-shown (rw (toZ-ofZ (c .before .before .before .fits .offset)) at (c .before .signed .ensures)) close-shown refl (c .line-of .ensures)))

@@ -6,7 +6,7 @@ use mir.Facts.{toZ-ofZ}
 use mathlib.Core.List.{append-assoc}
 use Rattle.mnemonic.specs.Operands.{pairOperand}
 use Rattle.text.specs.Texts.{pairText}
-use Rattle.text.proofs.Forms.{operand-is, front-is, fits, made-as}
+use Rattle.text.proofs.Forms.{pair-operand, pair-front, fits, made-as}
 use borrow.Author.Needs.{needs}
 use Rattle.text.proofs.line.pair.Statement.{statement}
 use Rattle.text.proofs.line.pair.Tie as tie
@@ -26,5 +26,5 @@ pair-spec =
     (λ c.
     let f : SFits w64 (c .before .before .before .before .before .args .o .offset) = search needs in
     let e = c .before .before .before .before .pair-name .ensures in
-    let o = pairOperand (c .before .before .before .before .before .args .op) in
-    made-as (simp append-assoc) (rw (front-is _ _ o _ e, c .before .before .operand .ensures .0 .text, operand-is _ _ o _ e, toZ-ofZ f) at (c .in-mode .ensures))))
+    let op = c .before .before .before .before .before .args .op in
+    made-as (simp append-assoc) (rw (pair-front _ _ op _ e, c .before .before .operand .ensures .0 .text, pair-operand _ _ op _ e, toZ-ofZ f) at (c .in-mode .ensures))))

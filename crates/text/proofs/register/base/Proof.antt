@@ -14,9 +14,7 @@ base-spec =
     (tie.spec
     (λ c κs. search needs)
     (λ c κs. search needs)
-    (λ c κs. search needs)
-    (λ c. (simp (eq-eqb _ _ (c .before .before .before .if1 .taken)) (on (on (c .led3 .ensures) (c .before .led2 .ensures)) (c .before .before .led .ensures)), omega (arith, c .led3 .ensures .longer, c .before .led2 .ensures .longer, c .before .before .led .ensures .longer)))
-    (λ c κs. search needs)
+    (λ c. (simp (eq-eqb _ _ (c .before .before .if1 .taken)) (on (c .led2 .ensures) (c .before .led .ensures)), omega (arith, c .led2 .ensures .longer, c .before .led .ensures .longer)))
     (λ c κs. search needs)
     (λ c κs. search needs)
-    (λ c. (simp (ne-eqb _ _ (c .before .before .before .if1 .left)) (on (on (c .led5 .ensures) (c .before .led4 .ensures)) (c .before .before .digits .ensures .0)), omega (arith, c .led5 .ensures .longer, c .before .led4 .ensures .longer, c .before .before .digits .ensures .1))))
+    (λ c. (simp (ne-eqb _ _ (c .before .before .if1 .left)) (on (c .led3 .ensures) (c .before .digits .ensures .0)), omega (arith, c .led3 .ensures .longer, c .before .digits .ensures .1))))
