@@ -1,8 +1,7 @@
 -- Every name has a number, and a mnemonic is the number that its letters make. Assumes nothing.
 use Prim.Native.Nat.{ℕ, zero, suc, _+_, _*_, _/_, _%_, _^_, _<_}
 use mathlib.Core.Path.{_≡_, refl, sym, ap, _∙_}
-use mathlib.Core.Bool.{Bool, true, _&&_}
-use mathlib.Core.List.{List, _∷_}
+use mathlib.Core.List.{List}
 use native.Mathlib.Nat.{pow-suc}
 use native.Mathlib.Omega.{arith}
 use borrow.Author.Tests.{lt-ltb, le-ltb, ltb-true}
@@ -11,7 +10,7 @@ use lib.ListN.{length}
 use Rattle.bits.specs.Bytes.{bytesOf}
 use Rattle.bits.proofs.Choices.{both}
 use Rattle.bits.proofs.Bytes.{length-bytes}
-use Rattle.instruction.specs.Operations.{sizeOf, opcOf, sizedAt, pairOpc, pairLoad, pairAt}
+use Rattle.instruction.specs.Operations.{sizeOf, opcOf, pairOpc, pairLoad}
 use Rattle.instruction.proofs.Codes.{sized, sized-at, paired, pair-at}
 use Rattle.mnemonic.specs.Operands.{Operand, letterOf}
 use Rattle.mnemonic.specs.declared.Stem.{Stem}

@@ -19,7 +19,7 @@ use Rattle.mnemonic.specs.declared.Stem.{Stem}
 use Rattle.mnemonic.specs.declared.Mnemonic.{Mnemonic}
 use Rattle.mnemonic.specs.declared.table.SizedEntry.{SizedEntry}
 use Rattle.mnemonic.specs.declared.table.PairEntry.{PairEntry}
-use Rattle.mnemonic.specs.route.Named.{Known, known, told}
+use Rattle.mnemonic.specs.route.Named.{known, told}
 use Rattle.mnemonic.specs.route.Parts.{sizedStem, pairStem, sizedEntry, pairEntry, behindStem}
 
 -- ---- a test of what a mnemonic tells

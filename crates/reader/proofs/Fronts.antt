@@ -13,7 +13,7 @@ use Rattle.reader.specs.route.Scan.{packed, plainOf, stepOf, scanStart}
 use Rattle.reader.specs.route.Names.{nameFor}
 use Rattle.reader.specs.route.Targets.{targetAt}
 use Rattle.reader.specs.route.Tails.{tailAt, offsetAt}
-use Rattle.reader.specs.route.Build.{keyIn, literalFor, literalFrom, offsetFrom, indexFrom, pairFrom, bracketedFor, plainFor, sizedFor, familyFor, buildOf}
+use Rattle.reader.specs.route.Build.{keyIn, literalFor, literalFrom, offsetFrom, indexFrom, pairFrom, bracketedFor, plainFor, familyFor, buildOf}
 use Rattle.reader.proofs.Scans.{Scans, then, piece, word, operandKey, operandNum, baseKey, signKey, operand-scan, base-scan, signed-scan}
 use Rattle.reader.proofs.Named.{Named, named, target-is}
 use Rattle.reader.proofs.Tails.{Words, here, Kept, OffsetEnd, IndexEnd, plus-back, minus-back}

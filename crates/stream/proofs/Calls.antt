@@ -15,7 +15,7 @@ use Rattle.bits.proofs.Lists.{sets-front}
 use Rattle.instruction.specs.Answers.{answerNumber}
 use Rattle.listing.specs.Listing.{listingOf}
 use Rattle.stream.specs.declared.Lister.{Lister}
-use Rattle.stream.specs.Streams.{Outcome, overIn, holding, shutOf, refuses, wholeOf, restOf, refused, handed, Call, push, close, lent, linesOf, nextOf, callOf}
+use Rattle.stream.specs.Streams.{overIn, holding, shutOf, refuses, wholeOf, restOf, refused, handed, Call, push, close, lent, linesOf, callOf}
 use Rattle.stream.specs.Calls.{fragmentOf, Played, ahead, played}
 use Rattle.stream.proofs.Splits.{listing-append, parts, whole-words, rest-few, held-is}
 

@@ -4,7 +4,7 @@ use mathlib.Core.List.{List, [], _∷_, _++_}
 use lib.Dec.{eqb, ltb}
 use lib.ListN.{length}
 use Rattle.bits.specs.Choice.{pick, lookup}
-use Rattle.instruction.specs.Operations.{sizedCode, sizeOf, opcOf, pairOpc, pairLoad, modeCode}
+use Rattle.instruction.specs.Operations.{sizedCode, sizeOf, opcOf, pairOpc, pairLoad}
 use Rattle.instruction.specs.declared.operation.SizedOp.{SizedOp}
 use Rattle.instruction.specs.declared.operation.PairOp.{PairOp}
 use Rattle.instruction.specs.declared.operation.PairMode.{PairMode}

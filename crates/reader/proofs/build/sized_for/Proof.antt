@@ -1,7 +1,6 @@
 -- `reader::build::sized_for` meets its contract. Assumes nothing.
 use mathlib.Core.Path.{ap}
 use Rattle.reader.specs.Types.{Family}
-use Rattle.reader.specs.route.Build.{sizedFor}
 use borrow.Author.Needs.{needs}
 use Rattle.reader.proofs.build.sized_for.Statement.{statement}
 use Rattle.reader.proofs.build.sized_for.Tie as tie
