@@ -1,4 +1,5 @@
 // The one instruction whose line a scanned text can be.
+use crate::first::target_at;
 use crate::name::name_for;
 use crate::scan::Scan;
 use crate::tail::Tail;
@@ -6,7 +7,6 @@ use crate::tail::offset_at;
 use crate::tail::option_at;
 use crate::tail::scaled_at;
 use crate::tail::tail_at;
-use crate::target::target_at;
 use instruction::Family;
 use instruction::IndexOperands;
 use instruction::Instruction;

@@ -2,10 +2,10 @@
 // have this line; the text is taken exactly if it is that instruction's line, as text::write gives it.
 mod build;
 mod compare;
+mod first;
 mod name;
 mod scan;
 mod tail;
-mod target;
 
 use instruction::Answer;
 use text::TEXT_MAX;
