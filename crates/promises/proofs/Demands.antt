@@ -234,8 +234,10 @@ demand-3 =
       marked-address = λ w word m t a e h. ap (λ s. answerNumber (performed m s .answer)) (tainted-refused w word m t a e h) ∙ tainted-answer (bad w m) (eqb (answerNumber (classOf word)) 0) (classOf word);
     }
 
-lister-number : (l : Lister) (c : Call) → oneOf (0 ∷ 16 ∷ 10 ∷ []) (answerNumber (callOf l c .answer)) ≡ true
-lister-number l c = rw (call-answer l c) (first-one ((refuses l, 16) ∷ (ltb (length (lent c)) (length (linesOf l c)), 10) ∷ []))
+lister-number : (l : Lister) (c : Call) → Among (0 ∷ 16 ∷ 10 ∷ []) (answerNumber (callOf l c .answer))
+lister-number l c =
+    let among = Among (0 ∷ 16 ∷ 10 ∷ []) in
+    rw (call-answer l c) (pick-by among (refuses l) (λ e. refl) (λ e. pick-by among (ltb (length (lent c)) (length (linesOf l c))) (λ f. refl) (λ f. refl)))
 
 pub library : Library
 library =
