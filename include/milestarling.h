@@ -48,7 +48,9 @@ enum milestarling_answer {
     /* a slice is too short for what belongs there */
     MILESTARLING_NO_ROOM = 10,
     /* no word encodes the instruction: no function below answers this */
-    MILESTARLING_NO_SUCH_INSTRUCTION = 11
+    MILESTARLING_NO_SUCH_INSTRUCTION = 11,
+    /* the lister is closed, or is said to hold more than three bytes */
+    MILESTARLING_CLOSED = 16
 };
 
 /* The steps done, and of the last step tried its answer, code and address, as in the trace. */
@@ -69,6 +71,22 @@ struct milestarling_text_reply {
 struct milestarling_word_reply {
     uint64_t answer;
     uint64_t word;
+};
+
+/*
+ * A lister of a stream, which the host keeps and hands on by value from call to call: the bytes behind the last whole
+ * word, how many of them count, 0 to 3, and whether it is closed, which any number but 0 says. One of zeros is a new
+ * one: `struct milestarling_lister lister = {0};`. Every lister is one that a call takes, and gets an answer.
+ */
+struct milestarling_lister {
+    uint8_t first, second, third, count, closed;
+};
+
+/* The lister after the call, and where the answer isn't 0 the one that was handed in; the length is 0 then. */
+struct milestarling_lister_reply {
+    struct milestarling_lister lister;
+    uint64_t answer;
+    uint64_t length;
 };
 
 /*
@@ -111,5 +129,26 @@ struct milestarling_word_reply milestarling_word(const uint8_t *text, size_t tex
  */
 struct milestarling_text_reply milestarling_list(
     const uint8_t *bytes, size_t bytes_length, uint8_t *output, size_t output_length);
+
+/*
+ * The same listing of bytes that come in fragments, of any length and cut anywhere: writes the lines of the words that
+ * are whole with this fragment to the start of an output, and holds the bytes behind them, nought to three, for the next
+ * call. What all calls that aren't refused write, from a new lister to its closing, is milestarling_list's listing of
+ * their fragments, one behind the other.
+ *
+ * Answers 0, 16 or 10; the output and the lister change only with 0. 16 is for a lister that is closed or says that it
+ * holds more than three bytes, and comes first. After a 10 the call may be repeated with a longer output.
+ * MILESTARLING_LINE_MAX bytes for each four of the held bytes and the fragment always suffice.
+ */
+struct milestarling_lister_reply milestarling_lister_push(
+    struct milestarling_lister lister,
+    const uint8_t *fragment, size_t fragment_length, uint8_t *output, size_t output_length);
+
+/*
+ * The end of such a listing: writes the line for bytes left over, if there are any, to the start of an output, and
+ * closes the lister. Answers as above; 10 bytes always suffice.
+ */
+struct milestarling_lister_reply milestarling_lister_close(
+    struct milestarling_lister lister, uint8_t *output, size_t output_length);
 
 #endif
