@@ -1,7 +1,7 @@
 use std::error::Error;
 use std::fmt;
 
-/// An answer, with its number in document 01.
+/// An answer, with its number in documents 01 and 02.
 ///
 /// ```
 /// use milestarling::Answer;
@@ -38,11 +38,13 @@ pub enum Answer {
     NoRoom = 10,
     /// No word has this instruction.
     NoSuchInstruction = 11,
+    /// The lister is closed, or is said to hold more than three bytes.
+    Closed = 16,
 }
 
 impl Answer {
     /// All answers, in the order of their numbers.
-    pub const ALL: [Answer; 12] = [
+    pub const ALL: [Answer; 13] = [
         Answer::Done,
         Answer::BadWindow,
         Answer::NotInSet,
@@ -55,9 +57,21 @@ impl Answer {
         Answer::NoSuchText,
         Answer::NoRoom,
         Answer::NoSuchInstruction,
+        Answer::Closed,
     ];
 
-    /// The number in document 01.
+    /// The answer of each number up to the largest: not every number is an answer's.
+    const BY_NUMBER: [Option<Answer>; Answer::Closed as usize + 1] = {
+        let mut table = [None; Answer::Closed as usize + 1];
+        let mut place = 0;
+        while place < Answer::ALL.len() {
+            table[Answer::ALL[place] as usize] = Some(Answer::ALL[place]);
+            place += 1;
+        }
+        table
+    };
+
+    /// The number in documents 01 and 02.
     pub const fn number(self) -> u8 {
         self as u8
     }
@@ -89,6 +103,7 @@ impl fmt::Display for Answer {
             Answer::NoSuchText => "the text isn't the line of any load or store",
             Answer::NoRoom => "the buffer or the trace lent is too short",
             Answer::NoSuchInstruction => "no word has this instruction",
+            Answer::Closed => "the lister is closed, or is said to hold more than three bytes",
         })
     }
 }
@@ -113,7 +128,7 @@ impl TryFrom<u64> for Answer {
 
     fn try_from(number: u64) -> Result<Answer, UnknownAnswer> {
         let place = usize::try_from(number).ok();
-        place.and_then(|place| Answer::ALL.get(place)).copied().ok_or(UnknownAnswer(number))
+        place.and_then(|place| Answer::BY_NUMBER.get(place).copied().flatten()).ok_or(UnknownAnswer(number))
     }
 }
 

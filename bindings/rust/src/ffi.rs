@@ -1,8 +1,8 @@
-//! The only unsafe code: the four functions of `libhost.a`, and their safe forms over slices.
+//! The only unsafe code: the six functions of `libhost.a`, and their safe forms over slices.
 
 #![allow(unsafe_code)]
 
-use crate::raw::{RunReply, TextReply, WordReply};
+use crate::raw::{Lister, ListerReply, RunReply, TextReply, WordReply};
 
 extern "C" {
     fn milestarling_run(
@@ -24,9 +24,17 @@ extern "C" {
     fn milestarling_text(word: u32, buffer: *mut u8, buffer_len: usize) -> TextReply;
     fn milestarling_word(text: *const u8, text_len: usize) -> WordReply;
     fn milestarling_list(bytes: *const u8, bytes_len: usize, output: *mut u8, output_len: usize) -> TextReply;
+    fn milestarling_lister_push(
+        lister: Lister,
+        fragment: *const u8,
+        fragment_len: usize,
+        output: *mut u8,
+        output_len: usize,
+    ) -> ListerReply;
+    fn milestarling_lister_close(lister: Lister, output: *mut u8, output_len: usize) -> ListerReply;
 }
 
-// All four are proved for any numbers and any slices, without a trap and without an endless loop. What is left for a
+// All six are proved for any numbers and any slices, without a trap and without an endless loop. What is left for a
 // caller to see to is what a slice promises: its bytes are there, and nobody else writes them, or reads what a `&mut`
 // lends, during the call. A Rust slice promises just that, so these functions are safe.
 
@@ -79,6 +87,18 @@ pub(crate) fn word(text: &[u8]) -> WordReply {
 pub(crate) fn list(bytes: &[u8], output: &mut [u8]) -> TextReply {
     // SAFETY: each pointer and length come from one slice.
     unsafe { milestarling_list(bytes.as_ptr(), bytes.len(), output.as_mut_ptr(), output.len()) }
+}
+
+#[inline]
+pub(crate) fn lister_push(lister: Lister, fragment: &[u8], output: &mut [u8]) -> ListerReply {
+    // SAFETY: each pointer and length come from one slice.
+    unsafe { milestarling_lister_push(lister, fragment.as_ptr(), fragment.len(), output.as_mut_ptr(), output.len()) }
+}
+
+#[inline]
+pub(crate) fn lister_close(lister: Lister, output: &mut [u8]) -> ListerReply {
+    // SAFETY: pointer and length come from one slice.
+    unsafe { milestarling_lister_close(lister, output.as_mut_ptr(), output.len()) }
 }
 
 /// The trace as the library writes it, two numbers for each step.

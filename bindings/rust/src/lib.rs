@@ -2,11 +2,11 @@
 //!
 //! The work is done by a static library that is written and proved in Rattle; this package only gives it Rust's types.
 //! Every word, every state and every text gets an answer, and nobody has to check first: a refusal is a [`Refusal`],
-//! carries its number in document 01 and changes nothing.
+//! carries its number in documents 01 and 02 and changes nothing.
 //!
 //! - [`Machine`] does steps and runs over memory that it owns or borrows, with taints and a trace.
 //! - [`Instruction`] goes from words to lines of text and back.
-//! - [`listing`] lists bytes.
+//! - [`listing`] lists bytes, and [`Lister`] and [`ListingWriter`] list what comes in fragments.
 //! - [`raw`] has the library's functions as they are.
 //!
 //! # The host's own duty
@@ -43,9 +43,11 @@ mod ffi;
 mod machine;
 pub mod raw;
 mod registers;
+mod stream;
 mod text;
 
 pub use answer::{Answer, Refusal, UnknownAnswer};
 pub use machine::{Access, Machine, Run, Window};
 pub use registers::{Register, Registers};
+pub use stream::{Lister, ListingWriter};
 pub use text::{list, listing, Instruction, LINE_MAX};

@@ -1,7 +1,7 @@
-//! The library's four functions as they are: slices and numbers in, numbers out.
+//! The library's six functions as they are: slices and numbers in, numbers out.
 //!
-//! For hosts that keep registers, trace and buffers in a layout of their own. Answers are document 01's numbers;
-//! [`Answer::try_from`](crate::Answer) names them. No function here has a condition that its caller must meet.
+//! For hosts that keep registers, trace and buffers in a layout of their own. Answers are the numbers of documents
+//! 01 and 02; [`Answer::try_from`](crate::Answer) names them. No function here has a condition that its caller must meet.
 //!
 //! ```
 //! let mut buffer = [0; 32];
@@ -44,6 +44,36 @@ pub struct WordReply {
     pub answer: u64,
     /// The word; 0 for a refusal.
     pub word: u64,
+}
+
+/// A lister of a stream, which a host hands on from call to call. The default is a new one.
+///
+/// Every lister is one that a call takes, and gets an answer.
+#[repr(C)]
+#[derive(Clone, Copy, Debug, Default, PartialEq, Eq, Hash)]
+pub struct Lister {
+    /// The first byte behind the last whole word, where there is one.
+    pub first: u8,
+    /// The second.
+    pub second: u8,
+    /// The third.
+    pub third: u8,
+    /// How many of the three count. More than 3 are refused with 16.
+    pub count: u8,
+    /// Whether the lister is closed, which any number but 0 says.
+    pub closed: u8,
+}
+
+/// What a call of a lister returns.
+#[repr(C)]
+#[derive(Clone, Copy, Debug, Default, PartialEq, Eq)]
+pub struct ListerReply {
+    /// The lister after the call; for a refusal the one that was handed in.
+    pub lister: Lister,
+    /// The answer: 0, 16 or 10, and 16 before 10.
+    pub answer: u64,
+    /// How many bytes were written; 0 for a refusal.
+    pub length: u64,
 }
 
 /// Runs a list of words.
@@ -110,4 +140,27 @@ pub fn word(text: &[u8]) -> WordReply {
 #[inline]
 pub fn list(bytes: &[u8], output: &mut [u8]) -> TextReply {
     ffi::list(bytes, output)
+}
+
+/// Writes the lines of the words that are whole with one more fragment of a stream to the start of a buffer.
+///
+/// ```
+/// use milestarling::raw::{lister_push, Lister};
+///
+/// let mut output = [0; 64];
+/// let reply = lister_push(Lister::default(), &[0x20, 0x04, 0x40], &mut output);
+/// assert_eq!((reply.lister.count, reply.length), (3, 0));
+/// let reply = lister_push(reply.lister, &[0xf9, 0xff], &mut output);
+/// assert_eq!(&output[..reply.length as usize], b"f9400420\tldr x0, [x1, #8]\t0\n");
+/// assert_eq!((reply.lister.first, reply.lister.count), (0xff, 1));
+/// ```
+#[inline]
+pub fn lister_push(lister: Lister, fragment: &[u8], output: &mut [u8]) -> ListerReply {
+    ffi::lister_push(lister, fragment, output)
+}
+
+/// Writes the line of the bytes over at the end of a stream to the start of a buffer, and closes the lister.
+#[inline]
+pub fn lister_close(lister: Lister, output: &mut [u8]) -> ListerReply {
+    ffi::lister_close(lister, output)
 }

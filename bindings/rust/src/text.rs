@@ -17,7 +17,7 @@ use std::str::FromStr;
 pub const LINE_MAX: usize = 8 + 1 + Instruction::TEXT_MAX + 1 + 1 + 1;
 
 /// Words that are listed at once. Enough for a call to cost nothing, and small enough for a cache.
-const BATCH: usize = 256;
+pub(crate) const BATCH: usize = 256;
 
 /// An allocated word: a load or store of the set that isn't undefined.
 ///

@@ -6,13 +6,7 @@ mod reference;
 mod support;
 
 use milestarling::{listing, Answer, Instruction};
-use std::fs;
-use std::path::Path;
-
-fn stored(program: &str, name: &str) -> Vec<u8> {
-    let path = Path::new(env!("CARGO_MANIFEST_DIR")).join("../../crates").join(program).join(name);
-    fs::read(&path).unwrap_or_else(|error| panic!("{}: {error}", path.display()))
-}
+use support::stored;
 
 #[test]
 fn listed_words() {

@@ -3,6 +3,15 @@
 // Each test takes the part that it needs.
 #![allow(dead_code)]
 
+use std::fs;
+use std::path::Path;
+
+/// A file that is stored beside a program.
+pub fn stored(program: &str, name: &str) -> Vec<u8> {
+    let path = Path::new(env!("CARGO_MANIFEST_DIR")).join("../../crates").join(program).join(name);
+    fs::read(&path).unwrap_or_else(|error| panic!("{}: {error}", path.display()))
+}
+
 /// Steele, Lea and Flood's SplitMix64.
 pub struct Random(u64);
 
