@@ -1,6 +1,6 @@
 #!/usr/bin/env bash
 # Times the Rust package over the static library beside its peers. They come from Debian packages, which are installed
-# where they aren't there; that needs root. The library is built where it isn't there.
+# where they aren't there; that needs root. The library is built first, so that no older one is timed.
 set -euo pipefail
 cd "$(dirname "${BASH_SOURCE[0]}")/.."
 
@@ -15,7 +15,7 @@ if [ ${#missing[@]} -gt 0 ]; then
     apt-get install -y --no-install-recommends "${missing[@]}"
 fi
 
-if [ -z "${MILESTARLING_LIB:-}" ] && [ ! -e target/staticlib/libhost.a ]; then
+if [ -z "${MILESTARLING_LIB:-}" ]; then
     rt staticlib host
 fi
 
