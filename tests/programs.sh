@@ -1,7 +1,7 @@
 #!/usr/bin/env bash
-# Runs the programs `list` and `assemble` on inputs that end in every way, which the stored ones can't all do. Most are
-# cut from the stored input, and what must come is cut from the stored output, which other tools have made; the rest is
-# written out here. `rt check list assemble` builds the programs.
+# Runs the programs `list` and `assemble` on inputs that come, end and fail in every way, which the stored ones can't all do.
+# Most are cut from the stored input, and what must come is cut from the stored output, which other tools have made; the
+# rest is written out here. `rt check list assemble` builds the programs.
 set -uo pipefail
 cd "$(dirname "${BASH_SOURCE[0]}")/.." || exit 1
 room=$(mktemp -d) || exit 1
@@ -34,9 +34,9 @@ cut_list() { # BYTES
     fi
 }
 
-# Every number of left-over bytes, with no word before them, with some, and about the ends of the program's blocks and
-# of their parts: left-over bytes may come in a block of their own.
-for about in 0 4096 8184 16368 65536 131072; do
+# Every number of left-over bytes, with no word before them, with some, and about the ends of the program's reads and of a
+# pipe's: left-over bytes may come in a read of their own.
+for about in 0 4096 16384 32768 65536 131072; do
     for near in -3 -2 -1 0 1 2 3 4 5 6 7; do
         bytes=$((about + near))
         [ "$bytes" -ge 0 ] || continue
@@ -59,6 +59,55 @@ if ! pieces | target/bin/list | cmp - "$room/expected"; then
     echo "programs: list is wrong on input that comes in pieces"
     failed=$((failed + 1))
 fi
+
+# A line comes as soon as its four bytes have come: each word is written, byte by byte, once the line of the one before it has
+# been read.
+cut_list 66
+mkfifo "$room/in" "$room/out"
+target/bin/list < "$room/in" > "$room/out" &
+exec 3> "$room/in" 4< "$room/out"
+for ((byte = 1; byte <= 66; byte++)); do
+    tail -c "+$byte" "$room/given" | head -c 1 >&3
+    if [ $((byte % 4)) -eq 0 ]; then
+        head -n 1 <&4
+    fi
+done > "$room/came"
+exec 3>&-
+cat <&4 >> "$room/came"
+exec 4<&-
+wait $!
+tried=$((tried + 1))
+if ! cmp "$room/came" "$room/expected"; then
+    echo "programs: list is wrong on input that comes byte by byte"
+    failed=$((failed + 1))
+fi
+
+# What a program wrote to $room/came and said to $room/said, after a read or a write that failed.
+fails() { # PROGRAM WHAT FAILURE
+    tried=$((tried + 1))
+    if ! cmp "$room/came" "$room/expected" || ! [[ $(cat "$room/said") =~ ^"$3: ".+ ]]; then
+        echo "programs: $1 is wrong on $2"
+        failed=$((failed + 1))
+    fi
+}
+
+# A failure is said, and isn't taken for the end of the input: a `short` line comes only where the input ends. A directory
+# fails at the first read; a pipe that doesn't wait and has no more bytes at a later one.
+: > "$room/expected"
+target/bin/list < . > "$room/came" 2> "$room/said"
+fails list "a directory" read
+cut_list 4
+head -c 6 crates/list/stdin > "$room/given"
+exec 5<> "$room/in"
+dd iflag=nonblock count=0 status=none <&5
+cat "$room/given" >&5
+target/bin/list <&5 > "$room/came" 2> "$room/said"
+exec 5>&-
+fails list "a second read that fails" read
+: > "$room/expected"
+target/bin/list < "$room/given" > /dev/full 2> "$room/said"
+: > "$room/came"
+fails list "an output that is full" write
 
 # ---- assemble
 
