@@ -7,8 +7,8 @@
 To be believed is all that the promises reach. A promise is a contract, the `ensures` and `requires` of a `pub fn` that
 a library exports (it stands in lib.rt, or `pub use` there names it or the type that it is a method of), or a record on
 the page of promises. What these name is followed through imports to definitions in crates/*/specs and types in
-crates/*/src, and from each of them to what it names. The kit's own names end the way. Comments, strings and projections
-aren't followed; a bound name that a definition has too is, so that nothing is left out.
+crates/*/src, and from each of them to what it names. Names of the kit and of its crates end the way. Comments, strings
+and projections aren't followed; a bound name that a definition has too is, so that nothing is left out.
 
 A signature is the `name : type` of a definition, a field of a record or struct, or a constructor of a data type or
 enum. A clause is one defining equation, `f patterns = ..`, with the lines that continue it. A definition counts whole:
@@ -33,6 +33,7 @@ WORD = re.compile(r'(\.?)([^\s(){}\[\];:,.&<>⌜⌝]+)')
 HEAD = re.compile(r'(?:(?:unfoldable|abbrev|pub) )*(?:(record|data|use|mod) )?(\S+)( :)?')
 DECLARED = re.compile(r'^(?:pub )?(struct|enum) (\w+) \{\n(.*?)^\}', re.M | re.S)
 SPECS_USED = re.compile(r'^(?:pub |ghost )?use (Rattle·[^\s{;]+?)(?:\.\{([^}]*)\})?;?$', re.M)
+MODULE_USED = re.compile(r'^use (Rattle·\S+) as (\w+)$', re.M)
 CODE_USED = re.compile(r'^(?:pub )?use (?:crate::)?(\w+)::\{?([\w, ]+)\}?;', re.M)
 FUNCTION = re.compile(r'^impl (\w+) \{|^\}|^ *pub (?:extern "C" )?fn (\w+)(.*?)^ *\{', re.M | re.S)
 CLAUSE = re.compile(r'\b(ensures|requires)\b[^{]*\{(.*?⌝) \}', re.S)
@@ -102,10 +103,21 @@ def types_in(code):
     return definitions, types
 
 
+def spelled_out(text):
+    """The text with `module.name` as one word, and with an import of that word in place of the module's."""
+    for module, alias in MODULE_USED.findall(text):
+        behind = re.compile(rf'(?<![\w·]){alias}\.([\w-]+)')
+        listed = ', '.join(f'{name} as {alias}·{name}' for name in sorted(set(behind.findall(text))))
+        text = behind.sub(rf'{alias}·\1', text).replace(f'use {module} as {alias}', f'use {module}.{{{listed}}}')
+    return text
+
+
 def imports_in(text, path):
     found = {}
     for module, listed in SPECS_USED.findall(text):
         crate, part, rest = re.fullmatch(r'Rattle·(\w+?)(?:·\w+)?\.(\w+)\.(.+)', module).groups()
+        if not (CRATES / crate).is_dir():
+            continue
         steps = [step for step in rest.split('.') if step != 'the-variants']
         owner = steps.pop() if steps[0] == 'declared' else None
         if owner:
@@ -127,7 +139,7 @@ def imports_in(text, path):
 def source(path):
     if 'proofs' in path.relative_to(CRATES).parts or not path.exists():
         stop(f'a promise leads to {path.relative_to(CRATES.parent)}')
-    text = path.read_text()
+    text = spelled_out(path.read_text())
     read = definitions_in(text) if path.suffix == '.antt' else types_in(re.sub(r'//.*', '', text))
     return Source(*read, imports_in(text, path))
 
