@@ -16,7 +16,7 @@ use Rattle.bits.specs.Fields.{part}
 use Rattle.bits.specs.Bytes.{bytesOf, joined, spanOf}
 use Rattle.bits.proofs.Bytes.{bytes-low}
 use Rattle.registers.specs.File.{zeroSlot}
-use Rattle.machine.proofs.Extensions.{two-256}
+use Rattle.bits.proofs.Extensions.{two-256}
 use Rattle.arm.specs.Pseudocode.{Arm, Add, X, setX, SP, setSP, base, setBase, Mem, setMem, withRegisters, setByte}
 use Rattle.arm.proofs.Bits.{low-bits, full, add-small, zero-extend}
 

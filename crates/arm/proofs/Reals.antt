@@ -4,13 +4,11 @@ use mathlib.Core.Path.{_≡_, refl}
 use mathlib.Core.Bool.{Bool, false}
 use mathlib.Core.List.{List, [], _∷_}
 use native.Mathlib.Omega.{arith}
-use lib.Dec.{ltb}
 use lib.ListN.{length, getD, set, replicate, length-set}
 use lib.Seq.{sets}
 use Rattle.bits.specs.Bytes.{bytesOf, joined, spanOf}
 use Rattle.bits.proofs.Choices.{pick-by}
-use Rattle.bits.specs.Extension.{largest, extendedOf}
-use Rattle.memory.proofs.Spans.{room-64}
+use Rattle.bits.specs.Extension.{extendedOf}
 use Rattle.decoder.specs.Decoding.{decodeOf}
 use Rattle.access.specs.declared.transfer.Transfer.{Transfer}
 use Rattle.access.specs.declared.Access.{Access}
@@ -24,7 +22,7 @@ use Rattle.machine.specs.Rule.{moveRule}
 use Rattle.machine.specs.Machine.{Machine, operandsOf, effectOf}
 use Rattle.machine.specs.Refusals.{refusals}
 use Rattle.machine.specs.Step.{Step, stopped, moved, performOf, stepOf, performed}
-use Rattle.machine.proofs.Extensions.{room}
+use Rattle.bits.proofs.Extensions.{extended-below}
 use Rattle.arm.specs.Real.{Real}
 use Rattle.arm.proofs.Places.{joined-lt}
 
@@ -44,11 +42,6 @@ bytes-below : (k v at : ℕ) (xs : List ℕ) → Below 256 xs → Below 256 (set
 unfolding bytesOf
 bytes-below zero v at xs b = b
 bytes-below (suc k) v at xs b = bytes-below k (v / 256) (suc at) (set xs at (v % 256)) (set-below xs at (v % 256) (omega arith) b)
-
-extended-below : (k extent v : ℕ) → k ≤ extent → extent ≤ 8 → v < 256 ^ k → extendedOf k extent v < 2 ^ 64
-unfolding extendedOf
-extended-below k extent v h l b =
-    pick-by (λ (x : ℕ). x < 2 ^ 64) (ltb (largest k / 2) v) (λ e. room k extent v b h l .fits) (λ e. room-64 k (omega arith) b)
 
 -- ---- a step
 

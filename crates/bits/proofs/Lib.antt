@@ -3,6 +3,7 @@ pub mod Parts
 pub mod Offsets
 pub mod Signs
 pub mod Bytes
+pub mod Extensions
 pub mod Lists
 pub mod Spans
 pub mod Joining

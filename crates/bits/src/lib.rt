@@ -1,7 +1,10 @@
-// Fields of instruction words, signed numbers, and numbers of bytes. The definitions are in specs/, their laws in proofs/.
+// Fields of instruction words, signed numbers and their extension, and numbers of bytes. The definitions are in specs/, their
+// laws in proofs/.
+mod extend;
 mod join;
 mod number;
 
+pub use extend::extended;
 pub use join::byte_at;
 pub use join::eight_at;
 pub use join::four_at;

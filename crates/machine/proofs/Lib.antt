@@ -1,4 +1,3 @@
 pub mod Answers
-pub mod Extensions
 pub mod Taints
 pub mod Writing

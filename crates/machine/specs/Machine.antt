@@ -1,6 +1,5 @@
 -- The machine: what a step reads and changes, and what an access leaves of it: 01, "What a word says".
 use Prim.Native.Nat.{ℕ, _+_, _%_, _^_}
-use mathlib.Core.Bool.{Bool, true, false}
 use mathlib.Core.List.{List}
 use lib.ListN.{set, getD}
 use lib.Seq.{sets}
@@ -9,7 +8,8 @@ use Rattle.bits.specs.Bytes.{bytesOf, joined, spanOf}
 use Rattle.bits.specs.Extension.{extendedOf}
 use Rattle.access.specs.declared.transfer.Transfer.{Transfer}
 use Rattle.access.specs.declared.addressing.Addressing.{Addressing}
-use Rattle.plan.specs.declared.address.Operands.{Operands}
+use Rattle.plan.specs.declared.operands.Operands.{Operands}
+use Rattle.plan.specs.Operands.{operandsIn}
 use Rattle.plan.specs.Admission.{totalOf}
 use Rattle.machine.specs.Rule.{Taints, moveRule}
 use Rattle.machine.specs.declared.State.{State}
@@ -25,17 +25,9 @@ abbrev pub machineOf : State → List ℕ → List ℕ → Machine
 machineOf s memory taint =
     record { values = s .registers .value; pc = s .pc; memory = memory; taints = record { registers = s .registers .taint; bytes = taint } }
 
--- what an access reads to form its address
-abbrev pub operandsIn : Addressing → List ℕ → List Bool → ℕ → Operands
-operandsIn a values taints pc =
-    record {
-      base = pick (a .relative) pc (getD values (a .base) 0);
-      index = getD values (a .index) 0;
-      tainted = pick (getD taints (a .base) false) true (getD taints (a .index) false);
-    }
-
+-- what an access reads of it to form its address
 abbrev pub operandsOf : Addressing → Machine → Operands
-operandsOf a m = operandsIn a (m .values) (m .taints .registers) (m .pc)
+operandsOf a m = operandsIn a (m .pc) (m .values) (m .taints .registers)
 
 abbrev pub nextPc : ℕ → ℕ
 nextPc pc = (pc + 4) % 2 ^ 64

@@ -1,6 +1,5 @@
 // What an access leaves: the bytes and taints of memory at once, and what it sets in the register file as a small
 // struct, for the second half of a step. The tests are passed by now.
-use crate::extend;
 use access::Transfer;
 ghost use mathlib.Core.Path.{_≡_};
 ghost use mathlib.Core.Bool.{false, _||_};
@@ -40,7 +39,7 @@ pub fn code(t: Transfer) -> u64
 }
 
 // Whether a file that is lent has a register of this number: setting any other changes nothing.
-pub fn is_register(value: &[u64], tainted: &[bool], slot: u32) -> bool
+pub fn is_register(slot: u32, value: &[u64], tainted: &[bool]) -> bool
     ensures { λ r. ⌜ r ≡ (ltb slot (length (now (value .entry))) || ltb slot (length (now (tainted .entry)))) ⌝ }
 {
     if (slot as usize) < value.len() {
@@ -66,12 +65,12 @@ pub fn written_back(base: u32, next: u64) -> Writes
 }
 
 // What a load at an index sets.
-pub fn loads(t: Transfer, base: u32, next: u64, bytes: &[u8], taints: &[u8], at: usize) -> Writes
-    requires { ⌜ (t .bytes ≤ t .extent) × (t .more ≤ t .extent) × (t .extent ≤ 8) × (at + totalOf t ≤ length (now bytes)) × (length (now taints) ≡ length (now bytes)) ⌝ }
-    ensures { λ r. ⌜ r ≡ loadsOf t base next at (now (bytes .entry)) (now (taints .entry)) ⌝ }
+pub fn loads(t: Transfer, base: u32, next: u64, at: usize, memory: &[u8], taint: &[u8]) -> Writes
+    requires { ⌜ (t .bytes ≤ t .extent) × (t .more ≤ t .extent) × (t .extent ≤ 8) × (at + totalOf t ≤ length (now memory)) × (length (now taint) ≡ length (now memory)) ⌝ }
+    ensures { λ r. ⌜ r ≡ loadsOf t base next at (now (memory .entry)) (now (taint .entry)) ⌝ }
 {
-    let first = loaded_one(t.bytes, t.extent, bytes, taints, at);
-    let second = loaded_one(t.more, t.extent, bytes, taints, at + t.bytes as usize);
+    let first = loaded_one(t.bytes, t.extent, at, memory, taint);
+    let second = loaded_one(t.more, t.extent, at + t.bytes as usize, memory, taint);
     Writes {
         base,
         next,
@@ -91,9 +90,9 @@ struct Loaded {
 }
 
 // A load of n bytes. A single access has no second register, and no bytes for it.
-fn loaded_one(n: u32, extent: u32, bytes: &[u8], taints: &[u8], at: usize) -> Loaded
-    requires { ⌜ (n ≤ extent) × (extent ≤ 8) × (at + n ≤ length (now bytes)) × (length (now taints) ≡ length (now bytes)) ⌝ }
-    ensures { λ r. ⌜ r ≡ record { value = extendedOf n extent (joined (spanOf (now (bytes .entry)) at n)); taint = anyTainted (spanOf (now (taints .entry)) at n) } ⌝ }
+fn loaded_one(n: u32, extent: u32, at: usize, memory: &[u8], taint: &[u8]) -> Loaded
+    requires { ⌜ (n ≤ extent) × (extent ≤ 8) × (at + n ≤ length (now memory)) × (length (now taint) ≡ length (now memory)) ⌝ }
+    ensures { λ r. ⌜ r ≡ record { value = extendedOf n extent (joined (spanOf (now (memory .entry)) at n)); taint = anyTainted (spanOf (now (taint .entry)) at n) } ⌝ }
 {
     if n == 0 {
         return Loaded {
@@ -101,56 +100,56 @@ fn loaded_one(n: u32, extent: u32, bytes: &[u8], taints: &[u8], at: usize) -> Lo
             taint: false,
         };
     }
-    let number = memory::load(&bytes[at..], n as usize);
-    let taint = memory::any_tainted(&taints[at..], n as usize);
+    let number = memory::load(&memory[at..], n as usize);
+    let tainted = memory::any_tainted(&taint[at..], n as usize);
     Loaded {
-        value: extend::extended(number, n, extent),
-        taint,
+        value: bits::extended(number, n, extent),
+        taint: tainted,
     }
 }
 
 // Memory and taints after a store at an index.
 pub fn stored(
     t: Transfer,
+    at: usize,
     value: &[u64],
     tainted: &[bool],
-    bytes: &mut [u8],
-    taints: &mut [u8],
-    at: usize,
+    memory: &mut [u8],
+    taint: &mut [u8],
 )
-    requires { ⌜ (at + totalOf t ≤ length (now bytes)) × (length (now taints) ≡ length (now bytes)) ⌝ }
-    ensures { λ _. ⌜ (now (bytes .exit) ≡ storedBytes t at (now (value .entry)) (now (bytes .entry))) × (now (taints .exit) ≡ storedTaints t at (now (tainted .entry)) (now (taints .entry))) ⌝ }
+    requires { ⌜ (at + totalOf t ≤ length (now memory)) × (length (now taint) ≡ length (now memory)) ⌝ }
+    ensures { λ _. ⌜ (now (memory .exit) ≡ storedBytes t at (now (value .entry)) (now (memory .entry))) × (now (taint .exit) ≡ storedTaints t at (now (tainted .entry)) (now (taint .entry))) ⌝ }
 {
-    stored_one(value, tainted, t.target, t.bytes, bytes, taints, at);
+    stored_one(t.target, t.bytes, at, value, tainted, memory, taint);
     stored_one(
-        value,
-        tainted,
         t.second,
         t.more,
-        bytes,
-        taints,
         at + t.bytes as usize,
+        value,
+        tainted,
+        memory,
+        taint,
     );
 }
 
 // Memory and taints after a store of n bytes of one slot.
 fn stored_one(
-    value: &[u64],
-    tainted: &[bool],
     slot: u32,
     n: u32,
-    bytes: &mut [u8],
-    taints: &mut [u8],
     at: usize,
+    value: &[u64],
+    tainted: &[bool],
+    memory: &mut [u8],
+    taint: &mut [u8],
 )
-    requires { ⌜ (at + n ≤ length (now bytes)) × (length (now taints) ≡ length (now bytes)) ⌝ }
-    ensures { λ _. ⌜ (now (bytes .exit) ≡ sets (now (bytes .entry)) at (bytesOf n (getD (now (value .entry)) slot 0))) × (now (taints .exit) ≡ sets (now (taints .entry)) at (replicate n (taintByte (getD (now (tainted .entry)) slot false)))) ⌝ }
+    requires { ⌜ (at + n ≤ length (now memory)) × (length (now taint) ≡ length (now memory)) ⌝ }
+    ensures { λ _. ⌜ (now (memory .exit) ≡ sets (now (memory .entry)) at (bytesOf n (getD (now (value .entry)) slot 0))) × (now (taint .exit) ≡ sets (now (taint .entry)) at (replicate n (taintByte (getD (now (tainted .entry)) slot false)))) ⌝ }
 {
     if n == 0 {
         return;
     }
     let number = registers::value_in(value, slot);
-    let taint = registers::is_tainted_in(tainted, slot);
-    memory::store(&mut bytes[at..], n as usize, number);
-    memory::store_taint(&mut taints[at..], n as usize, taint);
+    let secret = registers::is_tainted_in(tainted, slot);
+    memory::store(&mut memory[at..], n as usize, number);
+    memory::store_taint(&mut taint[at..], n as usize, secret);
 }

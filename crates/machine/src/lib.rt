@@ -1,8 +1,6 @@
 // One step of the machine, in two halves: the first decodes a word, plans the access and makes it in memory, or
 // refuses and changes nothing; the second sets registers, and gives back the whole state.
 mod effect;
-mod extend;
-mod operands;
 
 use access::Access;
 use access::Addressing;
@@ -191,7 +189,7 @@ fn decide_moves(
     requires { ⌜ Bounded t × (length (now taint) ≡ length (now memory)) ⌝ }
     ensures { λ r. ⌜ told (stateOf (now (value .entry)) (now (tainted .entry)) pc) r (now (memory .exit)) (now (taint .exit)) ≡ ends (accessStep (window .origin) (admitOf window (length (now (memory .entry)))) (Access.Moves t a)) (machineOf (stateOf (now (value .entry)) (now (tainted .entry)) pc) (now (memory .entry)) (now (taint .entry))) ⌝ }
 {
-    let operands = operands::operands(a, value, tainted, pc);
+    let operands = plan::operands_of(a, pc, value, tainted);
     match plan::planned(t, a, operands, window, memory.len() as u64) {
         Plan::Refuse(answer, address) => Decision::Refused(answer, address),
         Plan::Touch(address, next) => {
@@ -228,11 +226,11 @@ fn touched(
     ensures { λ r. ⌜ ((pc : ℕ) → told (stateOf (now (value .entry)) (now (tainted .entry)) pc) r (now (memory .exit)) (now (taint .exit)) ≡ ends (λ m. moved (effectOf t written at next m) shown) (machineOf (stateOf (now (value .entry)) (now (tainted .entry)) pc) (now (memory .entry)) (now (taint .entry)))) ⌝ }
 {
     if t.store {
-        effect::stored(t, value, tainted, memory, taint, at);
-        if effect::is_register(value, tainted, written) {
+        effect::stored(t, at, value, tainted, memory, taint);
+        if effect::is_register(written, value, tainted) {
             return Decision::Wrote(shown, effect::written_back(written, next));
         }
         return Decision::Passed(shown);
     }
-    Decision::Wrote(shown, effect::loads(t, written, next, memory, taint, at))
+    Decision::Wrote(shown, effect::loads(t, written, next, at, memory, taint))
 }

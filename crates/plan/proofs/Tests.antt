@@ -13,7 +13,7 @@ use Rattle.instruction.specs.Answers.{answerNumber}
 use Rattle.access.specs.declared.transfer.Transfer.{Transfer}
 use Rattle.access.specs.declared.addressing.Addressing.{Addressing}
 use Rattle.plan.specs.declared.window.Window.{Window}
-use Rattle.plan.specs.declared.address.Operands.{Operands}
+use Rattle.plan.specs.declared.operands.Operands.{Operands}
 use Rattle.plan.specs.declared.Plan.{Plan}
 use Rattle.plan.specs.declared.Plan.the-variants.{Refuse, Touch}
 use Rattle.plan.specs.Window.{badWindow}

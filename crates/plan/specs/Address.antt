@@ -4,7 +4,7 @@ use lib.Dec.{eqb}
 use Rattle.bits.specs.Choice.{pick}
 use Rattle.bits.specs.Extension.{extendedOf}
 use Rattle.access.specs.declared.addressing.Addressing.{Addressing}
-use Rattle.plan.specs.declared.address.Operands.{Operands}
+use Rattle.plan.specs.declared.operands.Operands.{Operands}
 
 -- option 010 takes the low 32 bits with zeros above, 110 the low 32 bits signed, 011 and 111 all 64
 unfoldable pub indexOf : ℕ → ℕ → ℕ

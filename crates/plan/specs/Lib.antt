@@ -1,4 +1,5 @@
 pub mod Window
+pub mod Operands
 pub mod Address
 pub mod Refusals
 pub mod Admission

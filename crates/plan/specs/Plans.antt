@@ -9,7 +9,7 @@ use Rattle.bits.specs.Choice.{pick}
 use Rattle.instruction.specs.declared.answer.Answer.the-variants.{TaintedAddress, Misaligned}
 use Rattle.access.specs.declared.transfer.Transfer.{Transfer}
 use Rattle.access.specs.declared.addressing.Addressing.{Addressing}
-use Rattle.plan.specs.declared.address.Operands.{Operands}
+use Rattle.plan.specs.declared.operands.Operands.{Operands}
 use Rattle.plan.specs.declared.Plan.{Plan}
 use Rattle.plan.specs.declared.Plan.the-variants.{Refuse, Touch}
 use Rattle.plan.specs.Address.{sumOf, addressOf}

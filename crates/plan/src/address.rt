@@ -1,17 +1,9 @@
 // The address of an access, from what its registers hold.
+use crate::operands::Operands;
 use access::Addressing;
 ghost use mathlib.Core.Path.{_≡_};
-ghost use Prim.Native.Nat.{_<_, _^_};
 ghost use Rattle.bits.specs.Choice.{pick};
-ghost use Rattle.bits.specs.Extension.{extendedOf};
 ghost use Rattle.plan.specs.Address.{indexOf, shiftedOf, sumOf};
-
-// What an access reads to form its address, and whether a register of it is tainted.
-pub struct Operands {
-    pub base: u64,
-    pub index: u64,
-    pub tainted: bool,
-}
 
 // The base with the offset and the index added.
 pub fn sum(a: Addressing, o: Operands) -> u64
@@ -36,20 +28,9 @@ fn index(option: u32, register: u64) -> u64
         return low;
     }
     if option == 0b110 {
-        return signed_word(low);
+        return bits::extended(low, 4, 8);
     }
     register
-}
-
-// A word, signed to 64 bits.
-fn signed_word(word: u64) -> u64
-    requires { ⌜ word < 2 ^ 32 ⌝ }
-    ensures { λ r. ⌜ r ≡ extendedOf 4 8 word ⌝ }
-{
-    if 0x7fff_ffff < word {
-        return word + 0xffff_ffff_0000_0000;
-    }
-    word
 }
 
 pub fn first_byte(post: bool, base: u64, sum: u64) -> u64

@@ -2,12 +2,14 @@
 // numbers alone, and at no byte of memory.
 mod address;
 mod admission;
+mod operands;
 mod window;
 
 use access::Addressing;
 use access::Transfer;
-pub use address::Operands;
 use instruction::Answer;
+pub use operands::Operands;
+pub use operands::operands_of;
 pub use window::Window;
 pub use window::is_bad;
 ghost use mathlib.Core.Path.{_≡_};

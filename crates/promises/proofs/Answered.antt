@@ -10,7 +10,7 @@ use lib.ListN.{length, getD}
 use Rattle.bits.specs.Choice.{pick}
 use Rattle.bits.proofs.Choices.{tested}
 use Rattle.instruction.specs.declared.answer.Answer.{Answer}
-use Rattle.instruction.specs.declared.answer.Answer.the-variants.{Done}
+use Rattle.instruction.specs.declared.answer.Answer.the-variants.{Done, NoSuchText}
 use Rattle.instruction.specs.declared.answer.Encoded.{Encoded}
 use Rattle.instruction.specs.declared.family.Instruction.{Instruction}
 use Rattle.instruction.specs.Answers.{answerNumber}
@@ -30,7 +30,7 @@ use Rattle.encoder.specs.Exact.{Exact}
 use Rattle.encoder.proofs.RoundTrip.{encode-exact}
 use Rattle.reader.specs.declared.Reading.{Reading}
 use Rattle.reader.specs.Reading.{ReadOf}
-use Rattle.reader.proofs.RoundTrip.{text-injective, read-some, read-once}
+use Rattle.reader.proofs.RoundTrip.{read-some, read-once}
 use Rattle.host.specs.declared.WordReply.{WordReply}
 use Rattle.host.specs.Replies.{ReadAs}
 use Rattle.host.specs.Hosting.{machineIn, hostRun}
@@ -113,18 +113,27 @@ module _ (w : Window) (words registers flags memory taint trace : List ℕ) wher
   pub call-number : oneOf runNumbers (hostRun w words registers flags memory taint trace .reply .answer) ≡ true
   call-number = call-at (ltb (length registers) 33) (ltb (length flags) 32) refl refl
 
+abbrev replied : Reading → WordReply
+replied q = record { answer = answerNumber (q .answer); word = q .word }
+
 word-some : (t : List ℕ) → (r : Reading) × ReadOf t r → (r : WordReply) × ReadAs t r
-word-some t (r, h) = (record { answer = answerNumber (r .answer); word = r .word }, read-as t r refl h)
+word-some t (r, h) = (replied r, read-as t r refl h)
+
+-- a reply is that of a reading
+word-read : (t : List ℕ) (r : WordReply) → ReadAs t r → (q : Reading) × (ReadOf t q × (r ≡ replied q))
+word-read t r (inl (d, l)) = (record { answer = Done; word = r .word }, (inl (refl, l), λ i. record { answer = d i; word = r .word }))
+word-read t r (inr (d, z, n)) = (record { answer = NoSuchText; word = r .word }, (inr (refl, z, n), λ i. record { answer = d i; word = r .word }))
 
 word-one : (t : List ℕ) (r s : WordReply) → ReadAs t r → ReadAs t s → r ≡ s
-word-one t r s (inl (d, l)) (inl (e, k)) = let same = text-injective (r .word) (s .word) t l k in λ i. record { answer = (d ∙ sym e) i; word = same i }
-word-one t r s (inl (d, l)) (inr (e, z, n)) = absurd (n (r .word) l)
-word-one t r s (inr (d, z, n)) (inl (e, l)) = absurd (n (s .word) l)
-word-one t r s (inr (d, z, n)) (inr (e, y, k)) = λ i. record { answer = (d ∙ sym e) i; word = (z ∙ sym y) i }
+word-one t r s h k =
+    let (p, (of-p, is-p)) = word-read t r h in
+    let (q, (of-q, is-q)) = word-read t s k in
+    is-p ∙ ap replied (read-once t p q of-p of-q) ∙ sym is-q
 
 word-number : (t : List ℕ) (r : WordReply) → ReadAs t r → oneOf (0 ∷ 9 ∷ []) (r .answer) ≡ true
-word-number t r (inl (d, l)) = rw d
-word-number t r (inr (d, z, n)) = rw d
+word-number t r h =
+    let (q, (of-q, is-q)) = word-read t r h in
+    ap (λ (v : WordReply). oneOf (0 ∷ 9 ∷ []) (v .answer)) is-q ∙ read-number t q of-q
 
 pub word-answered : (t : List ℕ) → Answered (ReadAs t) (λ r. r .answer) (0 ∷ 9 ∷ [])
 word-answered t = record { some = word-some t (read-some t); one = word-one t; answer = word-number t }

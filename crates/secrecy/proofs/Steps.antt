@@ -18,7 +18,7 @@ use Rattle.access.specs.declared.addressing.Addressing.{Addressing}
 use Rattle.access.specs.declared.Access.{Access}
 use Rattle.access.specs.declared.Access.the-variants.{Nothing, Moves}
 use Rattle.plan.specs.declared.window.Window.{Window}
-use Rattle.plan.specs.declared.address.Operands.{Operands}
+use Rattle.plan.specs.declared.operands.Operands.{Operands}
 use Rattle.plan.specs.Address.{sumOf, addressOf}
 use Rattle.plan.specs.Refusals.{Refusal, firstOf}
 use Rattle.plan.specs.Admission.{totalOf, admitOf}

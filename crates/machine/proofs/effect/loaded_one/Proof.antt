@@ -1,9 +1,10 @@
 -- `machine::effect::loaded_one` meets its contract. Assumes nothing.
 use Prim.Native.Nat.{min}
-use mathlib.Core.Path.{_≡_}
+use mathlib.Core.Path.{_≡_, _∙_}
 use native.Mathlib.Omega.{arith}
 use Rattle.bits.specs.Extension.{largest, extendedOf}
 use Rattle.bits.specs.Bytes.{joined, spanOf}
+use Rattle.bits.proofs.Extensions.{extended-exact}
 use Rattle.memory.specs.Taints.{anyTainted}
 use Rattle.memory.proofs.Spans.{span-back}
 use borrow.Author.Needs.{needs}
@@ -24,11 +25,11 @@ loaded-one-spec =
     (λ c. search needs)
     (λ c. search needs)
     (λ c κs. search needs)
-    (λ c κs.
-    let a = c .before .before .before .before .before .before .before .args in
-    let e : min (a .n) 8 ≡ a .n = omega arith in
-    (rw (← e) (c .before .before .load .ensures .1), c .before .before .before .before .before .before .before .pre .0, c .before .before .before .before .before .before .before .pre .1))
+    (λ c κs. search needs)
     (λ c.
-    let a = c .before .before .before .before .before .before .before .before .args in
+    let start = c .before .before .before .before .before .before .before .before in
+    let a = start .args in
+    let number = c .before .before .before .load in
     let e : min (a .n) 8 ≡ a .n = omega arith in
-    rw (← span-back (a .bytes .now) (a .at) (a .n), ← span-back (a .taints .now) (a .at) (a .n), ← c .before .any-tainted .ensures, ← (rw e at (c .before .before .before .load .ensures .0)), ← c .extended .ensures)))
+    let exact = c .extended .ensures ∙ extended-exact (a .n) (a .extent) (number .result) (start .pre .0) (start .pre .1) (rw e at (number .ensures .1)) in
+    rw (← span-back (a .memory .now) (a .at) (a .n), ← span-back (a .taint .now) (a .at) (a .n), ← c .before .any-tainted .ensures, ← (rw e at (number .ensures .0)), ← exact)))

@@ -29,6 +29,6 @@ stored-one-spec =
     let a = c .before .before .before .before .before .before .before .before .before .before .before .before .before .before .before .args in
     let number = c .before .before .before .before .before .before .before .before .before .value-in in
     let taint = c .before .before .before .before .before .before .before .before .is-tainted-in in (
-      rw (← number .ensures) (put-back (a .bytes .now) _ (bytesOf (a .n) (number .result)) (a .at) (c .before .before .before .before .before .before .store .ensures)),
-      rw (← taint .ensures) (put-back (a .taints .now) _ (replicate (a .n) (taintByte (taint .result))) (a .at) (c .before .before .store-taint .ensures)),
+      rw (← number .ensures) (put-back (a .memory .now) _ (bytesOf (a .n) (number .result)) (a .at) (c .before .before .before .before .before .before .store .ensures)),
+      rw (← taint .ensures) (put-back (a .taint .now) _ (replicate (a .n) (taintByte (taint .result))) (a .at) (c .before .before .store-taint .ensures)),
     )))

@@ -1,5 +1,8 @@
 -- `plan::address::index` meets its contract. Assumes nothing.
+use mathlib.Core.Path.{_∙_}
+use native.Mathlib.Omega.{arith}
 use borrow.Author.Tests.{ne-eqb}
+use Rattle.bits.proofs.Extensions.{extended-exact}
 use Rattle.plan.specs.Address.{indexOf}
 use borrow.Author.Needs.{needs}
 use Rattle.plan.proofs.address.index.Statement.{statement}
@@ -12,5 +15,5 @@ index-spec =
     (tie.spec
     (λ c. rw (c .if1 .taken))
     (λ c κs. search needs)
-    (λ c. rw (c .before .if2 .taken) (c .signed-word .ensures))
+    (λ c. rw (c .before .if2 .taken) (c .extended .ensures ∙ extended-exact 4 8 _ (omega arith) (omega arith) (omega arith)))
     (λ c. rw (ne-eqb _ 2 (c .before .if1 .left), ne-eqb _ 6 (c .if2 .left))))

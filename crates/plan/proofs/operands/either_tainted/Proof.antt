@@ -1,7 +1,7 @@
--- `machine::operands::either_tainted` meets its contract. Assumes nothing.
+-- `plan::operands::either_tainted` meets its contract. Assumes nothing.
 use borrow.Author.Needs.{needs}
-use Rattle.machine.proofs.operands.either_tainted.Statement.{statement}
-use Rattle.machine.proofs.operands.either_tainted.Tie as tie
+use Rattle.plan.proofs.operands.either_tainted.Statement.{statement}
+use Rattle.plan.proofs.operands.either_tainted.Tie as tie
 
 pub either-tainted-spec : {M : Type 1} → statement M
 either-tainted-spec =

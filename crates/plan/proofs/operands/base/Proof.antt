@@ -1,7 +1,7 @@
--- `machine::operands::base` meets its contract. Assumes nothing.
+-- `plan::operands::base` meets its contract. Assumes nothing.
 use borrow.Author.Needs.{needs}
-use Rattle.machine.proofs.operands.base.Statement.{statement}
-use Rattle.machine.proofs.operands.base.Tie as tie
+use Rattle.plan.proofs.operands.base.Statement.{statement}
+use Rattle.plan.proofs.operands.base.Tie as tie
 
 pub base-spec : {M : Type 1} → statement M
 base-spec =
