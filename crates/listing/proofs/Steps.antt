@@ -5,13 +5,12 @@ use mathlib.Core.Bool.{Bool, true, false, _&&_, not}
 use mathlib.Core.List.{List, [], _∷_, _++_, append-assoc}
 use native.Mathlib.Numerals.{add-one, add-two, add-three, add-four}
 use native.Mathlib.Omega.{arith}
-use borrow.Author.Tests.{ne-eqb, le-ltb, le-leb, lt-leb, leb-true, leb-false}
+use borrow.Author.Tests.{ne-eqb, le-leb, lt-leb, leb-true, leb-false}
 use lib.Dec.{eqb, leb}
-use lib.ListN.{length, take, drop, getD, length-append, length-drop}
+use lib.ListN.{length, drop, getD, length-append, length-drop}
 use lib.Seq.{drop-cons}
 use Rattle.bits.specs.Bytes.{joined, spanOf}
 use Rattle.bits.specs.Choice.{pick}
-use Rattle.bits.proofs.Lists.{sets-front}
 use Rattle.instruction.specs.declared.answer.Answer.the-variants.{Done, NotInSet, Undefined, Unpredictable}
 use Rattle.instruction.specs.declared.family.Instruction.{Instruction}
 use Rattle.instruction.specs.Answers.{answerNumber}
@@ -20,10 +19,10 @@ use Rattle.decoder.specs.Decoding.{decodeOf, classOf, empty}
 use Rattle.text.specs.Texts.{textOf, textMost}
 use Rattle.ascii.specs.Ascii.{asc}
 use Rattle.ascii.specs.route.Puts.{Puts}
-use Rattle.text.specs.Writing.{Outcome, wordText, copied}
+use Rattle.text.specs.Writing.{wordText}
 use Rattle.text.proofs.Lengths.{text-short}
 use Rattle.ascii.proofs.Pieces.{after, nothing}
-use Rattle.listing.specs.Listing.{hex4, hex8, contentText, answerText, lineText, shortText, lineMost, Within, wordOf, listingOf, listOf}
+use Rattle.listing.specs.Listing.{hex4, hex8, contentText, answerText, lineText, shortText, lineMost, Within, wordOf, listingOf}
 use Rattle.listing.specs.route.Words.{wordAt}
 
 -- ---- the next word
@@ -148,13 +147,6 @@ listing-most (a ∷ b ∷ c ∷ d ∷ rest) =
 
 pub enough : (bs : List ℕ) (room : ℕ) → 10 ≤ room → length bs / 4 ≤ (room - 10) / suc lineMost → leb (length (listingOf bs)) room ≡ true
 enough bs room h k = le-leb (length (listingOf bs)) room (omega (arith, listing-most bs))
-
--- what is listed where there is room for as much
-pub room-listed : (bs output : List ℕ) {r : Outcome} → r ≡ listOf bs output → length bs / 4 * suc lineMost + 10 ≤ length output → (answerNumber (r .answer) ≡ 0) × (take (r .length) (r .buffer) ≡ listingOf bs)
-unfolding listOf copied
-room-listed bs output e h =
-    let fits : length (listingOf bs) ≤ length output = omega (arith, listing-most bs) in
-    rw (e, le-ltb (length output) (length (listingOf bs)) fits) (refl, sets-front (listingOf bs) output fits)
 
 -- ---- measuring: the whole length, and what is still to come, against the room and what is left of it
 

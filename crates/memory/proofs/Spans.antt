@@ -1,12 +1,12 @@
 -- Laws of bytes stored and joined one by one, and of a part that is lent from an index to the end. Assumes nothing.
-use Prim.Native.Nat.{ℕ, zero, suc, _+_, _-_, _*_, _/_, _%_, _^_, _≤_, _<_, min}
+use Prim.Native.Nat.{ℕ, zero, suc, _+_, _-_, _*_, _/_, _%_, _≤_, _<_, min}
 use mathlib.Core.Path.{_≡_, refl, sym, ap, _∙_}
 use mathlib.Core.List.{List, [], _∷_, _++_, append-nil}
 use mathlib.Core.Bool.{true, not}
-use native.Mathlib.Nat.{pow-le-pow-right, lt-of-lt-of-le, add-suc, add-zero}
+use native.Mathlib.Nat.{add-suc, add-zero}
 use native.Mathlib.Omega.{arith}
 use borrow.Author.Tests.{ne-eqb}
-use lib.Dec.{eqb, lit<}
+use lib.Dec.{eqb}
 use lib.ListN.{length, take, drop, getD, set, replicate, take-append-drop, length-drop, drop-of-length-le}
 use lib.Seq.{sets, drop-set-add, take-set-le, getD-drop, take-all}
 use borrow.Rule.Slice.PartMut.{midOf, putMid}
@@ -27,10 +27,6 @@ replicate-left b h = rw (left h)
 pub span-left : (xs : List ℕ) {n i : ℕ} → i < n → spanOf xs i (n - i) ≡ getD xs i 0 ∷ spanOf xs (suc i) (n - suc i)
 unfolding spanOf
 span-left xs h = rw (left h)
-
--- a number of at most 8 bytes
-pub room-64 : (k : ℕ) {v : ℕ} → k ≤ 8 → v < 256 ^ k → v < 2 ^ 64
-room-64 k h l = lt-of-lt-of-le l (pow-le-pow-right (lit< tt) h)
 
 -- a taint byte that is 0 is passed over, and another decides
 pub any-zero : {k b : ℕ} (ks : List ℕ) → b ≡ k → b ≡ 0 → anyTainted (k ∷ ks) ≡ anyTainted ks

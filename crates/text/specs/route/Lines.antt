@@ -30,10 +30,6 @@ pub record Made (t : List ℕ) (p : Pieces) : Type 0 where
   pub text : whole p ≡ t
   pub sound : Sound p
 
--- an operand by its letter: w, x or #
-unfoldable pub letterText : ℕ → ℕ → List ℕ
-letterText letter r = pick (eqb letter 35) (hintText r) (registerText letter r)
-
 -- the first operand in two pieces, of which only the name of a hint has the second
 abbrev pub hintFront : ℕ → List ℕ
 hintFront r = pick (unnamed r) (hintText r ++ asc ", ") (hintKind r ++ hintLevel r)
