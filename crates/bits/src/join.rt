@@ -79,7 +79,8 @@ fn last_four(bytes: &[u8], at: usize) -> u64
     wide(byte_at(bytes, at))
 }
 
-fn wide(byte: u8) -> u64
+// A byte as a number to join.
+pub fn wide(byte: u8) -> u64
     ensures { λ r. ⌜ (r ≡ byte) × (r < 256) ⌝ }
 {
     byte as u64

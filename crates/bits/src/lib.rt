@@ -8,6 +8,7 @@ pub use extend::extended;
 pub use join::byte_at;
 pub use join::eight_at;
 pub use join::four_at;
+pub use join::wide;
 pub use number::magnitude;
 pub use number::twos_complement;
 

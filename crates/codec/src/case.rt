@@ -34,31 +34,11 @@ pub fn case_at(block: &[u8], at: usize) -> Case {
     }
 }
 
-// The number whose first byte lies so far behind the start of a case; 0 past the end of the block.
+// The number whose first byte lies so far behind the start of a case; bytes past the end of the block are 0.
 fn number(block: &[u8], at: usize, behind: usize) -> u64 {
     if at > block.len() {
         return 0;
     }
     let rest = &block[at..];
-    if behind > rest.len() {
-        return 0;
-    }
-    little_endian(&rest[behind..])
-}
-
-fn little_endian(bytes: &[u8]) -> u64 {
-    if bytes.len() < 8 {
-        return 0;
-    }
-    let low = four(bytes[0], bytes[1], bytes[2], bytes[3]);
-    let high = four(bytes[4], bytes[5], bytes[6], bytes[7]);
-    low | high << 32
-}
-
-fn four(a: u8, b: u8, c: u8, d: u8) -> u64 {
-    wide(a) | wide(b) << 8 | wide(c) << 16 | wide(d) << 24
-}
-
-fn wide(byte: u8) -> u64 {
-    byte as u64
+    bits::eight_at(rest, behind)
 }

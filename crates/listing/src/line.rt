@@ -34,17 +34,12 @@ fn four_digits(n: u32) -> u64
     ensures { λ r. ⌜ (bytesOf 4 r ≡ hex4 n) × (r < 2 ^ 32) ⌝ }
 {
     let digits = b"0123456789abcdef";
-    wide(digits[(n / 4096 % 16) as usize])
-        + (wide(digits[(n / 256 % 16) as usize])
-            + (wide(digits[(n / 16 % 16) as usize]) + wide(digits[(n / 1 % 16) as usize]) * 256)
+    bits::wide(digits[(n / 4096 % 16) as usize])
+        + (bits::wide(digits[(n / 256 % 16) as usize])
+            + (bits::wide(digits[(n / 16 % 16) as usize])
+                + bits::wide(digits[(n / 1 % 16) as usize]) * 256)
                 * 256)
             * 256
-}
-
-fn wide(byte: u8) -> u64
-    ensures { λ r. ⌜ (r ≡ byte) × (r < 256) ⌝ }
-{
-    byte as u64
 }
 
 // The number of a word's answer, and the position behind what is shown of the word.

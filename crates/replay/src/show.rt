@@ -77,14 +77,10 @@ fn put_bytes(output: &mut [u8], at: usize, name: &[u8], bytes: &[u8]) -> usize {
     let mut end = ascii::put_text(output, at, name);
     let mut i = 0;
     while i < bytes.len() {
-        end = put_hex(output, end, wide(bytes[i]), 2);
+        end = put_hex(output, end, bits::wide(bytes[i]), 2);
         i += 1;
     }
     ascii::put_byte(output, end, b'\n')
-}
-
-fn wide(byte: u8) -> u64 {
-    byte as u64
 }
 
 fn put_hex(output: &mut [u8], at: usize, number: u64, width: usize) -> usize {
