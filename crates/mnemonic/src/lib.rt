@@ -11,7 +11,7 @@ pub use names::Name;
 pub use names::name_at;
 ghost use mathlib.Core.Path.{_≡_};
 ghost use Rattle.instruction.specs.Operations.{pairOpc, pairLoad};
-ghost use Prim.Native.Nat.{_+_, _*_, _<_};
+ghost use Prim.Native.Nat.{_+_, _*_};
 ghost use Rattle.mnemonic.specs.Mnemonics.{sizedName, literalSized, literalName, pairName};
 ghost use Rattle.mnemonic.specs.Operands.{sizedOperand, literalOperand, pairOperand};
 ghost use Rattle.mnemonic.specs.route.Named.{known, told};

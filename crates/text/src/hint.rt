@@ -2,9 +2,8 @@
 use crate::piece;
 use crate::piece::Piece;
 ghost use mathlib.Core.Path.{_≡_};
-ghost use mathlib.Core.Bool.{false};
 ghost use mathlib.Core.List.{_++_};
-ghost use Prim.Native.Nat.{_+_, _%_, _^_, _<_, _≤_};
+ghost use Prim.Native.Nat.{_+_, _^_, _<_, _≤_};
 ghost use Rattle.ascii.specs.Ascii.{asc};
 ghost use Rattle.text.specs.Hints.{unnamed};
 ghost use Rattle.text.specs.route.Pieces.{Low, Leads, Shows};

@@ -30,7 +30,7 @@ pub record Made (t : List ℕ) (p : Pieces) : Type 0 where
   pub text : whole p ≡ t
   pub sound : Sound p
 
--- the first operand in two pieces, of which only the name of a hint has the second
+-- the first operand in two pieces, by its letter, w, x or #; only the name of a hint has the second
 abbrev pub hintFront : ℕ → List ℕ
 hintFront r = pick (unnamed r) (hintText r ++ asc ", ") (hintKind r ++ hintLevel r)
 
