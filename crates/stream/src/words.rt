@@ -70,9 +70,9 @@ fn kept(rest: &[u8]) -> Lister
     ensures { λ r. ⌜ r ≡ holding (now (rest .entry)) ⌝ }
 {
     Lister {
-        first: byte_at(rest, 0),
-        second: byte_at(rest, 1),
-        third: byte_at(rest, 2),
+        first: bits::byte_at(rest, 0),
+        second: bits::byte_at(rest, 1),
+        third: bits::byte_at(rest, 2),
         count: rest.len() as u8,
         closed: 0,
     }
@@ -98,15 +98,5 @@ fn byte_of(lister: Lister, fragment: &[u8], i: usize) -> u8
         let held = [lister.first, lister.second, lister.third];
         return held[i];
     }
-    byte_at(fragment, i - count)
-}
-
-// A byte, and 0 behind the end.
-fn byte_at(bytes: &[u8], i: usize) -> u8
-    ensures { λ r. ⌜ r ≡ getD (now (bytes .entry)) i 0 ⌝ }
-{
-    if i < bytes.len() {
-        return bytes[i];
-    }
-    0
+    bits::byte_at(fragment, i - count)
 }
