@@ -2,3 +2,4 @@ pub mod Files
 pub mod Refusals
 pub mod Secrecy
 pub mod Walks
+pub mod Decisions

@@ -93,12 +93,7 @@ fn walk(
             taint,
         ) {
             Decision::Refused(answer, address) => {
-                return Ran {
-                    state,
-                    steps: i,
-                    answer,
-                    shown: Shown { code: 0, address },
-                };
+                return ended(state, i, answer, Shown { code: 0, address });
             }
             Decision::Passed(shown) => {
                 noted(trace, i, shown);
@@ -115,11 +110,18 @@ fn walk(
             }
         }
     }
+    ended(state, i, Answer::Done, last)
+}
+
+// What is returned after so many steps, with the answer of the last step tried and what it shows.
+fn ended(state: State, steps: usize, answer: Answer, shown: Shown) -> Ran
+    ensures { λ r. ⌜ ((m k t : List ℕ) → result r m k t ≡ record { machine = machineOf state m k; trace = t; steps = steps; answer = answer; shown = shown }) ⌝ }
+{
     Ran {
         state,
-        steps: i,
-        answer: Answer::Done,
-        shown: last,
+        steps,
+        answer,
+        shown,
     }
 }
 

@@ -1,14 +1,14 @@
 -- `execution::walk` meets its contract. The loop's invariant: what is done, with what is still to do from here, is
--- the whole; a decision tells the step that the definition makes (`steps`). Assumes nothing.
+-- the whole; each arm is one law of proofs/Decisions.antt. Assumes nothing.
 use Prim.Native.Nat.{_*_, _-_, _≤_}
-use mathlib.Core.Path.{_≡_, sym, _∙_}
+use mathlib.Core.Path.{_≡_, _∙_}
 use native.Mathlib.Omega.{arith}
-use lib.ListN.{length, drop, getD}
+use lib.ListN.{length, drop}
 use Rattle.machine.specs.Machine.{machineOf}
 use Rattle.machine.specs.Step.{shown, stepOf}
-use Rattle.machine.proofs.Writing.{steps, kept}
 use Rattle.execution.specs.Walk.{walkOf, glue}
-use Rattle.execution.proofs.Walks.{walk-more, walk-stop, walk-end}
+use Rattle.execution.proofs.Walks.{walk-end}
+use Rattle.execution.proofs.Decisions.{goes-on, stops}
 use borrow.Author.Needs.{needs}
 use Rattle.execution.proofs.walk.Statement.{statement}
 use Rattle.execution.proofs.walk.Tie as tie
@@ -32,17 +32,17 @@ walk-spec =
     (λ c. search needs)
     (λ c κs. search needs)
     (λ c. search needs)
+    (λ c κs. search needs)
     (λ c. search needs)
     (λ c. search needs)
     (λ c. search needs)
     (λ c.
-    let a = c .before .before .before .before .before .before .before .before .before .before .before .before .before .before .before .before .before .before .before .before .before .before .args in
-    let l = c .before .before .before .before .before .before .before .before .before .before .before .before .before .before .before .before .before .loop in
-    let below = c .before .before .before .before .before .before .before .before .before .before .before .before .before .before .before .before .loop-test .taken in
+    let a = c .before .before .before .before .before .before .before .before .before .before .before .before .before .before .before .before .before .before .before .before .before .before .before .args in
+    let l = c .before .before .before .before .before .before .before .before .before .before .before .before .before .before .before .before .before .before .loop in
+    let below = c .before .before .before .before .before .before .before .before .before .before .before .before .before .before .before .before .before .loop-test .taken in
     let m = machineOf (l .state) (l .memory) (l .taint) in
-    let s = stepOf (a .window) (getD (a .words .now) (l .i) 0) m in
-    let told = rw (c .before .answer .given .1) at (c .before .before .before .before .before .before .before .decide .ensures) in
-    rw (kept m s told) (walk-stop (stepOf (a .window)) (a .words .now) (l .i) m (l .trace) (l .last) below (sym (steps m s told))) ∙ l .inv .5)
+    let told = rw (c .before .before .answer .given .1) at (c .before .before .before .before .before .before .before .before .decide .ensures) in
+    c .ended .ensures _ _ _ ∙ stops (a .window) (a .words .now) (l .i) m (l .trace) (l .last) below (l .inv .5) told)
     (λ c. search needs)
     (λ c κs. search needs)
     (λ c. omega (arith, c .before .before .before .before .before .before .before .before .before .before .before .before .before .before .before .before .before .before .before .before .loop-test .taken, c .before .before .before .before .before .before .before .before .before .before .before .before .before .before .before .before .before .before .before .before .before .before .before .before .before .before .good .0))
@@ -53,14 +53,13 @@ walk-spec =
     let l = c .before .before .before .before .before .before .before .before .before .before .before .before .before .before .before .before .before .before .before .before .before .before .loop in
     let below = c .before .before .before .before .before .before .before .before .before .before .before .before .before .before .before .before .before .before .before .before .before .loop-test .taken in
     let m = machineOf (l .state) (l .memory) (l .taint) in
-    let s = stepOf (a .window) (getD (a .words .now) (l .i) 0) m in
     let told = rw (c .before .before .before .before .before .before .shown .given .1) at (c .before .before .before .before .before .before .before .before .before .before .before .before .decide .ensures) in (
       omega (arith, below),
       search needs,
       search needs,
       search needs,
       search needs,
-      rw (c .next-pc .ensures, c .before .before .before .noted .ensures) (sym (walk-more (stepOf (a .window)) (a .words .now) (l .i) m (l .trace) (l .last) below (sym (steps m s told))) ∙ l .inv .5),
+      rw (c .next-pc .ensures, c .before .before .before .noted .ensures) (goes-on (a .window) (a .words .now) (l .i) m (l .trace) (l .last) below (l .inv .5) told),
     ))
     (λ c. search needs)
     (λ c κs. search needs)
@@ -72,19 +71,19 @@ walk-spec =
     let l = c .before .before .before .before .before .before .before .before .before .before .before .before .before .before .before .before .before .before .before .before .before .before .loop in
     let below = c .before .before .before .before .before .before .before .before .before .before .before .before .before .before .before .before .before .before .before .before .before .loop-test .taken in
     let m = machineOf (l .state) (l .memory) (l .taint) in
-    let s = stepOf (a .window) (getD (a .words .now) (l .i) 0) m in
     let told = rw (c .before .before .before .before .before .before .shown2 .given .1) at (c .before .before .before .before .before .before .before .before .before .before .before .before .decide .ensures) in (
       omega (arith, below),
       search needs,
       search needs,
       search needs,
       search needs,
-      rw (c .settled .ensures, c .before .before .before .noted2 .ensures) (sym (walk-more (stepOf (a .window)) (a .words .now) (l .i) m (l .trace) (l .last) below (sym (steps m s told))) ∙ l .inv .5),
+      rw (c .settled .ensures, c .before .before .before .noted2 .ensures) (goes-on (a .window) (a .words .now) (l .i) m (l .trace) (l .last) below (l .inv .5) told),
     ))
+    (λ c κs. search needs)
     (λ c. search needs)
     (λ c. search needs)
     (λ c. search needs)
     (λ c.
-    let l = c .before .loop in
-    let a = c .before .before .before .before .before .before .args in
-    walk-end (stepOf (a .window)) (a .words .now) (l .i) (machineOf (l .state) (l .memory) (l .taint)) (l .trace) (l .last) (c .loop-test .left) ∙ l .inv .5))
+    let l = c .before .before .loop in
+    let a = c .before .before .before .before .before .before .before .args in
+    c .ended2 .ensures _ _ _ ∙ walk-end (stepOf (a .window)) (a .words .now) (l .i) (machineOf (l .state) (l .memory) (l .taint)) (l .trace) (l .last) (c .before .loop-test .left) ∙ l .inv .5))
