@@ -1,6 +1,6 @@
 -- The two parts of a mnemonic make its name: one computed test for each stem over the codes of all operations. Assumes nothing.
 use Prim.Native.Nat.{ℕ, _+_, _*_, _<_}
-use mathlib.Core.Path.{_≡_, refl}
+use mathlib.Core.Path.{_≡_, refl, _∙_}
 use mathlib.Core.Bool.{Bool, true, false, _&&_, false≢true}
 use mathlib.Core.List.{List, [], _∷_}
 use native.Mathlib.Omega.{arith}
@@ -19,7 +19,7 @@ use Rattle.mnemonic.specs.declared.Stem.{Stem}
 use Rattle.mnemonic.specs.declared.Mnemonic.{Mnemonic}
 use Rattle.mnemonic.specs.declared.table.SizedEntry.{SizedEntry}
 use Rattle.mnemonic.specs.declared.table.PairEntry.{PairEntry}
-use Rattle.mnemonic.specs.route.Named.{known, told}
+use Rattle.mnemonic.specs.route.Named.{Known, known, told}
 use Rattle.mnemonic.specs.route.Parts.{sizedStem, pairStem, sizedEntry, pairEntry, behindStem}
 
 -- ---- a test of what a mnemonic tells
@@ -65,12 +65,17 @@ all-sized Stem.Plain = refl
 all-sized Stem.Unscale = refl
 all-sized Stem.Order = refl
 
-pub sized-is : (stem : Stem) (op : SizedOp) {size opc t : ℕ} {e : SizedEntry} {m : Mnemonic} → size ≡ sizeOf op → opc ≡ opcOf op → e ≡ sizedEntry (sizedAt (size * 4 + opc))
+pub sized-is : (stem : Stem) (op : SizedOp) {t : ℕ} {e : SizedEntry} {m : Mnemonic} → e ≡ sizedEntry op
     → t ≡ sizedStem stem (e .kind) → m ≡ behindStem t (e .letters) (e .shape) → known m ≡ told (sizedName stem op) (sizedOperand op)
 unfolding sizedTest sizedMade
-sized-is stem op s o e t m =
+sized-is stem op e t m =
     let k : sizeOf op * 4 + opcOf op < 16 = omega (arith, sized op .size, sized op .opc) in
-    rw (m, t, e, s, o, sized-at op) (tells-is _ _ (sizedOperand op) (rw (sized-at op) at (tested 16 (sizedTest stem) (all-sized stem) (sizeOf op * 4 + opcOf op) k)))
+    rw (m, t, e) (tells-is _ _ (sizedOperand op) (rw (sized-at op) at (tested 16 (sizedTest stem) (all-sized stem) (sizeOf op * 4 + opcOf op) k)))
+
+-- by the two fields of a word
+pub sized-by : (stem : Stem) (op : SizedOp) {size opc : ℕ} {k : Known} → size ≡ sizeOf op → opc ≡ opcOf op
+    → k ≡ told (sizedName stem (sizedAt (size * 4 + opc))) (sizedOperand (sizedAt (size * 4 + opc))) → k ≡ told (sizedName stem op) (sizedOperand op)
+sized-by stem op s o e = e ∙ rw (s, o, sized-at op)
 
 -- ---- pairs
 
@@ -87,9 +92,13 @@ all-pairs PairMode.Post = refl
 all-pairs PairMode.Offset = refl
 all-pairs PairMode.Pre = refl
 
-pub pair-is : (mode : PairMode) (op : PairOp) {code t : ℕ} {e : PairEntry} {m : Mnemonic} → code ≡ pairOpc op * 2 + pairLoad op → e ≡ pairEntry (pairAt code)
+pub pair-is : (mode : PairMode) (op : PairOp) {t : ℕ} {e : PairEntry} {m : Mnemonic} → e ≡ pairEntry op
     → t ≡ pairStem mode (e .kind) → m ≡ behindStem t (e .letters) (e .shape) → known m ≡ told (pairName mode op) (pairOperand op)
 unfolding pairTest pairMade
-pair-is mode op s e t m =
+pair-is mode op e t m =
     let k : pairOpc op * 2 + pairLoad op < 8 = omega (arith, paired op .opc, paired op .load) in
-    rw (m, t, e, s, pair-at op) (tells-is _ _ (pairOperand op) (rw (pair-at op) at (tested 8 (pairTest mode) (all-pairs mode) (pairOpc op * 2 + pairLoad op) k)))
+    rw (m, t, e) (tells-is _ _ (pairOperand op) (rw (pair-at op) at (tested 8 (pairTest mode) (all-pairs mode) (pairOpc op * 2 + pairLoad op) k)))
+
+pub pair-by : (mode : PairMode) (op : PairOp) {code : ℕ} {k : Known} → code ≡ pairOpc op * 2 + pairLoad op
+    → k ≡ told (pairName mode (pairAt code)) (pairOperand (pairAt code)) → k ≡ told (pairName mode op) (pairOperand op)
+pair-by mode op s e = e ∙ rw (s, pair-at op)

@@ -10,12 +10,12 @@ use instruction::SizedOp;
 pub use names::Name;
 pub use names::name_at;
 ghost use mathlib.Core.Path.{_≡_};
-ghost use Rattle.instruction.specs.Operations.{pairOpc, pairLoad};
+ghost use Rattle.instruction.specs.Operations.{sizedAt, pairAt, pairOpc, pairLoad};
 ghost use Prim.Native.Nat.{_+_, _*_};
 ghost use Rattle.mnemonic.specs.Mnemonics.{sizedName, literalSized, literalName, pairName};
 ghost use Rattle.mnemonic.specs.Operands.{sizedOperand, literalOperand, pairOperand};
 ghost use Rattle.mnemonic.specs.route.Named.{known, told};
-ghost use Rattle.mnemonic.specs.route.Names.{nameText, nameOperand};
+ghost use Rattle.mnemonic.specs.route.Names.{nameAt, nameText, nameOperand};
 
 // The letters are packed into a number, the first lowest. The shape has their number in its low byte, and the letter
 // of the operand above it.
@@ -34,7 +34,16 @@ pub enum Stem {
 pub fn sized_name(stem: Stem, op: SizedOp) -> Mnemonic
     ensures { λ r. ⌜ known r ≡ told (sizedName stem op) (sizedOperand op) ⌝ }
 {
-    let entry = table::sized_entry(instruction::size_field(op) * 4 + instruction::opc_field(op));
+    sized_at(
+        stem,
+        instruction::size_field(op) * 4 + instruction::opc_field(op),
+    )
+}
+
+fn sized_at(stem: Stem, code: u32) -> Mnemonic
+    ensures { λ r. ⌜ known r ≡ told (sizedName stem (sizedAt code)) (sizedOperand (sizedAt code)) ⌝ }
+{
+    let entry = table::sized_entry(code);
     stems::behind_stem(
         stems::sized_stem(stem, entry.kind),
         entry.letters,
@@ -62,7 +71,13 @@ fn literal_sized(op: LiteralOp) -> SizedOp
 pub fn pair_name(mode: PairMode, op: PairOp) -> Mnemonic
     ensures { λ r. ⌜ known r ≡ told (pairName mode op) (pairOperand op) ⌝ }
 {
-    let entry = table::pair_entry(pair_code(op));
+    pair_at(mode, pair_code(op))
+}
+
+fn pair_at(mode: PairMode, code: u32) -> Mnemonic
+    ensures { λ r. ⌜ known r ≡ told (pairName mode (pairAt code)) (pairOperand (pairAt code)) ⌝ }
+{
+    let entry = table::pair_entry(code);
     stems::behind_stem(
         stems::pair_stem(mode, entry.kind),
         entry.letters,
@@ -82,13 +97,15 @@ fn pair_code(op: PairOp) -> u32
     }
 }
 
-// The mnemonic of a name.
-pub fn mnemonic_of(name: Name) -> Mnemonic
-    ensures { λ r. ⌜ known r ≡ told (nameText name) (nameOperand name) ⌝ }
+// The mnemonic of a name, by its number.
+pub fn mnemonic_at(number: u32) -> Mnemonic
+    ensures { λ r. ⌜ known r ≡ told (nameText (nameAt number)) (nameOperand (nameAt number)) ⌝ }
 {
-    match name {
-        Name::Sized(stem, op) => sized_name(stem, op),
-        Name::NoAllocatePair(op) => pair_name(PairMode::NoAllocate, op),
-        Name::AllocatePair(op) => pair_name(PairMode::Offset, op),
+    if number < 48 {
+        return sized_at(names::stem_at(number / 16), number % 16);
     }
+    if number < 56 {
+        return pair_at(PairMode::NoAllocate, number % 8);
+    }
+    pair_at(PairMode::Offset, number % 8)
 }

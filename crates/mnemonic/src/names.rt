@@ -30,7 +30,7 @@ pub fn name_at(number: u32) -> Name
 
 // An ordered prefetch, which there is not, would have the name of an unscaled one. The ordered names come first, so that
 // a search from the end finds the other.
-fn stem_at(number: u32) -> Stem
+pub fn stem_at(number: u32) -> Stem
     ensures { λ r. ⌜ r ≡ stemAt number ⌝ }
 {
     match number {

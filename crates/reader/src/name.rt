@@ -3,6 +3,7 @@ use mnemonic::Mnemonic;
 use mnemonic::Name;
 ghost use mathlib.Core.Path.{_≡_};
 ghost use Prim.Native.Nat.{_%_};
+ghost use Rattle.mnemonic.specs.route.Names.{nameAt};
 ghost use Rattle.reader.specs.route.Names.{letterFor, aligned, isName, nameFor};
 
 // The name with the keys of the first operand and the mnemonic. A mnemonic that no name has gives one too: it is a guess.
@@ -13,9 +14,8 @@ pub fn name_for(operand: u64, name: u64) -> Name
     let mut number = 64;
     while number > 0 {
         number -= 1;
-        let found = mnemonic::name_at(number);
-        if is_name(found, name, letter) {
-            return found;
+        if is_name(number, name, letter) {
+            return mnemonic::name_at(number);
         }
     }
     mnemonic::name_at(0)
@@ -34,10 +34,10 @@ fn letter_for(operand: u64) -> u16
     }
 }
 
-fn is_name(found: Name, name: u64, letter: u16) -> bool
-    ensures { λ r. ⌜ r ≡ isName found name letter ⌝ }
+fn is_name(number: u32, name: u64, letter: u16) -> bool
+    ensures { λ r. ⌜ r ≡ isName (nameAt number) name letter ⌝ }
 {
-    let m = mnemonic::mnemonic_of(found);
+    let m = mnemonic::mnemonic_at(number);
     (m.shape / 256 == letter) & (high(m) == name)
 }
 

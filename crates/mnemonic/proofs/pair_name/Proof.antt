@@ -1,5 +1,5 @@
 -- `mnemonic::pair_name` meets its contract. Assumes nothing.
-use Rattle.mnemonic.proofs.Told.{pair-is}
+use Rattle.mnemonic.proofs.Told.{pair-by}
 use borrow.Author.Needs.{needs}
 use Rattle.mnemonic.proofs.pair_name.Statement.{statement}
 use Rattle.mnemonic.proofs.pair_name.Tie as tie
@@ -10,8 +10,6 @@ pair-name-spec =
     (tie.spec
     (λ c κs. search needs)
     (λ c κs. search needs)
-    (λ c κs. search needs)
-    (λ c κs. search needs)
     (λ c.
-    let entry = c .before .before .before .before in
-    pair-is (entry .args .mode) (entry .args .op) (c .before .before .before .pair-code .ensures) (c .before .before .pair-entry .ensures) (c .before .pair-stem .ensures) (c .behind-stem .ensures)))
+    let entry = c .before .before .args in
+    pair-by (entry .mode) (entry .op) (c .before .pair-code .ensures) (c .pair-at .ensures)))

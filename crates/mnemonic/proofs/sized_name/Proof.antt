@@ -1,5 +1,5 @@
 -- `mnemonic::sized_name` meets its contract. Assumes nothing.
-use Rattle.mnemonic.proofs.Told.{sized-is}
+use Rattle.mnemonic.proofs.Told.{sized-by}
 use borrow.Author.Needs.{needs}
 use Rattle.mnemonic.proofs.sized_name.Statement.{statement}
 use Rattle.mnemonic.proofs.sized_name.Tie as tie
@@ -13,8 +13,6 @@ sized-name-spec =
     (λ c κs. search needs)
     (λ c. search needs)
     (λ c κs. search needs)
-    (λ c κs. search needs)
-    (λ c κs. search needs)
     (λ c.
-    let entry = c .before .before .before .before .before in
-    sized-is (entry .args .stem) (entry .args .op) (c .before .before .before .before .size-field .ensures .0) (c .before .before .before .opc-field .ensures .0) (c .before .before .sized-entry .ensures) (c .before .sized-stem .ensures) (c .behind-stem .ensures)))
+    let entry = c .before .before .before .args in
+    sized-by (entry .stem) (entry .op) (c .before .before .size-field .ensures .0) (c .before .opc-field .ensures .0) (c .sized-at .ensures)))

@@ -1,5 +1,5 @@
 -- `reader::name::is_name` meets its contract. Assumes nothing.
-use Rattle.mnemonic.specs.route.Names.{nameText, nameOperand}
+use Rattle.mnemonic.specs.route.Names.{nameAt, nameText, nameOperand}
 use Rattle.mnemonic.proofs.Numbered.{letters-of}
 use Rattle.reader.specs.route.Names.{isName}
 use borrow.Author.Needs.{needs}
@@ -14,6 +14,6 @@ is-name-spec =
     (λ c κs. search needs)
     (λ c κs. search needs)
     (λ c.
-    let found = c .before .before .before .args .found in
-    let l = letters-of _ (nameText found) (nameOperand found) (c .before .before .mnemonic-of .ensures) in
+    let found = nameAt (c .before .before .before .args .number) in
+    let l = letters-of _ (nameText found) (nameOperand found) (c .before .before .mnemonic-at .ensures) in
     rw (c .high .ensures, l .letters, l .count, l .letter)))

@@ -4,8 +4,7 @@ use mathlib.Core.Path.{_≡_, refl, sym, ap, _∙_}
 use mathlib.Core.Bool.{true, false}
 use native.Mathlib.Omega.{arith}
 use Rattle.mnemonic.specs.route.Names.{nameAt}
-use Rattle.reader.specs.Types.{Name}
-use Rattle.reader.specs.route.Names.{isName, searched, nameFor}
+use Rattle.reader.specs.route.Names.{isName, searched, nameFor, letterFor}
 use borrow.Author.Needs.{needs}
 use Rattle.reader.proofs.name.name_for.Statement.{statement}
 use Rattle.reader.proofs.name.name_for.Tie as tie
@@ -40,22 +39,17 @@ name-for-spec =
     (λ c κs. search needs)
     (λ c κs. search needs)
     (λ c.
-    let call = c .before .before .name-at in
     let loop = c .before .before .before .before .loop in
     let letter = c .before .before .before .before .before .letter-for in
     let name = c .before .before .before .before .before .before .args .name in
-    call .ensures ∙ sym (here name (letter .result) (omega (arith, c .before .before .before .loop-test .taken)) (ap (λ (x : Name). isName x name (letter .result)) (sym (call .ensures)) ∙ sym (c .before .is-name .ensures) ∙ c .if1 .taken))
+    c .name-at .ensures ∙ sym (here name (letter .result) (omega (arith, c .before .before .before .loop-test .taken)) (sym (c .before .before .is-name .ensures) ∙ c .before .if1 .taken))
     ∙ loop .inv .1 ∙ ap (searched 64 name) (letter .ensures))
     (λ c. omega arith)
     (λ c.
-    let call = c .before .before .name-at in
-    let loop = c .before .before .before .before .loop in
-    let letter = c .before .before .before .before .before .letter-for in
-    let name = c .before .before .before .before .before .before .args .name in (
-      omega arith,
-      sym (farther name (letter .result) (omega (arith, c .before .before .before .loop-test .taken)) (ap (λ (x : Name). isName x name (letter .result)) (sym (call .ensures)) ∙ sym (c .before .is-name .ensures) ∙ c .if1 .left))
-          ∙ loop .inv .1,
-    ))
+    let loop = c .before .before .before .loop in
+    let letter = c .before .before .before .before .letter-for in
+    let name = c .before .before .before .before .before .args .name in
+    (omega arith, sym (farther name (letter .result) (omega (arith, c .before .before .loop-test .taken)) (sym (c .before .is-name .ensures) ∙ c .if1 .left)) ∙ loop .inv .1))
     (λ c κs. search needs)
     (λ c.
     let letter = c .before .before .before .letter-for in
