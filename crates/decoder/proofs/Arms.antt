@@ -18,7 +18,7 @@ use Rattle.instruction.specs.Answers.{answerNumber}
 use Rattle.instruction.specs.Operands.{literalIn, pairIn, signedIn, unsignedIn}
 use Rattle.instruction.specs.Table.{columnsOf, matches, inSet, rowOf, undefined, allocated, unpredictable}
 use Rattle.instruction.specs.Operations.{modeAt, pairBytes, sizedBytes}
-use Rattle.decoder.specs.Decoding.{decodeOf, classOf, empty}
+use Rattle.decoder.specs.Decoding.{decodeOf, decodedFrom, classOf, empty}
 use Rattle.instruction.proofs.Rows.{no-row, set-matches, of-set, rowed}
 
 -- ---- operands
@@ -83,9 +83,9 @@ allocation true false true = refl
 allocation true false false = refl
 
 -- decoding answers no 4
-pub decoded-is : (w : ℕ) {r : Decoded} {a : Answer} → Examined w r → a ≡ pick (eqb (answerNumber (r .answer)) 4) Answer.Done (r .answer) → record { answer = a; instruction = r .instruction } ≡ decodeOf w
+pub decoded-is : (w : ℕ) {r : Decoded} → Examined w r → decodedFrom r ≡ decodeOf w
 unfolding classOf decodeOf
-decoded-is w p e = rw (e, p .0, p .1, decoding (inSet w) (undefined w) (unpredictable w))
+decoded-is w p = rw (p .0, p .1, decoding (inSet w) (undefined w) (unpredictable w))
 
 pub allocated-is : (w : ℕ) {a : Answer} {n : ℕ} → a ≡ classOf w → n ≡ answerNumber a → (eqb n 0 || eqb n 4) ≡ allocated w
 unfolding classOf allocated

@@ -74,7 +74,7 @@ pub fn literal_op(opc: u32) -> LiteralOp
     }
 }
 
-fn sized_op(code: u32) -> SizedOp
+pub fn sized_op(code: u32) -> SizedOp
     ensures { λ r. ⌜ r ≡ sizedAt code ⌝ }
 {
     match code {
@@ -101,7 +101,7 @@ pub fn sized_op_in(word: u32) -> SizedOp
     sized_op(word / 0x4000_0000 % 4 * 4 + word / 0x40_0000 % 4)
 }
 
-fn pair_op(code: u32) -> PairOp
+pub fn pair_op(code: u32) -> PairOp
     ensures { λ r. ⌜ r ≡ pairAt code ⌝ }
 {
     match code {

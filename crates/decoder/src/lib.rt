@@ -1,22 +1,29 @@
 // A word to its instruction. Every word has an answer, and nobody has to check first.
-mod family;
+pub mod family;
 mod row;
 mod undefined;
-mod unpredictable;
-mod view;
+pub mod unpredictable;
+pub mod view;
 
 use instruction::Answer;
 use instruction::Decoded;
 pub use view::examine;
 ghost use mathlib.Core.Path.{_≡_};
 ghost use Rattle.instruction.specs.Table.{allocated};
-ghost use Rattle.decoder.specs.Decoding.{decodeOf, classOf};
+ghost use Rattle.decoder.specs.Decoding.{decodeOf, decodedFrom, classOf};
 
 // The instruction of a word, or answer 2 or 3 and the empty instruction.
 pub fn decode(word: u32) -> Decoded
     ensures { λ r. ⌜ r ≡ decodeOf word ⌝ }
 {
     let examined = examine(word);
+    decoded(examined)
+}
+
+// What decoding says of a word that was examined: it gives no answer 4.
+pub fn decoded(examined: Decoded) -> Decoded
+    ensures { λ r. ⌜ r ≡ decodedFrom examined ⌝ }
+{
     let answer = examined.answer;
     let instruction = examined.instruction;
     if instruction::answer_number(answer) == 4 {

@@ -58,7 +58,7 @@ pub fn examine(word: u32) -> Decoded
 }
 
 // A word of the set that is undefined or unpredictable or of this family.
-fn viewed(undefined: bool, unpredictable: bool, family: Family) -> Decoded
+pub fn viewed(undefined: bool, unpredictable: bool, family: Family) -> Decoded
     ensures { λ r. ⌜ (r .answer ≡ pick undefined Answer.Undefined (pick unpredictable Answer.Unpredictable Answer.Done)) × (r .instruction ≡ pick undefined empty (record { family = family })) ⌝ }
 {
     if undefined {
@@ -79,7 +79,8 @@ fn allocated_answer(unpredictable: bool) -> Answer
     Answer::Done
 }
 
-fn refused(answer: Answer) -> Decoded
+// A word without an instruction.
+pub fn refused(answer: Answer) -> Decoded
     ensures { λ r. ⌜ (r .answer ≡ answer) × (r .instruction ≡ empty) ⌝ }
 {
     Decoded {

@@ -1,6 +1,5 @@
 -- `decoder::decode` meets its contract. Assumes nothing.
-use mathlib.Core.Path.{sym, _∙_}
-use borrow.Author.Tests.{eq-eqb, ne-eqb}
+use mathlib.Core.Path.{_∙_}
 use Rattle.decoder.proofs.Arms.{decoded-is}
 use borrow.Author.Needs.{needs}
 use Rattle.decoder.proofs.decode.Statement.{statement}
@@ -12,5 +11,4 @@ decode-spec =
     (tie.spec
     (λ c κs. search needs)
     (λ c κs. search needs)
-    (λ c. decoded-is _ (c .before .before .before .examine .ensures) (rw (eq-eqb _ 4 (sym (c .before .answer-number .ensures .0) ∙ c .if1 .taken))))
-    (λ c. decoded-is _ (c .before .before .before .examine .ensures) (rw (ne-eqb _ 4 (λ h. c .if1 .left (c .before .answer-number .ensures .0 ∙ h))))))
+    (λ c. c .decoded .ensures ∙ decoded-is _ (c .before .examine .ensures)))
