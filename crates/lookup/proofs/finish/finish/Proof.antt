@@ -1,0 +1,61 @@
+-- `lookup::finish::finish` meets its contract. Assumes nothing.
+use mathlib.Core.Path.{refl}
+use Rattle.bits.specs.Fields.{part}
+use Rattle.instruction.specs.declared.row.Row.{Row}
+use Rattle.lookup.proofs.Arms.{arm}
+use borrow.Author.Needs.{needs}
+use Rattle.lookup.proofs.finish.finish.Statement.{statement}
+use Rattle.lookup.proofs.finish.finish.Tie as tie
+
+pub finish-spec : {M : Type 1} → statement M
+unfolding part
+finish-spec =
+    tie.close
+    (tie.spec
+    (λ c κs. search needs)
+    (λ c. search needs)
+    (λ c κs. search needs)
+    (λ c. search needs)
+    (λ c κs. search needs)
+    (λ c κs. search needs)
+    (λ c κs. search needs)
+    (λ c. search needs)
+    (λ c κs. search needs)
+    (λ c κs. search needs)
+    (λ c κs. search needs)
+    (λ c κs. search needs)
+    (λ c. search needs)
+    (λ c κs. search needs)
+    (λ c κs. search needs)
+    (λ c κs. search needs)
+    (λ c. search needs)
+    (λ c κs. search needs)
+    (λ c κs. search needs)
+    (λ c κs. search needs)
+    (λ c. search needs)
+    (λ c κs. search needs)
+    (λ c κs. search needs)
+    (λ c κs. search needs)
+    (λ c κs. search needs)
+    (λ c. search needs)
+    (λ c κs. search needs)
+    (λ c κs. search needs)
+    (λ c κs. search needs)
+    (λ c κs. search needs)
+    (λ c. search needs)
+    (λ c κs. search needs)
+    (λ c κs. search needs)
+    (λ c κs. search needs)
+    (λ c. search needs)
+    (λ c κs. search needs)
+    (λ c κs. search needs)
+    (λ c κs. search needs)
+    (λ c. arm _ _ (c .before .before .before .row-in .ensures) Row.NoRow (c .before .enum-told .given .1) (c .refused .ensures) refl)
+    (λ c. arm _ _ (c .before .before .before .before .before .row-in .ensures) Row.LiteralRow (c .before .before .before .enum-told2 .given .1) (c .viewed .ensures) (rw (c .before .literal .ensures, c .before .before .literal-op .ensures)))
+    (λ c. arm _ _ (c .before .before .before .before .before .before .row-in .ensures) Row.PairRow (c .before .before .before .before .enum-told3 .given .1) (c .viewed2 .ensures) (rw (c .before .in-pair .ensures, c .before .before .pair .ensures, c .before .before .before .pair-op .ensures)))
+    (λ c. arm _ _ (c .before .before .before .before .before .row-in .ensures) Row.OrderedRow (c .before .before .before .enum-told4 .given .1) (c .viewed3 .ensures) (rw (c .before .ordered .ensures, c .before .before .sized-op .ensures)))
+    (λ c. arm _ _ (c .before .before .before .before .before .row-in .ensures) Row.UnscaledRow (c .before .before .before .enum-told5 .given .1) (c .viewed4 .ensures) (rw (c .before .unscaled .ensures, c .before .before .sized-op2 .ensures)))
+    (λ c. arm _ _ (c .before .before .before .before .before .before .row-in .ensures) Row.PostRow (c .before .before .before .before .enum-told6 .given .1) (c .viewed5 .ensures) (rw (c .before .base-is .ensures, c .before .before .post-index .ensures, c .before .before .before .sized-op3 .ensures)))
+    (λ c. arm _ _ (c .before .before .before .before .before .before .row-in .ensures) Row.PreRow (c .before .before .before .before .enum-told7 .given .1) (c .viewed6 .ensures) (rw (c .before .base-is2 .ensures, c .before .before .pre-index .ensures, c .before .before .before .sized-op4 .ensures)))
+    (λ c. arm _ _ (c .before .before .before .before .before .row-in .ensures) Row.RegisterRow (c .before .before .before .enum-told8 .given .1) (c .viewed7 .ensures) (rw (c .before .register .ensures, c .before .before .sized-op5 .ensures)))
+    (λ c. arm _ _ (c .before .before .before .before .before .row-in .ensures) Row.UnsignedRow (c .before .before .before .enum-told9 .given .1) (c .viewed8 .ensures) (rw (c .before .unsigned .ensures, c .before .before .sized-op6 .ensures))))

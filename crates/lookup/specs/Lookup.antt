@@ -1,0 +1,52 @@
+-- Decoding by a table, whatever it holds: the entry of a word's bits 31 to 22, and the bits below.
+use Prim.Native.Nat.{ℕ}
+use mathlib.Core.Bool.{Bool, true, false, _&&_, _||_}
+use mathlib.Core.List.{List, [], _∷_}
+use lib.Dec.{ltb, eqb}
+use lib.ListN.{getD}
+use Rattle.bits.specs.Choice.{pick}
+use Rattle.bits.specs.Fields.{field, has}
+use Rattle.instruction.specs.declared.answer.Answer.{Answer}
+use Rattle.instruction.specs.declared.answer.Decoded.{Decoded}
+use Rattle.instruction.specs.declared.family.Family.{Family}
+use Rattle.instruction.specs.declared.row.Row.{Row}
+use Rattle.instruction.specs.Operations.{literalAt, sizedAt, pairAt}
+use Rattle.instruction.specs.Operands.{literalIn, pairIn, signedIn, indexIn, unsignedIn}
+use Rattle.instruction.specs.Unpredictable.{unpredictableBase, unpredictablePair}
+use Rattle.instruction.specs.Table.{columnsOf, rows}
+use Rattle.decoder.specs.Decoding.{decodedFrom, empty}
+use Rattle.lookup.specs.Entries.{lower, names, familiesIn, codeIn}
+
+-- the first row that a family code names and whose lower bits the word has
+abbrev pub firstNamed : List Row → ℕ → ℕ → Row
+firstNamed [] families w = Row.NoRow
+firstNamed (r ∷ rs) families w = pick (names families r && has w (lower (columnsOf r .fixed))) r (firstNamed rs families w)
+
+unfoldable pub rowIn : ℕ → ℕ → Row
+rowIn families w = firstNamed rows families w
+
+-- a word of a row that is undefined or unpredictable or of this family
+abbrev pub seen : Bool → Bool → Family → Decoded
+seen u v f = record { answer = pick u Answer.Undefined (pick v Answer.Unpredictable Answer.Done); instruction = pick u empty (record { family = f }) }
+
+-- what a row and an operation code say of a word. In ordered, post and pre the prefetch, code 14, is undefined too
+abbrev pub examineAs : Row → ℕ → ℕ → Decoded
+examineAs Row.NoRow c w = record { answer = Answer.NotInSet; instruction = empty }
+examineAs Row.LiteralRow c w = seen false false (Family.Literal (literalAt c) (literalIn w))
+examineAs Row.PairRow c w = seen (eqb c 15) (unpredictablePair w) (Family.Pair (pairAt c) (pairIn (pairAt c) w))
+examineAs Row.OrderedRow c w = seen (ltb 13 c) false (Family.Ordered (sizedAt c) (signedIn w))
+examineAs Row.UnscaledRow c w = seen (eqb c 15) false (Family.Unscaled (sizedAt c) (signedIn w))
+examineAs Row.PostRow c w = seen (ltb 13 c) (unpredictableBase w) (Family.PostIndex (sizedAt c) (signedIn w))
+examineAs Row.PreRow c w = seen (ltb 13 c) (unpredictableBase w) (Family.PreIndex (sizedAt c) (signedIn w))
+examineAs Row.RegisterRow c w = seen (eqb c 15 || eqb (field 14 14 w) 0) false (Family.Register (sizedAt c) (indexIn w))
+examineAs Row.UnsignedRow c w = seen (eqb c 15) false (Family.Unsigned (sizedAt c) (unsignedIn (sizedAt c) w))
+
+unfoldable pub examineBy : ℕ → ℕ → Decoded
+examineBy e w = examineAs (rowIn (familiesIn e) w) (codeIn e) w
+
+-- the answer with 4, and the instruction
+unfoldable pub examineIn : List ℕ → ℕ → Decoded
+examineIn table w = examineBy (getD table (field 31 22 w) 0) w
+
+abbrev pub decodeIn : List ℕ → ℕ → Decoded
+decodeIn table w = decodedFrom (examineIn table w)

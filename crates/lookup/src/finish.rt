@@ -1,0 +1,100 @@
+// What an entry and the bits of a word below 22 say.
+use decoder::family;
+use decoder::unpredictable;
+use decoder::view;
+use instruction::Answer;
+use instruction::Decoded;
+use instruction::Row;
+ghost use mathlib.Core.Path.{_≡_};
+ghost use Rattle.lookup.specs.Lookup.{rowIn, examineBy};
+
+pub fn finish(entry: u32, word: u32) -> Decoded
+    ensures { λ r. ⌜ r ≡ examineBy entry word ⌝ }
+{
+    let code = entry % 16;
+    let row = row_in(entry / 16, word);
+    match row {
+        Row::NoRow => view::refused(Answer::NotInSet),
+        Row::LiteralRow => view::viewed(
+            false,
+            false,
+            family::literal(family::literal_op(code), word),
+        ),
+        Row::PairRow => {
+            let family = family::pair(family::pair_op(code), word);
+            view::viewed(code == 15, unpredictable::in_pair(word), family)
+        }
+        Row::OrderedRow => view::viewed(
+            13 < code,
+            false,
+            family::ordered(family::sized_op(code), word),
+        ),
+        Row::UnscaledRow => view::viewed(
+            code == 15,
+            false,
+            family::unscaled(family::sized_op(code), word),
+        ),
+        Row::PostRow => {
+            let family = family::post_index(family::sized_op(code), word);
+            view::viewed(
+                13 < code,
+                unpredictable::base_is(word / 1 % 32, word),
+                family,
+            )
+        }
+        Row::PreRow => {
+            let family = family::pre_index(family::sized_op(code), word);
+            view::viewed(
+                13 < code,
+                unpredictable::base_is(word / 1 % 32, word),
+                family,
+            )
+        }
+        Row::RegisterRow => {
+            let family = family::register(family::sized_op(code), word);
+            view::viewed((code == 15) | (word / 0x4000 % 2 == 0), false, family)
+        }
+        Row::UnsignedRow => view::viewed(
+            code == 15,
+            false,
+            family::unsigned(family::sized_op(code), word),
+        ),
+    }
+}
+
+// The row that the family code of an entry and the bits below 22 give.
+fn row_in(families: u32, word: u32) -> Row
+    ensures { λ r. ⌜ r ≡ rowIn families word ⌝ }
+{
+    match families {
+        1 => Row::LiteralRow,
+        2 => Row::PairRow,
+        3 => ordered_row(word),
+        4 => sized_row(word),
+        5 => Row::UnsignedRow,
+        _ => Row::NoRow,
+    }
+}
+
+fn ordered_row(word: u32) -> Row
+    ensures { λ r. ⌜ r ≡ rowIn 3 word ⌝ }
+{
+    let form = word / 0x20_0000 % 2 * 4 + word / 0x400 % 4;
+    match form {
+        0b000 => Row::OrderedRow,
+        _ => Row::NoRow,
+    }
+}
+
+fn sized_row(word: u32) -> Row
+    ensures { λ r. ⌜ r ≡ rowIn 4 word ⌝ }
+{
+    let form = word / 0x20_0000 % 2 * 4 + word / 0x400 % 4;
+    match form {
+        0b000 => Row::UnscaledRow,
+        0b001 => Row::PostRow,
+        0b011 => Row::PreRow,
+        0b110 => Row::RegisterRow,
+        _ => Row::NoRow,
+    }
+}

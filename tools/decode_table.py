@@ -1,0 +1,80 @@
+#!/usr/bin/env python3
+"""Writes the table of the second decoder into crates/lookup/src/constant.rt, from the rows of 01's table.
+
+    python3 tools/decode_table.py            writes the file
+    python3 tools/decode_table.py --check    only says whether the file is what would be written
+
+An entry stands for bits 31 to 22 of a word: 16 times the code of the families that they allow, and the operation code of
+these, or 0. A new row is a line of ROWS; the prover then holds the table against the definitions.
+"""
+import pathlib
+import sys
+
+PLACE = pathlib.Path(__file__).resolve().parent.parent / 'crates/lookup/src/constant.rt'
+FIRST = 22
+UNDEFINED = 15
+
+
+def field(word, high, low):
+    return word >> low & (1 << high - low + 1) - 1
+
+
+def literal(word):
+    return field(word, 31, 30)
+
+
+def sized(word):
+    code = field(word, 31, 30) * 4 + field(word, 23, 22)
+    return UNDEFINED if code in (0b10_11, 0b11_11) else code
+
+
+def pair(word):
+    opc, mode, load = field(word, 31, 30), field(word, 24, 23), field(word, 22, 22)
+    return UNDEFINED if opc == 0b11 or opc == 0b01 and not (load and mode) else opc * 2 + load
+
+
+# family code, fixed bits among 31..22 beside bit 26 = 0 as (high, low, value), operation code
+ROWS = [
+    (1, [(29, 27, 0b011), (25, 24, 0b00)], literal),
+    (2, [(29, 27, 0b101), (25, 25, 0b0)], pair),
+    (3, [(29, 27, 0b011), (25, 24, 0b01)], sized),
+    (4, [(29, 27, 0b111), (25, 24, 0b00)], sized),
+    (5, [(29, 27, 0b111), (25, 24, 0b01)], sized),
+]
+
+
+def entry(ten):
+    word = ten << FIRST
+    for family, fixed, operation in ROWS:
+        if all(field(word, *bits) == value for *bits, value in [(26, 26, 0), *fixed]):
+            return 16 * family + operation(word)
+    return 0
+
+
+def text():
+    lines = [
+        '// The table of the second decoder. tools/decode_table.py writes this file.',
+        'ghost use mathlib.Core.Path.{_≡_};',
+        'ghost use Rattle.lookup.specs.Entries.{entries};',
+        '',
+        '// 16 times the family code, and the operation code.',
+        'const ENTRIES: [u8; 1024] = [',
+    ]
+    lines += [f'    {entry(ten)},' for ten in range(1024)]
+    lines += [
+        '];',
+        '',
+        '// The table, to be lent to decoding: taken once for many words.',
+        'pub fn table() -> [u8; 1024]',
+        '    ensures { λ r. ⌜ r ≡ entries ⌝ }',
+        '{',
+        '    ENTRIES',
+        '}',
+    ]
+    return '\n'.join(lines) + '\n'
+
+
+if __name__ == '__main__':
+    if sys.argv[1:] == ['--check']:
+        sys.exit(PLACE.read_text() != text() and f'{PLACE} is not what {sys.argv[0]} writes')
+    PLACE.write_text(text())
