@@ -5,8 +5,8 @@
     python3 tools/believe.py --names    with the names of what is counted
 
 To be believed is all that the promises reach. A promise is a contract, the `ensures` and `requires` of a `pub fn` that
-a library exports (it stands in lib.rt, or `pub use` there names it or the type that it is a method of), or a record on
-the page of promises. What these name is followed through imports to definitions in crates/*/specs and types in
+a library exports (it stands in lib.rt or in a `pub mod` of it, or `pub use` there names it or the type that it is a method
+of), or a record on the page of promises. What these name is followed through imports to definitions in crates/*/specs and types in
 crates/*/src, and from each of them to what it names. Names of the kit and of its crates end the way. Comments, strings
 and projections aren't followed; a bound name that a definition has too is, so that nothing is left out.
 
@@ -170,12 +170,13 @@ def contracts_of(crate):
     """The file and the clauses, each with its kind, of every function that a library exports."""
     lib = CRATES / crate / 'src/lib.rt'
     passed_on = set(re.findall(r'^pub use (\w+)::(\w+);', lib.read_text(), re.M)) if lib.exists() else ()
+    opened = {'lib', *re.findall(r'^pub mod (\w+);', lib.read_text(), re.M)} if lib.exists() else ()
     for path in sorted(lib.parent.glob('*.rt')) if lib.exists() else ():
         owner = None
         for found in FUNCTION.finditer(re.sub(r'//.*', '', path.read_text())):
             if not found[2]:
                 owner = found[1]
-            elif path == lib or (path.stem, owner or found[2]) in passed_on:
+            elif path.stem in opened or (path.stem, owner or found[2]) in passed_on:
                 yield path, CLAUSE.findall(found[3])
 
 

@@ -2,7 +2,7 @@
 -- Assumes nothing.
 use Prim.Native.Nat.{ℕ, _+_, _*_, _^_, _<_}
 use mathlib.Core.Path.{_≡_, refl, sym, ap, _∙_}
-use mathlib.Core.Bool.{Bool, true, _&&_}
+use mathlib.Core.Bool.{true}
 use mathlib.Core.Logic.{_↔_}
 use native.Mathlib.Omega.{arith}
 use lib.ListN.{getD}
@@ -10,7 +10,7 @@ use Rattle.bits.specs.Fields.{part, field, has}
 use Rattle.bits.proofs.Parts.{part-lt}
 use Rattle.instruction.specs.declared.row.Row.{Row}
 use Rattle.instruction.specs.Table.{columnsOf, matches}
-use Rattle.lookup.specs.Entries.{lower, allows, familiesIn, codeIn, names, operationCode, entryOf, entries, Allowed}
+use Rattle.lookup.specs.Entries.{lower, allows, familiesIn, codeIn, names, operationCode, entries, Allowed}
 use Rattle.lookup.proofs.Rule.{names-allowed, entry-is}
 use Rattle.lookup.proofs.Same.{matched, allowed, code-same}
 

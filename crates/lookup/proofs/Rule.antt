@@ -92,3 +92,20 @@ at-from f i (suc n) (suc k) h = at-from f (suc i) n k (omega arith) ∙ ap f (om
 pub entry-is : (ten : ℕ) → ten < 1024 → getD entries ten 0 ≡ entryOf ten
 unfolding entries
 entry-is ten h = at-from entryOf 0 1024 ten h ∙ ap entryOf (omega arith)
+
+-- lists that a test finds equal
+abbrev equal : List ℕ → List ℕ → Bool
+equal [] [] = true
+equal [] (y ∷ ys) = false
+equal (x ∷ xs) [] = false
+equal (x ∷ xs) (y ∷ ys) = eqb x y && equal xs ys
+
+pub equal-true : (xs ys : List ℕ) → equal xs ys ≡ true → xs ≡ ys
+equal-true [] [] h = refl
+equal-true [] (y ∷ ys) h = cc
+equal-true (x ∷ xs) [] h = cc
+equal-true (x ∷ xs) (y ∷ ys) h =
+    let b = both (eqb x y) (equal xs ys) h in
+    let e = eqb-true x y (b .0) in
+    let f = equal-true xs ys (b .1) in
+    cc

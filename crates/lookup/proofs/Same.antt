@@ -7,7 +7,6 @@ use native.Mathlib.Nat.{mod-lt, add-mul-div-right, div-eq-of-lt, add-comm, zero-
 use native.Mathlib.Omega.{arith}
 use lib.Dec.{eqb, leb, ltb}
 use lib.Pow.{shr-shr, mod-pow-add, mod-mod-pow, pow-pos}
-use lib.ListN.{getD}
 use borrow.Author.Tests.{leb-true, eqb-false, ne-eqb}
 use Rattle.bits.specs.Choice.{pick}
 use Rattle.bits.specs.Fields.{Bits, part, field, has}

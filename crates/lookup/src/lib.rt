@@ -9,19 +9,19 @@ ghost use mathlib.Core.Path.{_≡_};
 ghost use Rattle.decoder.specs.Decoding.{decodeOf};
 ghost use Rattle.lookup.specs.Lookup.{examineIn, decodeIn};
 
-// What the entry of a word in a table gives, with answer 4.
-pub fn examine_in(table: &[u8; 1024], word: u32) -> Decoded
-    ensures { λ r. ⌜ r ≡ examineIn (now (table .entry)) word ⌝ }
+// What the entry of a word in a lent table gives, with answer 4.
+pub fn examine_in(lent: &[u8; 1024], word: u32) -> Decoded
+    ensures { λ r. ⌜ r ≡ examineIn (now (lent .entry)) word ⌝ }
 {
     let at = (word / 0x40_0000 % 1024) as usize;
-    finish::finish(wide(table[at]), word)
+    finish::finish(wide(lent[at]), word)
 }
 
-// What the entry of a word in a table gives: an instruction, or answer 2 or 3 and the empty instruction.
-pub fn decode_in(table: &[u8; 1024], word: u32) -> Decoded
-    ensures { λ r. ⌜ r ≡ decodeIn (now (table .entry)) word ⌝ }
+// What the entry of a word in a lent table gives: an instruction, or answer 2 or 3 and the empty instruction.
+pub fn decode_in(lent: &[u8; 1024], word: u32) -> Decoded
+    ensures { λ r. ⌜ r ≡ decodeIn (now (lent .entry)) word ⌝ }
 {
-    decoder::decoded(examine_in(table, word))
+    decoder::decoded(examine_in(lent, word))
 }
 
 // The same as decoding without a table.
