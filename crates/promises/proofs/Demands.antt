@@ -16,6 +16,8 @@ use Rattle.instruction.specs.declared.answer.Answer.the-variants.{Done, BadWind
 use Rattle.instruction.specs.Answers.{answerNumber}
 use Rattle.instruction.specs.Table.{inSet, undefined, allocated, unpredictable}
 use Rattle.decoder.specs.Decoding.{decodeOf, classOf}
+use Rattle.lookup.proofs.Same.{decode-same}
+use Rattle.lookup.proofs.Exact.{entry-names, entry-code}
 use Rattle.encoder.specs.Encoding.{encodeOf}
 use Rattle.instruction.proofs.Rows.{never-overlap}
 use Rattle.instruction.proofs.Sorts.{exactly-one}
@@ -260,6 +262,9 @@ requests =
           λ w word m t a e r b d c u h.
           let refused = stack-refused w word m t a e r b d c u h in
           (ap (λ s. answerNumber (performed m s .answer)) refused, ap (λ s. performed m s .shown) refused);
+      table-decodes = decode-same;
+      entry-names = entry-names;
+      entry-code = entry-code;
       text-most = text-short;
       text-reached = text-reached;
       line-most = line-within;

@@ -2,7 +2,7 @@
 -- that followed. A reader who trusts the definitions that are named here needs no other page. The contracts of the public
 -- functions say that the code returns and leaves what these definitions say, on any input: no function has a condition
 -- to meet.
-use Prim.Native.Nat.{ℕ, suc, _*_, _%_, _≤_}
+use Prim.Native.Nat.{ℕ, suc, _*_, _%_, _≤_, _<_}
 use mathlib.Core.Path.{_≡_}
 use mathlib.Core.Bool.{true, false, not}
 use mathlib.Core.List.{List, [], _∷_}
@@ -11,12 +11,15 @@ use lib.Dec.{ltb, eqb}
 use lib.ListN
 use lib.Seq.{sets}
 use Rattle.bits.specs.Choice.{pick, howMany}
+use Rattle.bits.specs.Fields.{field}
 use Rattle.instruction.specs.declared.answer.Answer.the-variants.{Done, BadWindow, NoSuchText, NoRoom}
 use Rattle.instruction.specs.declared.family.Instruction.{Instruction}
 use Rattle.instruction.specs.declared.row.Row.{Row}
 use Rattle.instruction.specs.Answers.{answerNumber}
 use Rattle.instruction.specs.Table.{matches, inSet, undefined, allocated, instructionOf}
 use Rattle.decoder.specs.Decoding.{decodeOf, classOf}
+use Rattle.lookup.specs.Entries.{Allowed, familiesIn, codeIn, names, operationCode, entries}
+use Rattle.lookup.specs.Lookup.{decodeIn}
 use Rattle.encoder.specs.Encoding.{encodeOf}
 use Rattle.access.specs.declared.transfer.Transfer.{Transfer}
 use Rattle.access.specs.declared.addressing.Addressing.{Addressing}
@@ -184,6 +187,14 @@ pub record Requests : Type 0 where
   pub stack-refused : (w : Window) (word : ℕ) (m : Machine) (t : Transfer) (a : Addressing) → wordAccess word ≡ Moves t a → a .relative ≡ false → a .base ≡ 31
       → bad w m ≡ false → answerNumber (classOf word) ≡ 0 → operandsOf a m .tainted ≡ false → ¬ (ListN.getD (m .values) 31 0 % 16 ≡ 0)
       → (stepAnswer w word m ≡ 6) × (stepped w word m .shown ≡ shown 0 (ListN.getD (m .values) 31 0))
+  -- CR 2: "The two must give the same record or refusal for every 32-bit word": the decoder that goes by the table, and the
+  -- plain one
+  pub table-decodes : (word : ℕ) → decodeIn entries word ≡ decodeOf word
+  -- "it is shown once for all entries that each names exactly the families its ten bits allow, none too": a row is named exactly
+  -- if some word with these bits matches it
+  pub entry-names : (ten : ℕ) → ten < 1024 → (r : Row) → ¬ (r ≡ Row.NoRow) → (names (familiesIn (ListN.getD entries ten 0)) r ≡ true) ↔ Allowed ten r
+  -- "and their operation code": of each word that matches a row
+  pub entry-code : (word : ℕ) (r : Row) → ¬ (r ≡ Row.NoRow) → matches word r ≡ true → codeIn (ListN.getD entries (field 31 22 word) 0) ≡ operationCode r word
   -- CR 4: "Promise that no allocated word's text is longer than 30 bytes and show a word that reaches it"; CR 7: "CR 4's bound
   -- becomes 35 and a line's becomes 46, both still reached"
   pub text-most : (word : ℕ) → allocated word ≡ true → ListN.length (wordText word) ≤ textMost
