@@ -2,7 +2,9 @@
 // reason, and is never taken for an end.
 use libc::STDIN_FILENO;
 use libc::STDOUT_FILENO;
-ghost use Prim.Native.Nat.{_≤_};
+ghost use Prim.Native.Nat.{_≤_, _<_};
+ghost use mathlib.Core.Path.{_≡_};
+ghost use mathlib.Core.Bool.{false};
 ghost use lib.ListN.{length};
 ghost use Rattle.io.specs.Counts.{Counts};
 ghost use Rattle.console.specs.Came.{Came};
@@ -55,8 +57,10 @@ fn more(buf: &mut [u8]) -> usize
     }
 }
 
-// Writes the start of an output, and says whether all of it was written.
-pub fn write(output: &[u8], end: usize) -> bool {
+// Writes the start of an output, and says whether all of it was written: not where the output ends before it.
+pub fn write(output: &[u8], end: usize) -> bool
+    ensures { λ r. ⌜ (length (now (output .entry)) < end → r ≡ false) ⌝ }
+{
     if end <= output.len() {
         if io::write_all(STDOUT_FILENO, &output[0..end]) {
             return true;

@@ -1,5 +1,5 @@
--- What writing, listing and reading a text, and a lister of a stream, give a host: the definitions of the crates below, with each answer by
--- its number.
+-- What writing, listing and reading a text, and a lister of a stream, give a host: the definitions of the crates below, with each
+-- answer by its number.
 use Prim.Native.Nat.{ℕ}
 use mathlib.Core.Path.{_≡_}
 use mathlib.Core.List.{List}

@@ -12,53 +12,33 @@ pub fn finish(entry: u32, word: u32) -> Decoded
     ensures { λ r. ⌜ r ≡ examineBy entry word ⌝ }
 {
     let code = entry % 16;
+    let op = family::sized_op(code);
     let row = row_in(entry / 16, word);
     match row {
         Row::NoRow => view::refused(Answer::NotInSet),
-        Row::LiteralRow => view::viewed(
-            false,
-            false,
-            family::literal(family::literal_op(code), word),
-        ),
+        Row::LiteralRow => {
+            let family = family::literal(family::literal_op(code), word);
+            view::viewed(false, false, family)
+        }
         Row::PairRow => {
             let family = family::pair(family::pair_op(code), word);
             view::viewed(code == 15, unpredictable::in_pair(word), family)
         }
-        Row::OrderedRow => view::viewed(
-            13 < code,
-            false,
-            family::ordered(family::sized_op(code), word),
-        ),
-        Row::UnscaledRow => view::viewed(
-            code == 15,
-            false,
-            family::unscaled(family::sized_op(code), word),
-        ),
+        Row::OrderedRow => view::viewed(13 < code, false, family::ordered(op, word)),
+        Row::UnscaledRow => view::viewed(code == 15, false, family::unscaled(op, word)),
         Row::PostRow => {
-            let family = family::post_index(family::sized_op(code), word);
-            view::viewed(
-                13 < code,
-                unpredictable::base_is(word / 1 % 32, word),
-                family,
-            )
+            let base = unpredictable::base_is(word / 1 % 32, word);
+            view::viewed(13 < code, base, family::post_index(op, word))
         }
         Row::PreRow => {
-            let family = family::pre_index(family::sized_op(code), word);
-            view::viewed(
-                13 < code,
-                unpredictable::base_is(word / 1 % 32, word),
-                family,
-            )
+            let base = unpredictable::base_is(word / 1 % 32, word);
+            view::viewed(13 < code, base, family::pre_index(op, word))
         }
         Row::RegisterRow => {
-            let family = family::register(family::sized_op(code), word);
-            view::viewed((code == 15) | (word / 0x4000 % 2 == 0), false, family)
+            let undefined = (code == 15) | (word / 0x4000 % 2 == 0);
+            view::viewed(undefined, false, family::register(op, word))
         }
-        Row::UnsignedRow => view::viewed(
-            code == 15,
-            false,
-            family::unsigned(family::sized_op(code), word),
-        ),
+        Row::UnsignedRow => view::viewed(code == 15, false, family::unsigned(op, word)),
     }
 }
 

@@ -99,6 +99,6 @@ pair-is mode op e t m =
     let k : pairOpc op * 2 + pairLoad op < 8 = omega (arith, paired op .opc, paired op .load) in
     rw (m, t, e) (tells-is _ _ (pairOperand op) (rw (pair-at op) at (tested 8 (pairTest mode) (all-pairs mode) (pairOpc op * 2 + pairLoad op) k)))
 
-pub pair-by : (mode : PairMode) (op : PairOp) {code : ℕ} {k : Known} → code ≡ pairOpc op * 2 + pairLoad op
-    → k ≡ told (pairName mode (pairAt code)) (pairOperand (pairAt code)) → k ≡ told (pairName mode op) (pairOperand op)
-pair-by mode op s e = e ∙ rw (s, pair-at op)
+pub pair-by : (mode : PairMode) (op : PairOp) {opc load : ℕ} {k : Known} → opc ≡ pairOpc op → load ≡ pairLoad op
+    → k ≡ told (pairName mode (pairAt (opc * 2 + load))) (pairOperand (pairAt (opc * 2 + load))) → k ≡ told (pairName mode op) (pairOperand op)
+pair-by mode op s l e = e ∙ rw (s, l, pair-at op)

@@ -10,8 +10,7 @@ use instruction::SizedOp;
 pub use names::Name;
 pub use names::name_at;
 ghost use mathlib.Core.Path.{_≡_};
-ghost use Rattle.instruction.specs.Operations.{sizedAt, pairAt, pairOpc, pairLoad};
-ghost use Prim.Native.Nat.{_+_, _*_};
+ghost use Rattle.instruction.specs.Operations.{sizedAt, pairAt};
 ghost use Rattle.mnemonic.specs.Mnemonics.{sizedName, literalSized, literalName, pairName};
 ghost use Rattle.mnemonic.specs.Operands.{sizedOperand, literalOperand, pairOperand};
 ghost use Rattle.mnemonic.specs.route.Named.{known, told};
@@ -71,7 +70,10 @@ fn literal_sized(op: LiteralOp) -> SizedOp
 pub fn pair_name(mode: PairMode, op: PairOp) -> Mnemonic
     ensures { λ r. ⌜ known r ≡ told (pairName mode op) (pairOperand op) ⌝ }
 {
-    pair_at(mode, pair_code(op))
+    pair_at(
+        mode,
+        instruction::pair_opc(op) * 2 + instruction::pair_load(op),
+    )
 }
 
 fn pair_at(mode: PairMode, code: u32) -> Mnemonic
@@ -83,18 +85,6 @@ fn pair_at(mode: PairMode, code: u32) -> Mnemonic
         entry.letters,
         entry.shape,
     )
-}
-
-fn pair_code(op: PairOp) -> u32
-    ensures { λ r. ⌜ r ≡ pairOpc op * 2 + pairLoad op ⌝ }
-{
-    match op {
-        PairOp::StoreWords => 0b00_0,
-        PairOp::LoadWords => 0b00_1,
-        PairOp::LoadSignedWords => 0b01_1,
-        PairOp::StoreDoubles => 0b10_0,
-        PairOp::LoadDoubles => 0b10_1,
-    }
 }
 
 // The mnemonic of a name, by its number.

@@ -51,7 +51,7 @@ use Rattle.reader.proofs.RoundTrip.{read-once}
 use Rattle.reader.proofs.Triangle.{triangle}
 use Rattle.stream.specs.declared.Lister.{Lister}
 use Rattle.stream.specs.Streams.{refuses, Call, lent, linesOf, callOf}
-use Rattle.stream.proofs.Calls.{streamed, call-answer, call-unchanged, call-puts}
+use Rattle.stream.proofs.Calls.{streamed, call-answer, call-closed, call-open, call-unchanged, call-puts}
 use Rattle.host.specs.Replies.{numbered, listerNumbered}
 use Rattle.host.specs.Hosting.{hostRun}
 use Rattle.host.proofs.Runs.{refused-unchanged as refused-calls}
@@ -272,6 +272,8 @@ requests =
       line-reached = line-reached;
       stream-listed = streamed;
       stream-answers = call-answer;
+      stream-closed = call-closed;
+      stream-open = call-open;
       stream-unchanged = call-unchanged;
       stream-puts = call-puts;
       hints = hints-read;

@@ -49,7 +49,7 @@ use Rattle.reader.specs.declared.Reading.{Reading}
 use Rattle.reader.specs.Reading.{LineOf, ReadOf}
 use Rattle.reader.specs.Triangle.{Bijection, Allocated, Encodable, Readable}
 use Rattle.stream.specs.declared.Lister.{Lister}
-use Rattle.stream.specs.Streams.{holding, refuses, refused, Call, lent, linesOf, callOf}
+use Rattle.stream.specs.Streams.{holding, refuses, refused, Call, push, close, lent, linesOf, callOf}
 use Rattle.stream.specs.Calls.{played}
 use Rattle.host.specs.Replies.{numbered, ReadAs, listerNumbered}
 use Rattle.host.specs.Hosting.{machineIn, hosted, hostRun}
@@ -211,6 +211,10 @@ pub record Requests : Type 0 where
   -- "16 for any call after closing, or with a lister of more than three bytes over; then 10 exactly if the lent output can't hold
   -- this call's lines, closing included"
   pub stream-answers : (l : Lister) (c : Call) → answerNumber (callOf l c .answer) ≡ pick (refuses l) 16 (pick (ltb (ListN.length (lent c)) (ListN.length (linesOf l c))) 10 0)
+  -- after a closing that isn't refused that is every call; after a fragment that isn't refused there are "nought to three bytes over"
+  pub stream-closed : (l : Lister) (output : List ℕ) → answerNumber (callOf l (close output) .answer) ≡ 0 → refuses (callOf l (close output) .lister) ≡ true
+  pub stream-open : (l : Lister) (fragment output : List ℕ) → answerNumber (callOf l (push fragment output) .answer) ≡ 0
+      → refuses (callOf l (push fragment output) .lister) ≡ false
   -- "Either way output and lister are unchanged", and "a refusal's length is 0"
   pub stream-unchanged : (l : Lister) (c : Call) → ¬ (answerNumber (callOf l c .answer) ≡ 0) → callOf l c ≡ refused (callOf l c .answer) l (lent c)
   -- "output fills its buffer from the start, the rest stays"

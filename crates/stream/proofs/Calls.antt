@@ -15,7 +15,7 @@ use Rattle.bits.proofs.Lists.{sets-front}
 use Rattle.instruction.specs.Answers.{answerNumber}
 use Rattle.listing.specs.Listing.{listingOf}
 use Rattle.stream.specs.declared.Lister.{Lister}
-use Rattle.stream.specs.Streams.{overIn, holding, shutOf, refuses, wholeOf, restOf, refused, handed, Call, push, close, lent, linesOf, callOf}
+use Rattle.stream.specs.Streams.{overIn, holding, shutOf, refuses, wholeOf, restOf, refused, handed, Call, push, close, lent, linesOf, nextOf, callOf}
 use Rattle.stream.specs.Calls.{fragmentOf, Played, ahead, played}
 use Rattle.stream.proofs.Splits.{listing-append, parts, whole-words, rest-few, held-is}
 
@@ -115,11 +115,22 @@ module _ (l : Lister) (c : Call) where
   pub call-unchanged : ¬ Number 0 → callOf l c ≡ refused (callOf l c .answer) l (lent c)
   call-unchanged h = unchanged-by (refuses l) over refl refl h
 
-  put-by : (s t : Bool) → refuses l ≡ s → over ≡ t → Number 0 → (callOf l c .length ≡ length (linesOf l c)) × (callOf l c .buffer ≡ sets (lent c) 0 (linesOf l c))
+  done-by : (s t : Bool) → refuses l ≡ s → over ≡ t → Number 0
+      → (callOf l c .lister ≡ nextOf l c) × (callOf l c .length ≡ length (linesOf l c)) × (callOf l c .buffer ≡ sets (lent c) 0 (linesOf l c))
   unfolding callOf handed
-  put-by true t e f h = absurd (omega (arith, answer-by true t e f, h))
-  put-by false true e f h = absurd (omega (arith, answer-by false true e f, h))
-  put-by false false e f h = rw (e, f) (refl, refl)
+  done-by true t e f h = absurd (omega (arith, answer-by true t e f, h))
+  done-by false true e f h = absurd (omega (arith, answer-by false true e f, h))
+  done-by false false e f h = rw (e, f) (refl, refl, refl)
 
   pub call-puts : Number 0 → (callOf l c .length ≡ length (linesOf l c)) × (callOf l c .buffer ≡ sets (lent c) 0 (linesOf l c))
-  call-puts h = put-by (refuses l) over refl refl h
+  call-puts h = let d = done-by (refuses l) over refl refl h in (d .1, d .2)
+
+  call-next : Number 0 → callOf l c .lister ≡ nextOf l c
+  call-next h = done-by (refuses l) over refl refl h .0
+
+-- a lister that took a fragment is open, and one that closed is not
+pub call-open : (l : Lister) (f o : List ℕ) → answerNumber (callOf l (push f o) .answer) ≡ 0 → refuses (callOf l (push f o) .lister) ≡ false
+call-open l f o h = let bs = overIn l ++ f in ap refuses (call-next l (push f o) h) ∙ holds (restOf bs) (rest-few bs)
+
+pub call-closed : (l : Lister) (o : List ℕ) → answerNumber (callOf l (close o) .answer) ≡ 0 → refuses (callOf l (close o) .lister) ≡ true
+call-closed l o h = ap refuses (call-next l (close o) h)

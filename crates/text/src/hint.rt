@@ -22,6 +22,7 @@ pub fn front(n: u32) -> Piece
         };
         return piece::led(b' ', piece::led(b'#', piece::digits(n, comma)));
     }
+    // A space, three letters of the kind, and l1, to whose digit the level is added.
     Piece {
         bytes: 0x316c_0000_0020 + kind(n / 8) * 256 + (n / 2 % 4) as u64 * 0x100_0000_0000,
         length: 6,
