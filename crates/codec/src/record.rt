@@ -7,7 +7,6 @@ use instruction::Instruction;
 use instruction::LiteralOp;
 use instruction::LiteralOperands;
 use instruction::OffsetOperands;
-use instruction::PairMode;
 use instruction::PairOp;
 use instruction::PairOperands;
 use instruction::SizedOp;
@@ -33,21 +32,17 @@ fn literal_of(c: Case) -> Family {
         target: low_half(c.target),
         offset: signed(c.offset),
     };
-    let operation = c.operation;
-    match operation {
-        0 => Family::Literal(LiteralOp::LiteralWord, operands),
-        1 => Family::Literal(LiteralOp::LiteralDouble, operands),
-        2 => Family::Literal(LiteralOp::LiteralSignedWord, operands),
-        3 => Family::Literal(LiteralOp::LiteralPrefetch, operands),
-        _ => Family::Empty,
+    if c.operation > 3 {
+        return Family::Empty;
     }
+    Family::Literal(instruction::literal_at(low_half(c.operation)), operands)
 }
 
 fn pair_of(c: Case) -> Family {
     if c.mode > 3 {
         return Family::Empty;
     }
-    let mode = mode_of(c.mode);
+    let mode = instruction::mode_at(low_half(c.mode));
     let operands = PairOperands {
         first: low_half(c.target),
         second: low_half(c.second),
@@ -55,31 +50,21 @@ fn pair_of(c: Case) -> Family {
         mode,
         offset: signed(c.offset),
     };
-    let operation = c.operation;
-    match operation {
-        0 => Family::Pair(PairOp::StoreWords, operands),
-        1 => Family::Pair(PairOp::LoadWords, operands),
-        3 => Family::Pair(PairOp::LoadSignedWords, operands),
-        4 => Family::Pair(PairOp::StoreDoubles, operands),
-        5 => Family::Pair(PairOp::LoadDoubles, operands),
-        _ => Family::Empty,
+    if !is_pair(c.operation) {
+        return Family::Empty;
     }
+    Family::Pair(instruction::pair_at(low_half(c.operation)), operands)
 }
 
-fn mode_of(mode: u64) -> PairMode {
-    match mode {
-        0 => PairMode::NoAllocate,
-        1 => PairMode::Post,
-        2 => PairMode::Offset,
-        _ => PairMode::Pre,
-    }
+fn is_pair(operation: u64) -> bool {
+    operation < 6 && operation != 2
 }
 
 fn sized_of(c: Case) -> Family {
     if !is_sized(c.operation) {
         return Family::Empty;
     }
-    let op = sized_op(c.operation);
+    let op = instruction::sized_at(low_half(c.operation));
     let what = c.what;
     match what {
         3 => Family::Ordered(op, offset_operands(c)),
@@ -93,25 +78,6 @@ fn sized_of(c: Case) -> Family {
 
 fn is_sized(operation: u64) -> bool {
     operation < 15 && operation != 11
-}
-
-fn sized_op(operation: u64) -> SizedOp {
-    match operation {
-        0 => SizedOp::StoreByte,
-        1 => SizedOp::LoadByte,
-        2 => SizedOp::LoadSignedByte64,
-        3 => SizedOp::LoadSignedByte32,
-        4 => SizedOp::StoreHalf,
-        5 => SizedOp::LoadHalf,
-        6 => SizedOp::LoadSignedHalf64,
-        7 => SizedOp::LoadSignedHalf32,
-        8 => SizedOp::StoreWord,
-        9 => SizedOp::LoadWord,
-        10 => SizedOp::LoadSignedWord64,
-        12 => SizedOp::StoreDouble,
-        13 => SizedOp::LoadDouble,
-        _ => SizedOp::Prefetch,
-    }
 }
 
 fn offset_operands(c: Case) -> OffsetOperands {
@@ -173,19 +139,10 @@ fn blank(what: u64, operation: u64) -> Case {
 }
 
 fn literal_case(op: LiteralOp, o: LiteralOperands) -> Case {
-    let mut c = blank(1, literal_number(op));
+    let mut c = blank(1, instruction::literal_opc(op) as u64);
     c.target = o.target as u64;
     c.offset = bits::twos_complement(o.offset);
     c
-}
-
-fn literal_number(op: LiteralOp) -> u64 {
-    match op {
-        LiteralOp::LiteralWord => 0,
-        LiteralOp::LiteralDouble => 1,
-        LiteralOp::LiteralSignedWord => 2,
-        LiteralOp::LiteralPrefetch => 3,
-    }
 }
 
 fn pair_case(op: PairOp, o: PairOperands) -> Case {
@@ -194,28 +151,15 @@ fn pair_case(op: PairOp, o: PairOperands) -> Case {
     c.target = o.first as u64;
     c.base = o.base as u64;
     c.second = o.second as u64;
-    c.mode = mode_number(mode);
+    c.mode = instruction::mode_code(mode) as u64;
     c.offset = bits::twos_complement(o.offset);
     c
 }
 
 fn pair_number(op: PairOp) -> u64 {
-    match op {
-        PairOp::StoreWords => 0,
-        PairOp::LoadWords => 1,
-        PairOp::LoadSignedWords => 3,
-        PairOp::StoreDoubles => 4,
-        PairOp::LoadDoubles => 5,
-    }
-}
-
-fn mode_number(mode: PairMode) -> u64 {
-    match mode {
-        PairMode::NoAllocate => 0,
-        PairMode::Post => 1,
-        PairMode::Offset => 2,
-        PairMode::Pre => 3,
-    }
+    let opc = instruction::pair_opc(op);
+    let loads = instruction::pair_load(op);
+    (opc * 2 + loads) as u64
 }
 
 fn offset_case(what: u64, op: SizedOp, o: OffsetOperands) -> Case {

@@ -5,14 +5,12 @@ use instruction::IndexOperands;
 use instruction::LiteralOp;
 use instruction::LiteralOperands;
 use instruction::OffsetOperands;
-use instruction::PairMode;
 use instruction::PairOp;
 use instruction::PairOperands;
 use instruction::SizedOp;
 ghost use mathlib.Core.Path.{_≡_};
 ghost use Prim.Native.Nat.{_*_, _<_, _≤_};
 ghost use Rattle.bits.specs.Signed.{signedOf};
-ghost use Rattle.instruction.specs.Operations.{sizedAt, literalAt, pairAt, modeAt};
 ghost use Rattle.instruction.specs.Operands.{sizedIn, literalIn, pairOpIn, pairIn, signedIn, indexIn, unsignedIn};
 
 pub fn literal(op: LiteralOp, word: u32) -> Family
@@ -63,71 +61,16 @@ pub fn unsigned(op: SizedOp, word: u32) -> Family
     Family::Unsigned(op, unsigned_operands(op, word))
 }
 
-pub fn literal_op(opc: u32) -> LiteralOp
-    ensures { λ r. ⌜ r ≡ literalAt opc ⌝ }
-{
-    match opc {
-        0b00 => LiteralOp::LiteralWord,
-        0b01 => LiteralOp::LiteralDouble,
-        0b10 => LiteralOp::LiteralSignedWord,
-        _ => LiteralOp::LiteralPrefetch,
-    }
-}
-
-pub fn sized_op(code: u32) -> SizedOp
-    ensures { λ r. ⌜ r ≡ sizedAt code ⌝ }
-{
-    match code {
-        0b0000 => SizedOp::StoreByte,
-        0b0001 => SizedOp::LoadByte,
-        0b0010 => SizedOp::LoadSignedByte64,
-        0b0011 => SizedOp::LoadSignedByte32,
-        0b0100 => SizedOp::StoreHalf,
-        0b0101 => SizedOp::LoadHalf,
-        0b0110 => SizedOp::LoadSignedHalf64,
-        0b0111 => SizedOp::LoadSignedHalf32,
-        0b1000 => SizedOp::StoreWord,
-        0b1001 => SizedOp::LoadWord,
-        0b1010 => SizedOp::LoadSignedWord64,
-        0b1100 => SizedOp::StoreDouble,
-        0b1101 => SizedOp::LoadDouble,
-        _ => SizedOp::Prefetch,
-    }
-}
-
 pub fn sized_op_in(word: u32) -> SizedOp
     ensures { λ r. ⌜ r ≡ sizedIn word ⌝ }
 {
-    sized_op(word / 0x4000_0000 % 4 * 4 + word / 0x40_0000 % 4)
-}
-
-pub fn pair_op(code: u32) -> PairOp
-    ensures { λ r. ⌜ r ≡ pairAt code ⌝ }
-{
-    match code {
-        0b000 => PairOp::StoreWords,
-        0b001 => PairOp::LoadWords,
-        0b011 => PairOp::LoadSignedWords,
-        0b100 => PairOp::StoreDoubles,
-        _ => PairOp::LoadDoubles,
-    }
+    instruction::sized_at(word / 0x4000_0000 % 4 * 4 + word / 0x40_0000 % 4)
 }
 
 pub fn pair_op_in(word: u32) -> PairOp
     ensures { λ r. ⌜ r ≡ pairOpIn word ⌝ }
 {
-    pair_op(word / 0x4000_0000 % 4 * 2 + word / 0x40_0000 % 2)
-}
-
-fn pair_mode(mode: u32) -> PairMode
-    ensures { λ r. ⌜ r ≡ modeAt mode ⌝ }
-{
-    match mode {
-        0b00 => PairMode::NoAllocate,
-        0b01 => PairMode::Post,
-        0b10 => PairMode::Offset,
-        _ => PairMode::Pre,
-    }
+    instruction::pair_at(word / 0x4000_0000 % 4 * 2 + word / 0x40_0000 % 2)
 }
 
 // The number that a field in two's complement holds, times scale. Half is how many values each sign has.
@@ -156,7 +99,7 @@ fn pair_operands(op: PairOp, word: u32) -> PairOperands
     ensures { λ r. ⌜ r ≡ pairIn op word ⌝ }
 {
     let offset = signed(word / 0x8000 % 128, 64, instruction::pair_bytes(op));
-    let mode = pair_mode(word / 0x80_0000 % 4);
+    let mode = instruction::mode_at(word / 0x80_0000 % 4);
     PairOperands {
         first: word / 1 % 32,
         second: word / 0x400 % 32,

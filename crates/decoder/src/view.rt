@@ -20,7 +20,7 @@ pub fn examine(word: u32) -> Decoded
     match row {
         Row::NoRow => refused(Answer::NotInSet),
         Row::LiteralRow => {
-            let op = family::literal_op(word / 0x4000_0000 % 4);
+            let op = instruction::literal_at(word / 0x4000_0000 % 4);
             viewed(false, false, family::literal(op, word))
         }
         Row::PairRow => {

@@ -7,14 +7,12 @@ use instruction::IndexOperands;
 use instruction::LiteralOp;
 use instruction::LiteralOperands;
 use instruction::OffsetOperands;
-use instruction::PairMode;
 use instruction::PairOp;
 use instruction::PairOperands;
 use instruction::Row;
 use instruction::SizedOp;
 ghost use mathlib.Core.Path.{_≡_};
 ghost use Prim.Native.Nat.{_<_, _≤_};
-ghost use Rattle.instruction.specs.Operations.{literalOpc, modeCode};
 ghost use Rattle.encoder.specs.Encoding.{fixed, wordWith, literalFields, literalWord, pairFields, pairWord, signedWord, indexWord, unsignedWord, wordOf};
 ghost use Rattle.encoder.specs.route.Sized.{sizedWord};
 
@@ -52,18 +50,7 @@ fn literal_sum(op: LiteralOp, target: u32, imm19: u32) -> Field
     if 32 <= target {
         return Field::Unfit;
     }
-    Field::Holds(0x1800_0000 + literal_opc(op) * 0x4000_0000 + target + imm19 * 32)
-}
-
-fn literal_opc(op: LiteralOp) -> u32
-    ensures { λ r. ⌜ (r ≡ literalOpc op) × (r < 4) ⌝ }
-{
-    match op {
-        LiteralOp::LiteralWord => 0b00,
-        LiteralOp::LiteralDouble => 0b01,
-        LiteralOp::LiteralSignedWord => 0b10,
-        LiteralOp::LiteralPrefetch => 0b11,
-    }
+    Field::Holds(0x1800_0000 + instruction::literal_opc(op) * 0x4000_0000 + target + imm19 * 32)
 }
 
 fn pair_word(op: PairOp, o: PairOperands) -> Field
@@ -95,20 +82,9 @@ fn pair_sum(op: PairOp, o: PairOperands, imm7: u32) -> Field
     }
     let registers = base * 32 + first + second * 0x400;
     let code = instruction::pair_opc(op) * 0x4000_0000
-        + mode_code(mode) * 0x80_0000
+        + instruction::mode_code(mode) * 0x80_0000
         + instruction::pair_load(op) * 0x40_0000;
     Field::Holds(0x2800_0000 + code + registers + imm7 * 0x8000)
-}
-
-fn mode_code(mode: PairMode) -> u32
-    ensures { λ r. ⌜ (r ≡ modeCode mode) × (r < 4) ⌝ }
-{
-    match mode {
-        PairMode::NoAllocate => 0b00,
-        PairMode::Post => 0b01,
-        PairMode::Offset => 0b10,
-        PairMode::Pre => 0b11,
-    }
 }
 
 // The fields that all families with a size have, beside their own, which are in place already.

@@ -1,7 +1,7 @@
 // The operations of the families, and the bytes that each moves.
 ghost use mathlib.Core.Path.{_≡_};
 ghost use Prim.Native.Nat.{_<_};
-ghost use Rattle.instruction.specs.Operations.{sizedCode, sizeOf, opcOf, scaleOf, sizedBytes, pairCode, pairOpc, pairLoad, pairBytes};
+ghost use Rattle.instruction.specs.Operations.{sizedCode, sizeOf, opcOf, scaleOf, sizedBytes, sizedAt, literalOpc, literalAt, pairCode, pairOpc, pairLoad, pairBytes, pairAt, modeCode, modeAt};
 
 // A size with an opc. A signed load extends to 64 bits, or to 32 with zeros above.
 pub enum SizedOp {
@@ -65,6 +65,28 @@ fn sized_code(op: SizedOp) -> u32
     }
 }
 
+// The operation with this size and opc; an undefined code gives a prefetch.
+pub fn sized_at(code: u32) -> SizedOp
+    ensures { λ r. ⌜ r ≡ sizedAt code ⌝ }
+{
+    match code {
+        0b00_00 => SizedOp::StoreByte,
+        0b00_01 => SizedOp::LoadByte,
+        0b00_10 => SizedOp::LoadSignedByte64,
+        0b00_11 => SizedOp::LoadSignedByte32,
+        0b01_00 => SizedOp::StoreHalf,
+        0b01_01 => SizedOp::LoadHalf,
+        0b01_10 => SizedOp::LoadSignedHalf64,
+        0b01_11 => SizedOp::LoadSignedHalf32,
+        0b10_00 => SizedOp::StoreWord,
+        0b10_01 => SizedOp::LoadWord,
+        0b10_10 => SizedOp::LoadSignedWord64,
+        0b11_00 => SizedOp::StoreDouble,
+        0b11_01 => SizedOp::LoadDouble,
+        _ => SizedOp::Prefetch,
+    }
+}
+
 // The size field of a word.
 pub fn size_field(op: SizedOp) -> u32
     ensures { λ r. ⌜ (r ≡ sizeOf op) × (r < 4) ⌝ }
@@ -93,6 +115,29 @@ pub fn sized_bytes(op: SizedOp) -> u32
     1 << scale(op)
 }
 
+// The opc field of a literal.
+pub fn literal_opc(op: LiteralOp) -> u32
+    ensures { λ r. ⌜ (r ≡ literalOpc op) × (r < 4) ⌝ }
+{
+    match op {
+        LiteralOp::LiteralWord => 0b00,
+        LiteralOp::LiteralDouble => 0b01,
+        LiteralOp::LiteralSignedWord => 0b10,
+        LiteralOp::LiteralPrefetch => 0b11,
+    }
+}
+
+pub fn literal_at(opc: u32) -> LiteralOp
+    ensures { λ r. ⌜ r ≡ literalAt opc ⌝ }
+{
+    match opc {
+        0b00 => LiteralOp::LiteralWord,
+        0b01 => LiteralOp::LiteralDouble,
+        0b10 => LiteralOp::LiteralSignedWord,
+        _ => LiteralOp::LiteralPrefetch,
+    }
+}
+
 // Opc and L of a pair side by side.
 fn pair_code(op: PairOp) -> u32
     ensures { λ r. ⌜ (r ≡ pairCode op) × (r < 6) ⌝ }
@@ -103,6 +148,19 @@ fn pair_code(op: PairOp) -> u32
         PairOp::LoadSignedWords => 0b01_1,
         PairOp::StoreDoubles => 0b10_0,
         PairOp::LoadDoubles => 0b10_1,
+    }
+}
+
+// The pair with this opc and L; an undefined code gives a load of doublewords.
+pub fn pair_at(code: u32) -> PairOp
+    ensures { λ r. ⌜ r ≡ pairAt code ⌝ }
+{
+    match code {
+        0b00_0 => PairOp::StoreWords,
+        0b00_1 => PairOp::LoadWords,
+        0b01_1 => PairOp::LoadSignedWords,
+        0b10_0 => PairOp::StoreDoubles,
+        _ => PairOp::LoadDoubles,
     }
 }
 
@@ -128,4 +186,27 @@ pub fn pair_bytes(op: PairOp) -> u32
         return 8;
     }
     4
+}
+
+// The mode field of a pair.
+pub fn mode_code(mode: PairMode) -> u32
+    ensures { λ r. ⌜ (r ≡ modeCode mode) × (r < 4) ⌝ }
+{
+    match mode {
+        PairMode::NoAllocate => 0b00,
+        PairMode::Post => 0b01,
+        PairMode::Offset => 0b10,
+        PairMode::Pre => 0b11,
+    }
+}
+
+pub fn mode_at(mode: u32) -> PairMode
+    ensures { λ r. ⌜ r ≡ modeAt mode ⌝ }
+{
+    match mode {
+        0b00 => PairMode::NoAllocate,
+        0b01 => PairMode::Post,
+        0b10 => PairMode::Offset,
+        _ => PairMode::Pre,
+    }
 }

@@ -12,16 +12,16 @@ pub fn finish(entry: u32, word: u32) -> Decoded
     ensures { λ r. ⌜ r ≡ examineBy entry word ⌝ }
 {
     let code = entry % 16;
-    let op = family::sized_op(code);
+    let op = instruction::sized_at(code);
     let row = row_in(entry / 16, word);
     match row {
         Row::NoRow => view::refused(Answer::NotInSet),
         Row::LiteralRow => {
-            let family = family::literal(family::literal_op(code), word);
+            let family = family::literal(instruction::literal_at(code), word);
             view::viewed(false, false, family)
         }
         Row::PairRow => {
-            let family = family::pair(family::pair_op(code), word);
+            let family = family::pair(instruction::pair_at(code), word);
             view::viewed(code == 15, unpredictable::in_pair(word), family)
         }
         Row::OrderedRow => view::viewed(13 < code, false, family::ordered(op, word)),

@@ -13,4 +13,4 @@ pair-op-in-spec =
     (λ c. search needs)
     (λ c. search needs)
     (λ c κs. search needs)
-    (λ c. c .pair-op .ensures))
+    (λ c. c .pair-at .ensures))

@@ -18,4 +18,4 @@ pair-operands-spec =
     (λ c κs. search needs)
     (λ c κs. omega (arith, c .pair-bytes .ensures, paired (c .before .args .op)))
     (λ c κs. search needs)
-    (λ c. pair-is (c .before .before .before .args .op) (c .before .before .before .args .word) (c .before .before .pair-bytes .ensures) (toZ-ofZ (sfits-of (c .before .signed .ok)) ∙ c .before .signed .ensures) (c .pair-mode .ensures)))
+    (λ c. pair-is (c .before .before .before .args .op) (c .before .before .before .args .word) (c .before .before .pair-bytes .ensures) (toZ-ofZ (sfits-of (c .before .signed .ok)) ∙ c .before .signed .ensures) (c .mode-at .ensures)))

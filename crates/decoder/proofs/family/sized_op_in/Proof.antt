@@ -13,4 +13,4 @@ sized-op-in-spec =
     (λ c. search needs)
     (λ c. search needs)
     (λ c κs. search needs)
-    (λ c. c .sized-op .ensures))
+    (λ c. c .sized-at .ensures))

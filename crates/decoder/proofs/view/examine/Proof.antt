@@ -58,7 +58,7 @@ examine-spec =
     (λ c κs. search needs)
     (λ c κs. search needs)
     (λ c. outside _ (c .before .before .before .row-of .ensures) Row.NoRow (c .before .enum-told .given .1) refl (c .refused .ensures))
-    (λ c. viewed-is _ (c .before .before .before .before .before .row-of .ensures) Row.LiteralRow (c .before .before .before .enum-told2 .given .1) (λ n. cc) refl refl (rw (c .before .literal .ensures, c .before .before .literal-op .ensures)) (c .viewed .ensures))
+    (λ c. viewed-is _ (c .before .before .before .before .before .row-of .ensures) Row.LiteralRow (c .before .before .before .enum-told2 .given .1) (λ n. cc) refl refl (rw (c .before .literal .ensures, c .before .before .literal-at .ensures)) (c .viewed .ensures))
     (λ c. viewed-is _ (c .before .before .before .before .before .before .before .row-of .ensures) Row.PairRow (c .before .before .before .before .before .enum-told3 .given .1) (λ n. cc) (c .before .before .in-pair .ensures) (c .before .in-pair2 .ensures) (rw (c .before .before .before .pair .ensures, c .before .before .before .before .pair-op-in .ensures)) (c .viewed2 .ensures))
     (λ c. viewed-is _ (c .before .before .before .before .before .before .row-of .ensures) Row.OrderedRow (c .before .before .before .before .enum-told4 .given .1) (λ n. cc) (c .before .without-prefetch .ensures) refl (rw (c .before .before .ordered .ensures, c .before .before .before .sized-op-in .ensures)) (c .viewed3 .ensures))
     (λ c. viewed-is _ (c .before .before .before .before .before .before .row-of .ensures) Row.UnscaledRow (c .before .before .before .before .enum-told5 .given .1) (λ n. cc) (c .before .in-size .ensures) refl (rw (c .before .before .unscaled .ensures, c .before .before .before .sized-op-in2 .ensures)) (c .viewed4 .ensures))

@@ -1,14 +1,14 @@
--- `decoder::family::pair_op` meets its contract: each arm is an entry of the table. Assumes nothing.
+-- `instruction::operation::pair_at` meets its contract: each arm is an entry of the table. Assumes nothing.
 use mathlib.Core.Path.{sym, ap}
 use Rattle.bits.specs.Choice.{byCode}
 use Rattle.bits.proofs.Choices.{absent}
 use Rattle.instruction.specs.Operations.{pairCode, pairOps, pairAt}
-use Rattle.decoder.proofs.family.pair_op.Statement.{statement}
-use Rattle.decoder.proofs.family.pair_op.Tie as tie
+use Rattle.instruction.proofs.operation.pair_at.Statement.{statement}
+use Rattle.instruction.proofs.operation.pair_at.Tie as tie
 
-pub pair-op-spec : {M : Type 1} → statement M
+pub pair-at-spec : {M : Type 1} → statement M
 unfolding pairAt
-pair-op-spec =
+pair-at-spec =
     tie.close
     (tie.spec
     (λ c. ap pairAt (sym (c .match .keys1)))

@@ -1,14 +1,14 @@
--- `decoder::family::sized_op` meets its contract: each arm is an entry of the table. Assumes nothing.
+-- `instruction::operation::sized_at` meets its contract: each arm is an entry of the table. Assumes nothing.
 use mathlib.Core.Path.{sym, ap}
 use Rattle.bits.specs.Choice.{byCode}
 use Rattle.bits.proofs.Choices.{absent}
 use Rattle.instruction.specs.Operations.{sizedCode, sizedOps, sizedAt}
-use Rattle.decoder.proofs.family.sized_op.Statement.{statement}
-use Rattle.decoder.proofs.family.sized_op.Tie as tie
+use Rattle.instruction.proofs.operation.sized_at.Statement.{statement}
+use Rattle.instruction.proofs.operation.sized_at.Tie as tie
 
-pub sized-op-spec : {M : Type 1} → statement M
+pub sized-at-spec : {M : Type 1} → statement M
 unfolding sizedAt
-sized-op-spec =
+sized-at-spec =
     tie.close
     (tie.spec
     (λ c. ap sizedAt (sym (c .match .keys1)))
