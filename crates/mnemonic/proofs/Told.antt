@@ -17,8 +17,7 @@ use Rattle.mnemonic.specs.Mnemonics.{sizedName, pairName}
 use Rattle.mnemonic.specs.Operands.{Operand, letterOf, sizedOperand, pairOperand}
 use Rattle.mnemonic.specs.declared.Stem.{Stem}
 use Rattle.mnemonic.specs.declared.Mnemonic.{Mnemonic}
-use Rattle.mnemonic.specs.declared.table.SizedEntry.{SizedEntry}
-use Rattle.mnemonic.specs.declared.table.PairEntry.{PairEntry}
+use Rattle.mnemonic.specs.declared.table.Entry.{Entry}
 use Rattle.mnemonic.specs.route.Named.{Known, known, told}
 use Rattle.mnemonic.specs.route.Parts.{sizedStem, pairStem, sizedEntry, pairEntry, behindStem}
 
@@ -53,7 +52,7 @@ tells-is m name operand h =
 
 -- ---- the operations with a size
 
-sizedMade : Stem → SizedEntry → Mnemonic
+sizedMade : Stem → Entry → Mnemonic
 sizedMade stem e = behindStem (sizedStem stem (e .kind)) (e .letters) (e .shape)
 
 sizedTest : Stem → ℕ → Bool
@@ -65,7 +64,7 @@ all-sized Stem.Plain = refl
 all-sized Stem.Unscale = refl
 all-sized Stem.Order = refl
 
-pub sized-is : (stem : Stem) (op : SizedOp) {t : ℕ} {e : SizedEntry} {m : Mnemonic} → e ≡ sizedEntry op
+pub sized-is : (stem : Stem) (op : SizedOp) {t : ℕ} {e : Entry} {m : Mnemonic} → e ≡ sizedEntry op
     → t ≡ sizedStem stem (e .kind) → m ≡ behindStem t (e .letters) (e .shape) → known m ≡ told (sizedName stem op) (sizedOperand op)
 unfolding sizedTest sizedMade
 sized-is stem op e t m =
@@ -79,7 +78,7 @@ sized-by stem op s o e = e ∙ rw (s, o, sized-at op)
 
 -- ---- pairs
 
-pairMade : PairMode → PairEntry → Mnemonic
+pairMade : PairMode → Entry → Mnemonic
 pairMade mode e = behindStem (pairStem mode (e .kind)) (e .letters) (e .shape)
 
 pairTest : PairMode → ℕ → Bool
@@ -92,7 +91,7 @@ all-pairs PairMode.Post = refl
 all-pairs PairMode.Offset = refl
 all-pairs PairMode.Pre = refl
 
-pub pair-is : (mode : PairMode) (op : PairOp) {t : ℕ} {e : PairEntry} {m : Mnemonic} → e ≡ pairEntry op
+pub pair-is : (mode : PairMode) (op : PairOp) {t : ℕ} {e : Entry} {m : Mnemonic} → e ≡ pairEntry op
     → t ≡ pairStem mode (e .kind) → m ≡ behindStem t (e .letters) (e .shape) → known m ≡ told (pairName mode op) (pairOperand op)
 unfolding pairTest pairMade
 pair-is mode op e t m =

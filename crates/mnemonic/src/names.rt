@@ -1,6 +1,5 @@
 // The names by number: 16 for each stem, by the code of the operation, and 8 for each kind of pair.
 use crate::Stem;
-use crate::table;
 use instruction::PairOp;
 use instruction::SizedOp;
 ghost use mathlib.Core.Path.{_≡_};
@@ -16,12 +15,9 @@ pub fn name_at(number: u32) -> Name
     ensures { λ r. ⌜ r ≡ nameAt number ⌝ }
 {
     if number < 48 {
-        let sized = table::sized_entry(number % 16);
-        let op = sized.op;
-        return Name::Sized(stem_at(number / 16), op);
+        return Name::Sized(stem_at(number / 16), instruction::sized_at(number % 16));
     }
-    let pair = table::pair_entry(number % 8);
-    let op = pair.op;
+    let op = instruction::pair_at(number % 8);
     if number < 56 {
         return Name::NoAllocatePair(op);
     }

@@ -13,8 +13,7 @@ use Rattle.mnemonic.specs.Mnemonics.{suffix}
 use Rattle.mnemonic.specs.Operands.{Operand, letterOf, sizedOperand, pairOperand}
 use Rattle.mnemonic.specs.declared.Stem.{Stem}
 use Rattle.mnemonic.specs.declared.Mnemonic.{Mnemonic}
-use Rattle.mnemonic.specs.declared.table.SizedEntry.{SizedEntry}
-use Rattle.mnemonic.specs.declared.table.PairEntry.{PairEntry}
+use Rattle.mnemonic.specs.declared.table.Entry.{Entry}
 
 -- letters in a number, the first lowest
 abbrev pub packed : List ℕ → ℕ
@@ -60,20 +59,18 @@ pairStem PairMode.Pre kind = allocateStem kind
 abbrev pub shapeIn : List ℕ → Operand → ℕ
 shapeIn letters operand = letterOf operand * 256 + length letters
 
-abbrev pub sizedEntry : SizedOp → SizedEntry
+abbrev pub entryOf : ℕ → ℕ → ℕ → Entry
+entryOf kind letters shape = record { kind = kind; letters = letters; shape = shape }
+
+abbrev pub sizedEntry : SizedOp → Entry
 sizedEntry op =
     let behind = pick (eqb (sizedCode op) 0b11_10) [] (suffix (sizeOf op) (ltb 0b01 (opcOf op))) in
-    record {
-      op = op;
-      kind = pick (eqb (sizedCode op) 0b11_10) 2 (pick (eqb (opcOf op) 0b00) 0 1);
-      letters = packed behind;
-      shape = shapeIn behind (sizedOperand op);
-    }
+    entryOf (pick (eqb (sizedCode op) 0b11_10) 2 (pick (eqb (opcOf op) 0b00) 0 1)) (packed behind) (shapeIn behind (sizedOperand op))
 
-abbrev pub pairEntry : PairOp → PairEntry
+abbrev pub pairEntry : PairOp → Entry
 pairEntry op =
     let behind = asc "p" ++ pick (eqb (pairOpc op) 0b01) (asc "sw") [] in
-    record { op = op; kind = pairLoad op; letters = packed behind; shape = shapeIn behind (pairOperand op) }
+    entryOf (pairLoad op) (packed behind) (shapeIn behind (pairOperand op))
 
 -- letters behind a stem
 abbrev pub behindStem : ℕ → ℕ → ℕ → Mnemonic

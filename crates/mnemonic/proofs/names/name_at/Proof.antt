@@ -12,7 +12,7 @@ name-at-spec =
     (tie.spec
     (λ c κs. search needs)
     (λ c κs. search needs)
-    (λ c. rw (lt-ltb _ _ (c .before .before .if1 .taken), c .stem-at .ensures, c .before .sized-entry .ensures))
+    (λ c. rw (lt-ltb _ _ (c .before .before .if1 .taken), c .before .stem-at .ensures, c .sized-at .ensures))
     (λ c κs. search needs)
-    (λ c. rw (le-ltb _ _ (c .before .before .if1 .left), lt-ltb _ _ (c .if2 .taken), c .before .pair-entry .ensures))
-    (λ c. rw (le-ltb _ _ (c .before .before .if1 .left), le-ltb _ _ (c .if2 .left), c .before .pair-entry .ensures)))
+    (λ c. rw (le-ltb _ _ (c .before .before .if1 .left), lt-ltb _ _ (c .if2 .taken), c .before .pair-at .ensures))
+    (λ c. rw (le-ltb _ _ (c .before .before .if1 .left), le-ltb _ _ (c .if2 .left), c .before .pair-at .ensures)))
