@@ -24,33 +24,24 @@ packed (b ∷ bs) = b + packed bs * 256
 abbrev pub stemIn : List ℕ → ℕ
 stemIn letters = packed letters + length letters * 0x100_0000_0000_0000
 
--- the stems of a store, a load and a prefetch, by kind
-abbrev pub kinds : List ℕ → List ℕ → List ℕ → List (ℕ × ℕ)
-kinds store load hint = (0, stemIn store) ∷ (1, stemIn load) ∷ (2, stemIn hint) ∷ []
+-- a store's, a load's and a prefetch's, by kind
+abbrev pub kinds : ℕ → ℕ → ℕ → List (ℕ × ℕ)
+kinds store load hint = (0, store) ∷ (1, load) ∷ (2, hint) ∷ []
 
-abbrev pub plainStem : ℕ → ℕ
-plainStem kind = lookup 0 (kinds (asc "str") (asc "ldr") (asc "prfm")) kind
-
-abbrev pub unscaledStem : ℕ → ℕ
-unscaledStem kind = lookup 0 (kinds (asc "stur") (asc "ldur") (asc "prfum")) kind
-
-abbrev pub orderedStem : ℕ → ℕ
-orderedStem kind = lookup 0 (kinds (asc "stlur") (asc "ldapur") (asc "prfum")) kind
+abbrev pub stemBy : List ℕ → List ℕ → List ℕ → ℕ → ℕ
+stemBy store load hint kind = lookup 0 (kinds (stemIn store) (stemIn load) (stemIn hint)) kind
 
 abbrev pub sizedStem : Stem → ℕ → ℕ
-sizedStem Stem.Plain kind = plainStem kind
-sizedStem Stem.Unscale kind = unscaledStem kind
-sizedStem Stem.Order kind = orderedStem kind
+sizedStem Stem.Plain kind = stemBy (asc "str") (asc "ldr") (asc "prfm") kind
+sizedStem Stem.Unscale kind = stemBy (asc "stur") (asc "ldur") (asc "prfum") kind
+sizedStem Stem.Order kind = stemBy (asc "stlur") (asc "ldapur") (asc "prfum") kind
 
--- no pair has a hint; a fourth stem makes the match a table
-abbrev pub noAllocateStem : ℕ → ℕ
-noAllocateStem kind = lookup 0 (kinds (asc "stn") (asc "ldn") (asc "ldn")) kind
-
+-- no pair has a hint
 abbrev pub allocateStem : ℕ → ℕ
-allocateStem kind = lookup 0 (kinds (asc "st") (asc "ld") (asc "ld")) kind
+allocateStem kind = stemBy (asc "st") (asc "ld") (asc "ld") kind
 
 abbrev pub pairStem : PairMode → ℕ → ℕ
-pairStem PairMode.NoAllocate kind = noAllocateStem kind
+pairStem PairMode.NoAllocate kind = stemBy (asc "stn") (asc "ldn") (asc "ldn") kind
 pairStem PairMode.Post kind = allocateStem kind
 pairStem PairMode.Offset kind = allocateStem kind
 pairStem PairMode.Pre kind = allocateStem kind

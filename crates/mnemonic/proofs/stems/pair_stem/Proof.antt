@@ -15,7 +15,7 @@ pair-stem-spec =
     (λ c κs. search needs)
     (λ c. search needs)
     (λ c κs. search needs)
-    (λ c. rw (c .before .enum-told .given .1) (c .no-allocate-stem .ensures))
+    (λ c. rw (c .before .enum-told .given .1) (c .by-kind .ensures))
     (λ c. rw (c .before .enum-told2 .given .1) (c .allocate-stem .ensures))
     (λ c. rw (c .before .enum-told3 .given .1) (c .allocate-stem2 .ensures))
     (λ c. rw (c .before .enum-told4 .given .1) (c .allocate-stem3 .ensures)))
