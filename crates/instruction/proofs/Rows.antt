@@ -11,7 +11,7 @@ use Rattle.bits.proofs.Choices.{pick-by, neither}
 use Rattle.bits.proofs.Parts.{part-lt, cut, Has, has-true}
 use Rattle.instruction.specs.Types.{Row}
 use Rattle.instruction.specs.Undefined.{sizeOpc, undefinedSize, undefinedPrefetch, undefinedOption}
-use Rattle.instruction.specs.Table.{columnsOf, rows, matches, inSet, firstOf, rowOf, undefined, unpredictable, instructionOf}
+use Rattle.instruction.specs.Table.{columnsOf, rows, matches, inSet, firstRow, rowOf, undefined, unpredictable, instructionOf}
 
 -- ---- the row of a word
 
@@ -41,7 +41,7 @@ never-overlap w a b p q = sym (row-is w a (has-true w (columnsOf a .fixed) p)) �
 
 -- ---- words of the set
 
-some-of : (rs : List Row) (w : ℕ) → any (matches w) rs ≡ matches w (firstOf rs w)
+some-of : (rs : List Row) (w : ℕ) → any (matches w) rs ≡ matches w (firstRow (matches w) rs)
 some-of [] w = sym (no-row w)
 some-of (r ∷ rs) w =
     pick-by (λ (x : Row). (matches w r || any (matches w) rs) ≡ matches w x) (matches w r) (λ e. rw e) (λ e. rw e (some-of rs w))
@@ -56,7 +56,7 @@ pub row-has : (w : ℕ) → inSet w ≡ true → Has w (columnsOf (rowOf w) .fix
 row-has w t = has-true w (columnsOf (rowOf w) .fixed) (sym (set-matches w) ∙ t)
 
 -- other words have no row
-none-of : (rs : List Row) (w : ℕ) → any (matches w) rs ≡ false → firstOf rs w ≡ Row.NoRow
+none-of : (rs : List Row) (w : ℕ) → any (matches w) rs ≡ false → firstRow (matches w) rs ≡ Row.NoRow
 none-of [] w e = refl
 none-of (r ∷ rs) w e =
     let n = neither (matches w r) (any (matches w) rs) e in

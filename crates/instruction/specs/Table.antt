@@ -62,13 +62,14 @@ matches w r = has w (columnsOf r .fixed)
 unfoldable pub inSet : ℕ → Bool
 inSet w = any (matches w) rows
 
-abbrev pub firstOf : List Row → ℕ → Row
-firstOf [] w = Row.NoRow
-firstOf (r ∷ rs) w = pick (matches w r) r (firstOf rs w)
+-- the first row that passes a test
+abbrev pub firstRow : (Row → Bool) → List Row → Row
+firstRow p [] = Row.NoRow
+firstRow p (r ∷ rs) = pick (p r) r (firstRow p rs)
 
 -- the row that a word matches
 unfoldable pub rowOf : ℕ → Row
-rowOf w = firstOf rows w
+rowOf w = firstRow (matches w) rows
 
 unfoldable pub undefined : ℕ → Bool
 undefined w = columnsOf (rowOf w) .undefined w

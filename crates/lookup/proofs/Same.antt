@@ -19,12 +19,12 @@ use Rattle.instruction.specs.Undefined.{sizeOpc, undefinedSize, undefinedPrefet
 use Rattle.instruction.specs.Operations.{literalAt, sizedAt, pairAt}
 use Rattle.instruction.specs.Operands.{sizedIn, literalIn, pairOpIn, pairIn, signedIn, indexIn, unsignedIn}
 use Rattle.instruction.specs.Unpredictable.{unpredictableBase, unpredictablePair}
-use Rattle.instruction.specs.Table.{columnsOf, rows, matches, firstOf, rowOf}
+use Rattle.instruction.specs.Table.{columnsOf, rows, matches, firstRow, rowOf}
 use Rattle.instruction.proofs.Rows.{set-matches, of-set}
 use Rattle.decoder.specs.Decoding.{decodeOf}
 use Rattle.decoder.proofs.Arms.{Examined, outside, viewed-is, decoded-is}
 use Rattle.lookup.specs.Entries.{upper, lower, allows, familiesIn, codeIn, names, operationCode, entryOf, entries}
-use Rattle.lookup.specs.Lookup.{firstNamed, rowIn, seen, examineAs, examineBy, examineIn, decodeIn}
+use Rattle.lookup.specs.Lookup.{rowIn, seen, examineAs, examineBy, examineIn, decodeIn}
 use Rattle.lookup.proofs.Rule.{alike, alike-true, names-allowed, code-allowed, entry-is}
 
 -- ---- a part of bits 31..22 is a part of the ten bits
@@ -106,7 +106,7 @@ module _ (w : ℕ) where
   agree : (r : Row) → ¬ (r ≡ Row.NoRow) → (names (familiesIn (entryOf (part 22 10 w))) r && has w (lower (columnsOf r .fixed))) ≡ matches w r
   agree r n = ap (λ (b : Bool). b && has w (lower (columnsOf r .fixed))) (names-allowed (part 22 10 w) (part-lt 22 10 w) r n) ∙ sym (matched w r)
 
-  first : (rs : List Row) → Proper rs → firstNamed rs (familiesIn (entryOf (part 22 10 w))) w ≡ firstOf rs w
+  first : (rs : List Row) → Proper rs → firstRow (λ r. names (familiesIn (entryOf (part 22 10 w))) r && has w (lower (columnsOf r .fixed))) rs ≡ firstRow (matches w) rs
   first [] p = refl
   first (r ∷ rs) p = let f = first rs (p .1) in rw (agree r (p .0), f)
 

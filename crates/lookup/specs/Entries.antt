@@ -7,7 +7,7 @@ use lib.Dec.{eqb, leb}
 use Rattle.bits.specs.Choice.{pick}
 use Rattle.bits.specs.Fields.{Bits, field, has}
 use Rattle.instruction.specs.declared.row.Row.{Row}
-use Rattle.instruction.specs.Table.{columnsOf, rows, matches}
+use Rattle.instruction.specs.Table.{columnsOf, rows, matches, firstRow}
 use Rattle.instruction.specs.Undefined.{sizeOpc, undefinedSize, undefinedPair}
 
 -- of the bits that a row asks for, those among bits 31..22, counted from 22, and those below
@@ -47,16 +47,12 @@ operationCode Row.PreRow w = pick (undefinedSize w) 15 (sizeOpc w)
 operationCode Row.RegisterRow w = pick (undefinedSize w) 15 (sizeOpc w)
 operationCode Row.UnsignedRow w = pick (undefinedSize w) 15 (sizeOpc w)
 
-abbrev pub firstAllowed : List Row → ℕ → Row
-firstAllowed [] ten = Row.NoRow
-firstAllowed (r ∷ rs) ten = pick (allows ten r) r (firstAllowed rs ten)
-
 -- an entry: 16 times the family code, and the operation code
 abbrev pub entryFor : Row → ℕ → ℕ
 entryFor r ten = familyCode r * 16 + operationCode r (ten * 2 ^ 22)
 
 unfoldable pub entryOf : ℕ → ℕ
-entryOf ten = entryFor (firstAllowed rows ten) ten
+entryOf ten = entryFor (firstRow (allows ten) rows) ten
 
 -- the two codes of an entry, and the rows that a family code names
 abbrev pub familiesIn : ℕ → ℕ

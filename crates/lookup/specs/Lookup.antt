@@ -13,17 +13,13 @@ use Rattle.instruction.specs.declared.row.Row.{Row}
 use Rattle.instruction.specs.Operations.{literalAt, sizedAt, pairAt}
 use Rattle.instruction.specs.Operands.{literalIn, pairIn, signedIn, indexIn, unsignedIn}
 use Rattle.instruction.specs.Unpredictable.{unpredictableBase, unpredictablePair}
-use Rattle.instruction.specs.Table.{columnsOf, rows}
+use Rattle.instruction.specs.Table.{columnsOf, rows, firstRow}
 use Rattle.decoder.specs.Decoding.{decodedFrom, empty}
 use Rattle.lookup.specs.Entries.{lower, names, familiesIn, codeIn}
 
--- the first row that a family code names and whose lower bits the word has
-abbrev pub firstNamed : List Row → ℕ → ℕ → Row
-firstNamed [] families w = Row.NoRow
-firstNamed (r ∷ rs) families w = pick (names families r && has w (lower (columnsOf r .fixed))) r (firstNamed rs families w)
-
+-- the row that a family code names and whose lower bits the word has
 unfoldable pub rowIn : ℕ → ℕ → Row
-rowIn families w = firstNamed rows families w
+rowIn families w = firstRow (λ r. names families r && has w (lower (columnsOf r .fixed))) rows
 
 -- a word of a row that is undefined or unpredictable or of this family
 abbrev pub seen : Bool → Bool → Family → Decoded
