@@ -28,11 +28,12 @@ sizedTransfer op target ordered =
       extent = extentOf (opcOf op) (sizedBytes op);
       target = zeroSlot target;
       second = none;
+      exclusive = false;
     }
 
 unfoldable pub literalTransfer : ℕ → ℕ → ℕ → Transfer
 literalTransfer bytes extent target =
-    record { store = false; ordered = false; bytes = bytes; more = 0; extent = extent; target = zeroSlot target; second = none }
+    record { store = false; ordered = false; bytes = bytes; more = 0; extent = extent; target = zeroSlot target; second = none; exclusive = false }
 
 -- a pair puts Rt first; L loads, and opc 01 has two signed words, extended to 64 bits
 unfoldable pub pairTransfer : PairOp → ℕ → ℕ → Transfer
@@ -45,4 +46,5 @@ pairTransfer op first second =
       extent = pick (eqb (pairOpc op) 0b01) 8 (pairBytes op);
       target = zeroSlot first;
       second = zeroSlot second;
+      exclusive = false;
     }

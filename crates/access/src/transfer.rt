@@ -9,7 +9,7 @@ ghost use Rattle.access.specs.Transfers.{extentOf, sizedTransfer, litera
 
 // Each register's bytes are moved; the second of a pair lies behind the first, and a single register has no
 // bytes there. A loaded number keeps its sign up to the extent, in bytes; it is as long as the number where
-// zeros stand above. An ordered access lies in one block of 16 bytes.
+// zeros stand above. An ordered access lies in one block of 16 bytes. An exclusive one goes by the monitor.
 pub struct Transfer {
     pub store: bool,
     pub ordered: bool,
@@ -18,6 +18,7 @@ pub struct Transfer {
     pub extent: u32,
     pub target: u32,
     pub second: u32,
+    pub exclusive: bool,
 }
 
 pub fn sized(op: SizedOp, target: u32, ordered: bool) -> Transfer
@@ -33,6 +34,7 @@ pub fn sized(op: SizedOp, target: u32, ordered: bool) -> Transfer
         extent: extent(opc, bytes),
         target: registers::zero_slot(target),
         second: 32,
+        exclusive: false,
     }
 }
 
@@ -59,6 +61,7 @@ pub fn literal(bytes: u32, extent: u32, target: u32) -> Transfer
         extent,
         target: registers::zero_slot(target),
         second: 32,
+        exclusive: false,
     }
 }
 
@@ -74,6 +77,7 @@ pub fn pair(op: PairOp, first: u32, second: u32) -> Transfer
         extent: pair_extent(op, bytes),
         target: registers::zero_slot(first),
         second: registers::zero_slot(second),
+        exclusive: false,
     }
 }
 
