@@ -1,4 +1,4 @@
--- Taint bytes: one for each byte of memory, tainted where it is not 0. 01's mark buffer.
+-- Taint bytes: one for each byte of memory, and one for each register, tainted where it is not 0. 01's marks.
 use Prim.Native.Nat.{ℕ, zero, suc}
 use mathlib.Core.Bool.{Bool, true, false}
 use mathlib.Core.List.{List, [], _∷_}
@@ -12,7 +12,7 @@ unfoldable pub anyTainted : List ℕ → Bool
 anyTainted [] = false
 anyTainted (k ∷ ks) = pick (tainted k) true (anyTainted ks)
 
--- the taint byte of a stored byte
+-- the taint byte that is set
 abbrev pub taintByte : Bool → ℕ
 taintByte true = 1
 taintByte false = 0

@@ -103,7 +103,8 @@ fn set_byte(part: &mut [u8], i: usize, byte: u8)
     }
 }
 
-fn taint_byte(taint: bool) -> u8
+// The taint byte of what is tainted, or not.
+pub fn taint_byte(taint: bool) -> u8
     ensures { λ r. ⌜ r ≡ taintByte taint ⌝ }
 {
     if taint {

@@ -1,8 +1,8 @@
 // Registers read where the two arrays of a file are lent, so that reading copies neither. A number behind the end of
 // an array reads 0, untainted, as one above 31 does of a file.
 ghost use mathlib.Core.Path.{_≡_};
-ghost use mathlib.Core.Bool.{false};
 ghost use lib.ListN.{getD};
+ghost use Rattle.registers.specs.File.{taintIn};
 
 pub fn value_in(value: &[u64], n: u32) -> u64
     ensures { λ r. ⌜ r ≡ getD (now (value .entry)) n 0 ⌝ }
@@ -14,12 +14,12 @@ pub fn value_in(value: &[u64], n: u32) -> u64
     0
 }
 
-pub fn is_tainted_in(taint: &[bool], n: u32) -> bool
-    ensures { λ r. ⌜ r ≡ getD (now (taint .entry)) n false ⌝ }
+pub fn is_tainted_in(taint: &[u8], n: u32) -> bool
+    ensures { λ r. ⌜ r ≡ taintIn (now (taint .entry)) n ⌝ }
 {
     let i = n as usize;
     if i < taint.len() {
-        return taint[i];
+        return taint[i] != 0;
     }
     false
 }

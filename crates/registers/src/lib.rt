@@ -1,4 +1,5 @@
-// The register file: X0 to X30 and SP, each with its taint. A file is handed over and given back by value.
+// The register file: X0 to X30 and SP, each with its taint byte: any but 0 is tainted, and setting writes 0 or 1. A file
+// is handed over and given back by value.
 // A register is asked for by number in two ways: 31 is SP, or it is the zero register, which no number from
 // 32 on is told from: both read 0, untainted, and setting them changes nothing.
 mod lent;
@@ -11,7 +12,7 @@ ghost use Rattle.registers.specs.File.{zeroSlot, valueAt, taintAt, setAt
 #[repr(C)]
 pub struct Registers {
     pub value: [u64; 32],
-    pub taint: [bool; 32],
+    pub taint: [u8; 32],
 }
 
 // The number of a register where 31 is the zero register.
@@ -40,7 +41,7 @@ impl Registers {
     {
         if n < 32 {
             let i = n as usize;
-            return self.taint[i];
+            return self.taint[i] != 0;
         }
         false
     }
@@ -51,7 +52,7 @@ impl Registers {
         if n < 32 {
             let i = n as usize;
             self.value[i] = value;
-            self.taint[i] = taint;
+            self.taint[i] = memory::taint_byte(taint);
         }
         self
     }
