@@ -49,7 +49,7 @@ not-outside total a origin len h = inside-at total a origin len (ltb a origin) r
 -- an admitted access lies in the window
 pub admit-inside : (w : Window) (len : ℕ) (t : Transfer) (a : ℕ) → Passed (admitOf w len t a) → Inside (totalOf t) a (w .origin) len
 unfolding admitOf
-admit-inside w len t a p = not-outside (totalOf t) a (w .origin) len (p .1 .0)
+admit-inside w len t a p = not-outside (totalOf t) a (w .origin) len (p .1 .1 .0)
 
 abbrev address : Plan → ℕ
 address (Refuse answer a) = a
@@ -90,7 +90,7 @@ plan-stack admit t d o e f g = held (misalignedStack (d .base) (o .base)) (Refus
 
 admit-answers : (w : Window) (len : ℕ) (t : Transfer) (a : ℕ) → Each (Reports a) (admitOf w len t a)
 unfolding admitOf
-admit-answers w len t a = ((refl, λ h. omega arith), ((refl, λ h. omega arith), ((refl, λ h. omega arith), tt)))
+admit-answers w len t a = ((refl, λ h. omega arith), ((refl, λ h. omega arith), ((refl, λ h. omega arith), ((refl, λ h. omega arith), tt))))
 
 pub plan-admitted : (w : Window) (len : ℕ) (t : Transfer) (d : Addressing) (o : Operands) {u : Bool} {s x : ℕ} {r : Answer} → o .tainted ≡ false → u ≡ misalignedStack (d .base) (o .base) → u ≡ false → s ≡ sumOf d o → x ≡ pick (d .post) (o .base) s
     → r ≡ answerIn (admitOf w len t x) → pick (eqb (answerNumber r) 0) (Touch x s) (Refuse r x) ≡ planOf (admitOf w len) t d o

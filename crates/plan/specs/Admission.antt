@@ -1,8 +1,8 @@
--- Answers 6, 7 and 8: 01, "Answer numbers". All as whole numbers.
+-- Answers 6, 7 and 8: 01, "Answer numbers", and 02, CR 3. All as whole numbers.
 use Prim.Native.Nat.{ℕ, _+_, _%_}
-use mathlib.Core.Bool.{Bool, true, false}
+use mathlib.Core.Bool.{Bool, true, false, not}
 use mathlib.Core.List.{List, [], _∷_}
-use lib.Dec.{ltb}
+use lib.Dec.{eqb, ltb}
 use Rattle.bits.specs.Choice.{pick}
 use Rattle.instruction.specs.declared.answer.Answer.the-variants.{Misaligned, OutOfWindow, ReadOnly}
 use Rattle.access.specs.declared.transfer.Transfer.{Transfer}
@@ -17,6 +17,10 @@ totalOf t = t .bytes + t .more
 unfoldable pub misaligned : Bool → ℕ → ℕ → Bool
 misaligned ordered total a = pick ordered (ltb 16 (a % 16 + total)) false
 
+-- 02, CR 3: "an exclusive's address not a multiple of the size is 6"
+unfoldable pub unaligned : Bool → ℕ → ℕ → Bool
+unaligned exclusive total a = pick exclusive (not (eqb (a % total) 0)) false
+
 -- 7: not inside origin to origin + len
 unfoldable pub outside : ℕ → ℕ → ℕ → ℕ → Bool
 outside total a origin len = pick (ltb a origin) true (ltb (origin + len) (a + total))
@@ -28,6 +32,7 @@ guarded store a w = pick store (ltb a (w .origin + w .readonly)) false
 unfoldable pub admitOf : Window → ℕ → Transfer → ℕ → List Refusal
 admitOf w len t a =
     refusal Misaligned (misaligned (t .ordered) (totalOf t) a) a
+    ∷ refusal Misaligned (unaligned (t .exclusive) (totalOf t) a) a
     ∷ refusal OutOfWindow (outside (totalOf t) a (w .origin) len) a
     ∷ refusal ReadOnly (guarded (t .store) a w) a
     ∷ []

@@ -3,15 +3,20 @@ use crate::window::Window;
 use access::Transfer;
 use instruction::Answer;
 ghost use mathlib.Core.Path.{_≡_};
-ghost use Prim.Native.Nat.{_≤_, _+_};
+ghost use mathlib.Core.Bool.{not};
+ghost use Prim.Native.Nat.{_≤_, _+_, _%_};
+ghost use lib.Dec.{eqb};
 ghost use Rattle.plan.specs.Refusals.{answerIn};
-ghost use Rattle.plan.specs.Admission.{misaligned, outside, guarded, admitOf};
+ghost use Rattle.plan.specs.Admission.{misaligned, unaligned, outside, guarded, admitOf};
 
 pub fn admission(t: Transfer, address: u64, window: Window, len: u64) -> Answer
     ensures { λ r. ⌜ r ≡ answerIn (admitOf window len t address) ⌝ }
 {
     let total = t.bytes as u64 + t.more as u64;
     if is_misaligned(t.ordered, total, address) {
+        return Answer::Misaligned;
+    }
+    if is_unaligned(t.exclusive, total, address) {
         return Answer::Misaligned;
     }
     if is_outside(total, address, window.origin, len) {
@@ -31,6 +36,25 @@ fn is_misaligned(ordered: bool, total: u64, address: u64) -> bool
         return 16 < address % 16 + total;
     }
     false
+}
+
+fn is_unaligned(exclusive: bool, total: u64, address: u64) -> bool
+    ensures { λ r. ⌜ r ≡ unaligned exclusive total address ⌝ }
+{
+    if exclusive {
+        return remains(address, total);
+    }
+    false
+}
+
+// Whether a division leaves a remainder. Of 0, only 0 is a multiple.
+fn remains(address: u64, total: u64) -> bool
+    ensures { λ r. ⌜ r ≡ not (eqb (address % total) 0) ⌝ }
+{
+    if total == 0 {
+        return address != 0;
+    }
+    address % total != 0
 }
 
 fn is_outside(total: u64, address: u64, origin: u64, len: u64) -> bool
