@@ -110,7 +110,7 @@ Later e = (1 < answerNumber (e .answer)) × (answerNumber (e .answer) < 9)
 access-later : (w : Window) (x : Access) (m : Machine) → Each Later (accessRefusals (admitOf w (length (m .memory))) x m)
 unfolding admitOf
 access-later w Nothing m = tt
-access-later w (Moves t a) m = ((omega arith, omega arith), ((omega arith, omega arith), ((omega arith, omega arith), ((omega arith, omega arith), ((omega arith, omega arith), tt)))))
+access-later w (Moves t a) m = ((omega arith, omega arith), ((omega arith, omega arith), ((omega arith, omega arith), ((omega arith, omega arith), ((omega arith, omega arith), ((omega arith, omega arith), tt))))))
 
 pub word-later : (w : Window) (word : ℕ) (m : Machine) → Each Later (wordRefusals (admitOf w (length (m .memory))) word m)
 word-later w word m = ((omega arith, omega arith), ((omega arith, omega arith), ((omega arith, omega arith), access-later w (wordAccess word) m)))

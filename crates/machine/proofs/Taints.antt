@@ -1,7 +1,7 @@
 -- The taints after a step are those of the taint rule. Assumes nothing.
 use Prim.Native.Nat.{ℕ, suc, _+_, _-_, _≤_, _<_}
 use mathlib.Core.Path.{_≡_, refl, _∙_}
-use mathlib.Core.Bool.{Bool, false}
+use mathlib.Core.Bool.{false}
 use mathlib.Core.List.{List, [], _∷_}
 use mathlib.Core.Logic.{_⊎_, inl, inr}
 use native.Mathlib.Omega.{arith}
@@ -9,6 +9,7 @@ use lib.ListN.{length, getD, set, replicate, length-replicate}
 use lib.Seq.{sets, getD-set-same, getD-set-other}
 use Rattle.bits.proofs.Choices.{pick-by}
 use Rattle.memory.specs.Taints.{taintByte}
+use Rattle.registers.specs.File.{taintIn}
 use Rattle.access.specs.declared.transfer.Transfer.{Transfer}
 use Rattle.access.specs.declared.Access.{Access}
 use Rattle.access.specs.declared.Access.the-variants.{Nothing, Moves}
@@ -29,7 +30,7 @@ Follows part rule m (moved n shown) = part n ≡ rule shown (part m)
 abbrev pub taintsIn : Machine → Taints
 taintsIn m = m .taints
 
-perform-follows : (origin : ℕ) (x : Access) (m : Machine) → Follows taintsIn (λ shown. ruleOf x (shown .address - origin)) m (performOf origin x m)
+perform-follows : (origin : ℕ) (x : Access) (m : Machine) → Follows taintsIn (λ shown. ruleOf x (shown .status) (shown .address - origin)) m (performOf origin x m)
 unfolding effectOf
 perform-follows origin Nothing m = refl
 perform-follows origin (Moves t a) m = refl
@@ -45,16 +46,16 @@ taints-by-rule w word m =
 
 -- a register that is neither written back nor loaded keeps its taint
 pub register-kept : (t : Transfer) (written at : ℕ) (p : Taints) (slot : ℕ) → ¬ (slot ≡ written) → ¬ (slot ≡ t .target) → ¬ (slot ≡ t .second)
-    → getD (moveRule t written at p .registers) slot false ≡ getD (p .registers) slot false
+    → getD (moveRule t written at p .registers) slot 0 ≡ getD (p .registers) slot 0
 unfolding moveRule
 register-kept t written at p slot a b c =
-    pick-by (λ (u : List Bool). getD u slot false ≡ getD (p .registers) slot false) (t .store) (λ e. rw getD-set-other) (λ e. rw (getD-set-other, getD-set-other, getD-set-other))
+    pick-by (λ (u : List ℕ). getD u slot 0 ≡ getD (p .registers) slot 0) (t .store) (λ e. rw getD-set-other) (λ e. rw (getD-set-other, getD-set-other, getD-set-other))
 
 -- writeback leaves the base untainted; it is never loaded at once, or the word has answer 4
-pub base-untainted : (t : Transfer) (written at : ℕ) (p : Taints) → written < length (p .registers) → ¬ (written ≡ t .target) → ¬ (written ≡ t .second) → getD (moveRule t written at p .registers) written false ≡ false
+pub base-untainted : (t : Transfer) (written at : ℕ) (p : Taints) → written < length (p .registers) → ¬ (written ≡ t .target) → ¬ (written ≡ t .second) → taintIn (moveRule t written at p .registers) written ≡ false
 unfolding moveRule
 base-untainted t written at p h b c =
-    pick-by (λ (u : List Bool). getD u written false ≡ false) (t .store) (λ e. rw getD-set-same) (λ e. rw (getD-set-other, getD-set-other, getD-set-same))
+    pick-by (λ (u : List ℕ). taintIn u written ≡ false) (t .store) (λ e. rw getD-set-same) (λ e. rw (getD-set-other, getD-set-other, getD-set-same))
 
 -- an index before n bytes, or behind them
 abbrev pub Apart : ℕ → ℕ → ℕ → Type 0
@@ -76,7 +77,7 @@ unfolding moveRule
 byte-kept t written at p i a b =
     pick-by (λ (k : List ℕ). getD k i 0 ≡ getD (p .bytes) i 0) (t .store)
     (λ e.
-    let first = replicate (t .bytes) (taintByte (getD (p .registers) (t .target) false)) in
-    let second = replicate (t .more) (taintByte (getD (p .registers) (t .second) false)) in
+    let first = replicate (t .bytes) (taintByte (taintIn (p .registers) (t .target))) in
+    let second = replicate (t .more) (taintByte (taintIn (p .registers) (t .second))) in
     sets-kept second (sets (p .bytes) at first) (at + t .bytes) i (rw length-replicate b) ∙ sets-kept first (p .bytes) at i (rw length-replicate a))
     (λ e. refl)

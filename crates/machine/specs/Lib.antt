@@ -1,3 +1,4 @@
+pub mod Monitor
 pub mod Rule
 pub mod Machine
 pub mod Refusals

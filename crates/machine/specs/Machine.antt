@@ -12,6 +12,8 @@ use Rattle.plan.specs.declared.operands.Operands.{Operands}
 use Rattle.plan.specs.Operands.{operandsIn}
 use Rattle.plan.specs.Admission.{totalOf}
 use Rattle.machine.specs.Rule.{Taints, moveRule}
+use Rattle.machine.specs.Monitor.{openMonitor}
+use Rattle.machine.specs.declared.monitor.Monitor.{Monitor}
 use Rattle.machine.specs.declared.State.{State}
 
 pub record Machine : Type 0 where
@@ -19,11 +21,22 @@ pub record Machine : Type 0 where
   pub pc : ℕ
   pub memory : List ℕ
   pub taints : Taints
+  pub monitor : Monitor
 
 -- the machine of a state, and of the lent memory and taint bytes
 abbrev pub machineOf : State → List ℕ → List ℕ → Machine
 machineOf s memory taint =
-    record { values = s .registers .value; pc = s .pc; memory = memory; taints = record { registers = s .registers .taint; bytes = taint } }
+    record {
+      values = s .registers .value;
+      pc = s .pc;
+      memory = memory;
+      taints = record { registers = s .registers .taint; bytes = taint };
+      monitor = s .monitor;
+    }
+
+-- 02, CR 3: "the host can open it"
+abbrev pub opened : State → State
+opened s = record { registers = s .registers; pc = s .pc; monitor = openMonitor }
 
 -- what an access reads of it to form its address
 abbrev pub operandsOf : Addressing → Machine → Operands
@@ -34,9 +47,9 @@ nextPc pc = (pc + 4) % 2 ^ 64
 
 -- a prefetch changes nothing but PC
 abbrev pub passedOver : Machine → Machine
-passedOver m = record { values = m .values; pc = nextPc (m .pc); memory = m .memory; taints = m .taints }
+passedOver m = record { values = m .values; pc = nextPc (m .pc); memory = m .memory; taints = m .taints; monitor = m .monitor }
 
--- writeback
+-- writeback, or a status
 abbrev pub basedValues : ℕ → ℕ → List ℕ → List ℕ
 basedValues written next v = set v written next
 
@@ -49,14 +62,15 @@ abbrev pub storedBytes : Transfer → ℕ → List ℕ → List ℕ → List ℕ
 storedBytes t at v m =
     sets (sets m at (bytesOf (t .bytes) (getD v (t .target) 0))) (at + t .bytes) (bytesOf (t .more) (getD v (t .second) 0))
 
--- what an access at an index leaves, with what it writes back
-unfoldable pub effectOf : Transfer → ℕ → ℕ → ℕ → Machine → Machine
-effectOf t written at next m =
+-- what an access at an index leaves, with what it writes back and the monitor after it
+unfoldable pub effectOf : Transfer → ℕ → ℕ → ℕ → Monitor → Machine → Machine
+effectOf t written at next monitor m =
     record {
       values = pick (t .store) (basedValues written next (m .values)) (loadedValues t at (basedValues written next (m .values)) (m .memory));
       pc = nextPc (m .pc);
       memory = pick (t .store) (storedBytes t at (m .values) (m .memory)) (m .memory);
       taints = moveRule t written at (m .taints);
+      monitor = monitor;
     }
 
 -- bytes touched, both registers together, plus 64 for a store

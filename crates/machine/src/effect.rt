@@ -1,8 +1,10 @@
 // What an access leaves: the bytes and taints of memory at once, and what it sets in the register file as a small
 // struct, for the second half of a step. The tests are passed by now.
+use crate::monitor;
+use crate::monitor::Monitor;
 use access::Transfer;
 ghost use mathlib.Core.Path.{_≡_};
-ghost use mathlib.Core.Bool.{false, _||_};
+ghost use mathlib.Core.Bool.{_||_};
 ghost use Prim.Native.Nat.{_+_, _≤_};
 ghost use lib.Dec.{ltb};
 ghost use lib.ListN.{length, getD, replicate};
@@ -10,13 +12,15 @@ ghost use lib.Seq.{sets};
 ghost use Rattle.bits.specs.Bytes.{bytesOf, joined, spanOf};
 ghost use Rattle.bits.specs.Extension.{extendedOf};
 ghost use Rattle.memory.specs.Taints.{anyTainted, taintByte};
+ghost use Rattle.registers.specs.File.{taintIn};
 ghost use Rattle.plan.specs.Admission.{totalOf};
+ghost use Rattle.machine.specs.Monitor.{madeOf};
 ghost use Rattle.machine.specs.Rule.{storedTaints};
 ghost use Rattle.machine.specs.Machine.{storedBytes, codeOf};
 ghost use Rattle.machine.specs.route.Writing.{basedOf, loadsOf};
 
-// What a step sets in the register file, in this order: the base that is written back, which is then untainted, and
-// the two registers that are loaded. A number above 31 sets nothing.
+// What a step sets in the register file, in this order: the base or the status that is written, which is then untainted, and
+// the two registers that are loaded; then the monitor. A number above 31 sets no register.
 pub struct Writes {
     pub base: u32,
     pub next: u64,
@@ -26,6 +30,7 @@ pub struct Writes {
     pub second: u32,
     pub value2: u64,
     pub taint2: bool,
+    pub monitor: Monitor,
 }
 
 pub fn code(t: Transfer) -> u64
@@ -38,19 +43,22 @@ pub fn code(t: Transfer) -> u64
     moved
 }
 
-// Whether a file that is lent has a register of this number: setting any other changes nothing.
-pub fn is_register(slot: u32, value: &[u64], tainted: &[bool]) -> bool
-    ensures { λ r. ⌜ r ≡ (ltb slot (length (now (value .entry))) || ltb slot (length (now (tainted .entry)))) ⌝ }
+// Whether a store leaves anything to set: the monitor, or a register that the lent file has.
+pub fn sets_more(exclusive: bool, slot: u32, value: &[u64], tainted: &[u8]) -> bool
+    ensures { λ r. ⌜ r ≡ (exclusive || (ltb slot (length (now (value .entry))) || ltb slot (length (now (tainted .entry))))) ⌝ }
 {
+    if exclusive {
+        return true;
+    }
     if (slot as usize) < value.len() {
         return true;
     }
     (slot as usize) < tainted.len()
 }
 
-// The base alone: setting it again changes nothing.
-pub fn written_back(base: u32, next: u64) -> Writes
-    ensures { λ r. ⌜ r ≡ basedOf base next ⌝ }
+// The base alone, or the status: setting it again changes nothing.
+pub fn written_back(base: u32, next: u64, monitor: Monitor) -> Writes
+    ensures { λ r. ⌜ r ≡ basedOf base next monitor ⌝ }
 {
     Writes {
         base,
@@ -61,13 +69,22 @@ pub fn written_back(base: u32, next: u64) -> Writes
         second: base,
         value2: next,
         taint2: false,
+        monitor,
     }
 }
 
 // What a load at an index sets.
-pub fn loads(t: Transfer, base: u32, next: u64, at: usize, memory: &[u8], taint: &[u8]) -> Writes
+pub fn loads(
+    t: Transfer,
+    base: u32,
+    next: u64,
+    monitor: Monitor,
+    at: usize,
+    memory: &[u8],
+    taint: &[u8],
+) -> Writes
     requires { ⌜ (t .bytes ≤ t .extent) × (t .more ≤ t .extent) × (t .extent ≤ 8) × (at + totalOf t ≤ length (now memory)) × (length (now taint) ≡ length (now memory)) ⌝ }
-    ensures { λ r. ⌜ r ≡ loadsOf t base next at (now (memory .entry)) (now (taint .entry)) ⌝ }
+    ensures { λ r. ⌜ r ≡ loadsOf t base next monitor at (now (memory .entry)) (now (taint .entry)) ⌝ }
 {
     let first = loaded_one(t.bytes, t.extent, at, memory, taint);
     let second = loaded_one(t.more, t.extent, at + t.bytes as usize, memory, taint);
@@ -80,6 +97,7 @@ pub fn loads(t: Transfer, base: u32, next: u64, at: usize, memory: &[u8], taint:
         second: t.second,
         value2: second.value,
         taint2: second.taint,
+        monitor,
     }
 }
 
@@ -108,18 +126,22 @@ fn loaded_one(n: u32, extent: u32, at: usize, memory: &[u8], taint: &[u8]) -> Lo
     }
 }
 
-// Memory and taints after a store at an index.
+// Memory and taints after a store at an index, with its status.
 pub fn stored(
     t: Transfer,
+    status: u8,
     at: usize,
     value: &[u64],
-    tainted: &[bool],
+    tainted: &[u8],
     memory: &mut [u8],
     taint: &mut [u8],
 )
     requires { ⌜ (at + totalOf t ≤ length (now memory)) × (length (now taint) ≡ length (now memory)) ⌝ }
-    ensures { λ _. ⌜ (now (memory .exit) ≡ storedBytes t at (now (value .entry)) (now (memory .entry))) × (now (taint .exit) ≡ storedTaints t at (now (tainted .entry)) (now (taint .entry))) ⌝ }
+    ensures { λ _. ⌜ (now (memory .exit) ≡ storedBytes (madeOf t status) at (now (value .entry)) (now (memory .entry))) × (now (taint .exit) ≡ storedTaints (madeOf t status) at (now (tainted .entry)) (now (taint .entry))) ⌝ }
 {
+    if monitor::fails(t, status) {
+        return;
+    }
     stored_one(t.target, t.bytes, at, value, tainted, memory, taint);
     stored_one(
         t.second,
@@ -138,12 +160,12 @@ fn stored_one(
     n: u32,
     at: usize,
     value: &[u64],
-    tainted: &[bool],
+    tainted: &[u8],
     memory: &mut [u8],
     taint: &mut [u8],
 )
     requires { ⌜ (at + n ≤ length (now memory)) × (length (now taint) ≡ length (now memory)) ⌝ }
-    ensures { λ _. ⌜ (now (memory .exit) ≡ sets (now (memory .entry)) at (bytesOf n (getD (now (value .entry)) slot 0))) × (now (taint .exit) ≡ sets (now (taint .entry)) at (replicate n (taintByte (getD (now (tainted .entry)) slot false)))) ⌝ }
+    ensures { λ _. ⌜ (now (memory .exit) ≡ sets (now (memory .entry)) at (bytesOf n (getD (now (value .entry)) slot 0))) × (now (taint .exit) ≡ sets (now (taint .entry)) at (replicate n (taintByte (taintIn (now (tainted .entry)) slot)))) ⌝ }
 {
     if n == 0 {
         return;

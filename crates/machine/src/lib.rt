@@ -1,12 +1,14 @@
 // One step of the machine, in two halves: the first decodes a word, plans the access and makes it in memory, or
 // refuses and changes nothing; the second sets registers, and gives back the whole state.
 mod effect;
+mod monitor;
 
 use access::Access;
 use access::Addressing;
 use access::Transfer;
 pub use effect::Writes;
 use instruction::Answer;
+pub use monitor::Monitor;
 use plan::Plan;
 pub use plan::Window;
 use registers::Registers;
@@ -15,8 +17,9 @@ ghost use Prim.Native.Nat.{ℕ, _+_, _≤_};
 ghost use lib.ListN.{length};
 ghost use Rattle.access.proofs.Bounds.{Within, Bounded};
 ghost use Rattle.plan.specs.Admission.{totalOf, admitOf};
-ghost use Rattle.machine.specs.Machine.{machineOf, nextPc, effectOf};
-ghost use Rattle.machine.specs.Step.{moved, stepOf, outcome, leaves};
+ghost use Rattle.machine.specs.Monitor.{monitorAfter, madeOf};
+ghost use Rattle.machine.specs.Machine.{machineOf, opened, nextPc, effectOf};
+ghost use Rattle.machine.specs.Step.{shown, moved, stepOf, outcome, leaves};
 ghost use Rattle.machine.specs.route.Parts.{wordStep, accessStep};
 ghost use Rattle.machine.specs.route.Writing.{stateOf, passedOn, settledOf, ends, told};
 
@@ -24,12 +27,14 @@ ghost use Rattle.machine.specs.route.Writing.{stateOf, passedOn, settled
 pub struct State {
     pub registers: Registers,
     pub pc: u64,
+    pub monitor: Monitor,
 }
 
-// What a done step shows.
+// What a done step shows; the status is 0 but for a store-exclusive that fails.
 pub struct Shown {
     pub code: u64,
     pub address: u64,
+    pub status: u8,
 }
 
 // What the first half of a step comes to: it is refused, with an answer and an address; or the access is made, and no
@@ -53,6 +58,7 @@ pub fn step(word: u32, state: State, window: Window, memory: &mut [u8], taint: &
     match decide(
         word,
         state.pc,
+        state.monitor,
         window,
         &state.registers.value,
         &state.registers.taint,
@@ -62,7 +68,7 @@ pub fn step(word: u32, state: State, window: Window, memory: &mut [u8], taint: &
         Decision::Refused(answer, address) => Stepped {
             state,
             answer,
-            shown: Shown { code: 0, address },
+            shown: no_code(address),
         },
         Decision::Passed(shown) => Stepped {
             state: passed_on(state),
@@ -77,16 +83,42 @@ pub fn step(word: u32, state: State, window: Window, memory: &mut [u8], taint: &
     }
 }
 
+// What a refusal shows, and a prefetch with address 0.
+fn no_code(address: u64) -> Shown
+    ensures { λ r. ⌜ r ≡ shown 0 address 0 ⌝ }
+{
+    Shown {
+        code: 0,
+        address,
+        status: 0,
+    }
+}
+
+// The host's way to open the monitor.
+pub fn open(state: State) -> State
+    ensures { λ r. ⌜ r ≡ opened state ⌝ }
+{
+    let monitor = Monitor {
+        address: 0,
+        size: 0,
+    };
+    let mut next = state;
+    next.monitor = monitor;
+    next
+}
+
 // The second half of a step that sets registers.
 pub fn settled(state: State, writes: Writes) -> State
     ensures { λ r. ⌜ r ≡ settledOf writes state ⌝ }
 {
     let file = state.registers;
+    let monitor = writes.monitor;
     let mut next = state;
     next.registers = file.set(writes.base, writes.next, false)
         .set(writes.first, writes.value, writes.taint)
         .set(writes.second, writes.value2, writes.taint2);
     next.pc = next_pc(state.pc);
+    next.monitor = monitor;
     next
 }
 
@@ -110,32 +142,34 @@ pub fn next_pc(pc: u64) -> u64
 pub fn decide<'a>(
     word: u32,
     pc: u64,
+    monitor: Monitor,
     window: Window,
     value: &'a [u64],
-    tainted: &'a [bool],
+    tainted: &'a [u8],
     memory: &mut [u8],
     taint: &mut [u8],
 ) -> Decision
-    ensures { λ r. ⌜ told (stateOf (now (value .entry)) (now (tainted .entry)) pc) r (now (memory .exit)) (now (taint .exit)) ≡ ends (stepOf window word) (machineOf (stateOf (now (value .entry)) (now (tainted .entry)) pc) (now (memory .entry)) (now (taint .entry))) ⌝ }
+    ensures { λ r. ⌜ told (stateOf (now (value .entry)) (now (tainted .entry)) pc monitor) r (now (memory .exit)) (now (taint .exit)) ≡ ends (stepOf window word) (machineOf (stateOf (now (value .entry)) (now (tainted .entry)) pc monitor) (now (memory .entry)) (now (taint .entry))) ⌝ }
 {
     if plan::is_bad(window, memory.len() as u64, taint.len() as u64, pc) {
         return Decision::Refused(Answer::BadWindow, 0);
     }
-    decide_word(word, pc, window, value, tainted, memory, taint)
+    decide_word(word, pc, monitor, window, value, tainted, memory, taint)
 }
 
 // In a window that is well formed.
 fn decide_word(
     word: u32,
     pc: u64,
+    monitor: Monitor,
     window: Window,
     value: &[u64],
-    tainted: &[bool],
+    tainted: &[u8],
     memory: &mut [u8],
     taint: &mut [u8],
 ) -> Decision
     requires { ⌜ length (now taint) ≡ length (now memory) ⌝ }
-    ensures { λ r. ⌜ told (stateOf (now (value .entry)) (now (tainted .entry)) pc) r (now (memory .exit)) (now (taint .exit)) ≡ ends (wordStep (window .origin) (admitOf window (length (now (memory .entry)))) word) (machineOf (stateOf (now (value .entry)) (now (tainted .entry)) pc) (now (memory .entry)) (now (taint .entry))) ⌝ }
+    ensures { λ r. ⌜ told (stateOf (now (value .entry)) (now (tainted .entry)) pc monitor) r (now (memory .exit)) (now (taint .exit)) ≡ ends (wordStep (window .origin) (admitOf window (length (now (memory .entry)))) word) (machineOf (stateOf (now (value .entry)) (now (tainted .entry)) pc monitor) (now (memory .entry)) (now (taint .entry))) ⌝ }
 {
     let examined = decoder::examine(word);
     let answer = examined.answer;
@@ -146,6 +180,7 @@ fn decide_word(
     decide_access(
         access::access_of(instruction),
         pc,
+        monitor,
         window,
         value,
         tainted,
@@ -157,22 +192,30 @@ fn decide_word(
 fn decide_access(
     x: Access,
     pc: u64,
+    monitor: Monitor,
     window: Window,
     value: &[u64],
-    tainted: &[bool],
+    tainted: &[u8],
     memory: &mut [u8],
     taint: &mut [u8],
 ) -> Decision
     requires { ⌜ Within x × (length (now taint) ≡ length (now memory)) ⌝ }
-    ensures { λ r. ⌜ told (stateOf (now (value .entry)) (now (tainted .entry)) pc) r (now (memory .exit)) (now (taint .exit)) ≡ ends (accessStep (window .origin) (admitOf window (length (now (memory .entry)))) x) (machineOf (stateOf (now (value .entry)) (now (tainted .entry)) pc) (now (memory .entry)) (now (taint .entry))) ⌝ }
+    ensures { λ r. ⌜ told (stateOf (now (value .entry)) (now (tainted .entry)) pc monitor) r (now (memory .exit)) (now (taint .exit)) ≡ ends (accessStep (window .origin) (admitOf window (length (now (memory .entry)))) x) (machineOf (stateOf (now (value .entry)) (now (tainted .entry)) pc monitor) (now (memory .entry)) (now (taint .entry))) ⌝ }
 {
     match x {
         // A prefetch: the program counter goes on.
-        Access::Nothing => Decision::Passed(Shown {
-            code: 0,
-            address: 0,
-        }),
-        Access::Moves(t, a) => decide_moves(t, a, pc, window, value, tainted, memory, taint),
+        Access::Nothing => Decision::Passed(no_code(0)),
+        Access::Moves(t, a) => decide_moves(
+            t,
+            a,
+            pc,
+            monitor,
+            window,
+            value,
+            tainted,
+            memory,
+            taint,
+        ),
     }
 }
 
@@ -180,27 +223,34 @@ fn decide_moves(
     t: Transfer,
     a: Addressing,
     pc: u64,
+    monitor: Monitor,
     window: Window,
     value: &[u64],
-    tainted: &[bool],
+    tainted: &[u8],
     memory: &mut [u8],
     taint: &mut [u8],
 ) -> Decision
     requires { ⌜ Bounded t × (length (now taint) ≡ length (now memory)) ⌝ }
-    ensures { λ r. ⌜ told (stateOf (now (value .entry)) (now (tainted .entry)) pc) r (now (memory .exit)) (now (taint .exit)) ≡ ends (accessStep (window .origin) (admitOf window (length (now (memory .entry)))) (Access.Moves t a)) (machineOf (stateOf (now (value .entry)) (now (tainted .entry)) pc) (now (memory .entry)) (now (taint .entry))) ⌝ }
+    ensures { λ r. ⌜ told (stateOf (now (value .entry)) (now (tainted .entry)) pc monitor) r (now (memory .exit)) (now (taint .exit)) ≡ ends (accessStep (window .origin) (admitOf window (length (now (memory .entry)))) (Access.Moves t a)) (machineOf (stateOf (now (value .entry)) (now (tainted .entry)) pc monitor) (now (memory .entry)) (now (taint .entry))) ⌝ }
 {
     let operands = plan::operands_of(a, pc, value, tainted);
     match plan::planned(t, a, operands, window, memory.len() as u64) {
         Plan::Refuse(answer, address) => Decision::Refused(answer, address),
-        Plan::Touch(address, next) => {
+        Plan::Touch(address, sum) => {
             let at = (address - window.origin) as usize;
             let code = effect::code(t);
+            let status = monitor::status(t, address, monitor);
             touched(
                 t,
                 a.written,
                 at,
-                next,
-                Shown { code, address },
+                monitor::written_back(t, status, sum),
+                Shown {
+                    code,
+                    address,
+                    status,
+                },
+                monitor,
                 value,
                 tainted,
                 memory,
@@ -217,20 +267,25 @@ fn touched(
     at: usize,
     next: u64,
     shown: Shown,
+    monitor: Monitor,
     value: &[u64],
-    tainted: &[bool],
+    tainted: &[u8],
     memory: &mut [u8],
     taint: &mut [u8],
 ) -> Decision
     requires { ⌜ Bounded t × (at + totalOf t ≤ length (now memory)) × (length (now taint) ≡ length (now memory)) ⌝ }
-    ensures { λ r. ⌜ ((pc : ℕ) → told (stateOf (now (value .entry)) (now (tainted .entry)) pc) r (now (memory .exit)) (now (taint .exit)) ≡ ends (λ m. moved (effectOf t written at next m) shown) (machineOf (stateOf (now (value .entry)) (now (tainted .entry)) pc) (now (memory .entry)) (now (taint .entry)))) ⌝ }
+    ensures { λ r. ⌜ ((pc : ℕ) → told (stateOf (now (value .entry)) (now (tainted .entry)) pc monitor) r (now (memory .exit)) (now (taint .exit)) ≡ ends (λ m. moved (effectOf (madeOf t (shown .status)) written at next (monitorAfter t (shown .address) (m .monitor)) m) shown) (machineOf (stateOf (now (value .entry)) (now (tainted .entry)) pc monitor) (now (memory .entry)) (now (taint .entry)))) ⌝ }
 {
+    let after = monitor::after(t, shown.address, monitor);
     if t.store {
-        effect::stored(t, at, value, tainted, memory, taint);
-        if effect::is_register(written, value, tainted) {
-            return Decision::Wrote(shown, effect::written_back(written, next));
+        effect::stored(t, shown.status, at, value, tainted, memory, taint);
+        if effect::sets_more(t.exclusive, written, value, tainted) {
+            return Decision::Wrote(shown, effect::written_back(written, next, after));
         }
         return Decision::Passed(shown);
     }
-    Decision::Wrote(shown, effect::loads(t, written, next, at, memory, taint))
+    Decision::Wrote(
+        shown,
+        effect::loads(t, written, next, after, at, memory, taint),
+    )
 }

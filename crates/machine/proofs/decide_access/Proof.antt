@@ -12,11 +12,12 @@ decide-access-spec =
     tie.close
     (tie.spec
     (λ c. search needs)
+    (λ c κs. search needs)
     (λ c. search needs)
     (λ c κs.
     let start = c .before .before .before .before .before .before .before .before .before in
     (subst Within (c .before .before .before .x .given .1) (start .pre .0), start .pre .1))
-    (λ c. rw (c .enum-told .given .1))
+    (λ c. rw (c .before .enum-told .given .1, c .no-code .ensures))
     (λ c. search needs)
     (λ c. search needs)
     (λ c. rw (c .before .before .before .before .before .before .before .before .x .given .1) (c .before .before .before .before .decide-moves .ensures)))

@@ -16,17 +16,27 @@ decide-moves-spec =
     (λ c. search needs)
     (λ c. search needs)
     (λ c.
-    let start = c .before .before .before .before .before .before .before .before .before .before in
-    let a = start .args in
-    let i = touch-inside (a .window) (length (a .memory .now)) (a .t) (a .a) (c .before .before .before .before .before .operands-of .result) (c .before .before .before .before .planned .ensures) (c .before .before .address .given .1) in
-    i .starts)
+    let plan = c .before .before .before .before in
+    let a = plan .before .before .before .before .before .before .args in
+    touch-inside (a .window) (length (a .memory .now)) (a .t) (a .a) (plan .before .operands-of .result) (plan .planned .ensures) (c .before .before .address .given .1) .starts)
+    (λ c κs. search needs)
+    (λ c κs. search needs)
     (λ c κs. search needs)
     (λ c κs.
-    let start = c .before .before .before .before .before .before .before .before .before .before .before .before .before in
+    let touch = c .before .before .before .before .before .before .before in
+    let plan = touch .before .before in
+    let start = plan .before .before .before .before .before .before in
     let a = start .args in
-    let i = touch-inside (a .window) (length (a .memory .now)) (a .t) (a .a) (c .before .before .before .before .before .before .before .before .operands-of .result) (c .before .before .before .before .before .before .before .planned .ensures) (c .before .before .before .before .before .address .given .1) in
+    let i = touch-inside (a .window) (length (a .memory .now)) (a .t) (a .a) (plan .before .operands-of .result) (plan .planned .ensures) (touch .address .given .1) in
     (start .pre .0, omega (arith, i .starts, i .ends), start .pre .1))
     (λ c. rw (step-planned, ← c .before .before .before .before .operands-of .ensures, ← c .before .before .before .planned .ensures, c .before .answer .given .1))
     (λ c. search needs)
     (λ c. search needs)
-    (λ c. rw (step-planned, ← c .before .before .before .before .before .before .before .before .before .before .before .before .before .operands-of .ensures, ← c .before .before .before .before .before .before .before .before .before .before .before .before .planned .ensures, c .before .before .before .before .before .before .before .before .before .before .address .given .1, ← c .before .before .before .before .before .before .before .code .ensures) (c .before .before .before .before .touched .ensures (c .before .before .before .before .before .before .before .before .before .before .before .before .before .before .before .before .before .before .args .pc))))
+    (λ c.
+    let done = c .before .before .before .before in
+    let back = done .before .before .before in
+    let touch = back .before .before .before .before .before in
+    let plan = touch .before .before in
+    let start = plan .before .before .before .before .before .before in
+    rw (step-planned, ← plan .before .operands-of .ensures, ← plan .planned .ensures, touch .address .given .1, ← back .before .status .ensures, ← back .before .before .code .ensures, ← back .written-back .ensures)
+    (done .touched .ensures (start .args .pc))))

@@ -12,25 +12,29 @@ step-spec =
     (tie.spec
     (λ c κs. search needs)
     (λ c. search needs)
-    (λ c. search needs)
     (λ c κs. search needs)
     (λ c. search needs)
     (λ c κs. search needs)
     (λ c. search needs)
-    (λ c. search needs)
-    (λ c.
-    let a = c .before .before .before .before .before .before .before .before .before .before .before .before .before .before .before .before .before .args in
-    let m = machineOf (a .t2) (a .memory .now) (a .taint .now) in
-    shows m (stepOf (a .window) (a .word) m) (rw (c .before .answer .given .1) at (c .before .before .before .before .before .before .before .decide .ensures)))
+    (λ c κs. search needs)
     (λ c. search needs)
     (λ c. search needs)
     (λ c.
-    let a = c .before .before .before .before .before .before .before .before .before .before .before .before .before .before .before .before .before .before .args in
+    let found = c .before .before .before .before .before .before .before .before in
+    let a = found .before .before .before .before .before .before .before .before .before .before .before .args in
     let m = machineOf (a .t2) (a .memory .now) (a .taint .now) in
-    rw (c .passed-on .ensures) (shows m (stepOf (a .window) (a .word) m) (rw (c .before .before .shown .given .1) at (c .before .before .before .before .before .before .before .before .decide .ensures))))
+    rw (c .no-code .ensures) (shows m (stepOf (a .window) (a .word) m) (rw (c .before .before .answer .given .1) at (found .decide .ensures))))
     (λ c. search needs)
     (λ c. search needs)
     (λ c.
-    let a = c .before .before .before .before .before .before .before .before .before .before .before .before .before .before .before .before .before .before .args in
+    let found = c .before .before .before .before .before .before .before .before in
+    let a = found .before .before .before .before .before .before .before .before .before .before .before .args in
     let m = machineOf (a .t2) (a .memory .now) (a .taint .now) in
-    rw (c .settled .ensures) (shows m (stepOf (a .window) (a .word) m) (rw (c .before .before .shown2 .given .1) at (c .before .before .before .before .before .before .before .before .decide .ensures)))))
+    rw (c .passed-on .ensures) (shows m (stepOf (a .window) (a .word) m) (rw (c .before .before .shown .given .1) at (found .decide .ensures))))
+    (λ c. search needs)
+    (λ c. search needs)
+    (λ c.
+    let found = c .before .before .before .before .before .before .before .before in
+    let a = found .before .before .before .before .before .before .before .before .before .before .before .args in
+    let m = machineOf (a .t2) (a .memory .now) (a .taint .now) in
+    rw (c .settled .ensures) (shows m (stepOf (a .window) (a .word) m) (rw (c .before .before .shown2 .given .1) at (found .decide .ensures)))))

@@ -1,5 +1,5 @@
 -- A step of which the first tests are passed, under any admission: what the functions of the deciding half come to.
-use Prim.Native.Nat.{ℕ, _-_}
+use Prim.Native.Nat.{ℕ}
 use mathlib.Core.List.{List}
 use Rattle.access.specs.declared.transfer.Transfer.{Transfer}
 use Rattle.access.specs.declared.addressing.Addressing.{Addressing}
@@ -8,9 +8,9 @@ use Rattle.access.specs.Accesses.{wordAccess}
 use Rattle.plan.specs.declared.Plan.{Plan}
 use Rattle.plan.specs.declared.Plan.the-variants.{Refuse, Touch}
 use Rattle.plan.specs.Refusals.{Refusal, firstOf}
-use Rattle.machine.specs.Machine.{Machine, effectOf, codeOf}
+use Rattle.machine.specs.Machine.{Machine}
 use Rattle.machine.specs.Refusals.{accessRefusals, wordRefusals}
-use Rattle.machine.specs.Step.{shown, Step, stopped, moved, performOf}
+use Rattle.machine.specs.Step.{Step, stopped, touchOf, performOf}
 
 -- 2, 3 and 4, then the access
 unfoldable pub wordStep : ℕ → (Transfer → ℕ → List Refusal) → ℕ → Machine → Step Machine
@@ -23,4 +23,4 @@ accessStep origin admit x m = firstOf stopped (performOf origin x m) (accessRefu
 -- what is planned
 abbrev pub planStep : ℕ → Transfer → Addressing → Machine → Plan → Step Machine
 planStep origin t a m (Refuse answer address) = stopped answer address
-planStep origin t a m (Touch address next) = moved (effectOf t (a .written) (address - origin) next m) (shown (codeOf t) address)
+planStep origin t a m (Touch address sum) = touchOf origin t (a .written) address sum m

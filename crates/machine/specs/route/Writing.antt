@@ -1,7 +1,7 @@
 -- A step in two halves: what the first decides, and what the second sets of it. What a step does is said in Step.antt;
 -- this is how the two halves come to it.
 use Prim.Native.Nat.{ℕ, _+_}
-use mathlib.Core.Bool.{Bool, false}
+use mathlib.Core.Bool.{false}
 use mathlib.Core.List.{List}
 use Rattle.bits.specs.Bytes.{joined, spanOf}
 use Rattle.bits.specs.Extension.{extendedOf}
@@ -11,6 +11,7 @@ use Rattle.registers.specs.File.{setAt}
 use Rattle.access.specs.declared.transfer.Transfer.{Transfer}
 use Rattle.machine.specs.Machine.{Machine, machineOf, nextPc}
 use Rattle.machine.specs.Step.{Step, stopped, moved}
+use Rattle.machine.specs.declared.monitor.Monitor.{Monitor}
 use Rattle.machine.specs.declared.State.{State}
 use Rattle.machine.specs.declared.Shown.{Shown}
 use Rattle.machine.specs.declared.Decision.{Decision}
@@ -18,8 +19,8 @@ use Rattle.machine.specs.declared.Decision.the-variants.{Refused, Passed
 use Rattle.machine.specs.declared.effect.Writes.{Writes}
 
 -- the state whose register file is lent as two arrays
-abbrev pub stateOf : List ℕ → List Bool → ℕ → State
-stateOf values tainted pc = record { registers = record { value = values; taint = tainted }; pc = pc }
+abbrev pub stateOf : List ℕ → List ℕ → ℕ → Monitor → State
+stateOf values tainted pc monitor = record { registers = record { value = values; taint = tainted }; pc = pc; monitor = monitor }
 
 -- ---- what is set
 
@@ -27,12 +28,13 @@ abbrev pub writtenOf : Writes → Registers → Registers
 writtenOf w file = setAt (setAt (setAt file (w .base) (w .next) false) (w .first) (w .value) (w .taint)) (w .second) (w .value2) (w .taint2)
 
 -- the base alone: setting it again changes nothing
-abbrev pub basedOf : ℕ → ℕ → Writes
-basedOf base next = record { base = base; next = next; first = base; value = next; taint = false; second = base; value2 = next; taint2 = false }
+abbrev pub basedOf : ℕ → ℕ → Monitor → Writes
+basedOf base next monitor =
+    record { base = base; next = next; first = base; value = next; taint = false; second = base; value2 = next; taint2 = false; monitor = monitor }
 
 -- a load at an index
-abbrev pub loadsOf : Transfer → ℕ → ℕ → ℕ → List ℕ → List ℕ → Writes
-loadsOf t base next at m k =
+abbrev pub loadsOf : Transfer → ℕ → ℕ → Monitor → ℕ → List ℕ → List ℕ → Writes
+loadsOf t base next monitor at m k =
     record {
       base = base;
       next = next;
@@ -42,16 +44,17 @@ loadsOf t base next at m k =
       second = t .second;
       value2 = extendedOf (t .more) (t .extent) (joined (spanOf m (at + t .bytes) (t .more)));
       taint2 = anyTainted (spanOf k (at + t .bytes) (t .more));
+      monitor = monitor;
     }
 
 -- ---- the state after the second half
 
 -- no register is set
 abbrev pub passedOn : State → State
-passedOn s = record { registers = s .registers; pc = nextPc (s .pc) }
+passedOn s = record { registers = s .registers; pc = nextPc (s .pc); monitor = s .monitor }
 
 abbrev pub settledOf : Writes → State → State
-settledOf w s = record { registers = writtenOf w (s .registers); pc = nextPc (s .pc) }
+settledOf w s = record { registers = writtenOf w (s .registers); pc = nextPc (s .pc); monitor = w .monitor }
 
 -- ---- both halves
 
