@@ -2,14 +2,16 @@
 use Prim.Native.Nat.{ℕ, zero, suc, _+_, _/_, _%_, _≤_, _<_}
 use mathlib.Core.Path.{_≡_, refl, sym, ap, _∙_}
 use mathlib.Core.Bool.{Bool, true, false}
-use mathlib.Core.List.{List, [], _∷_}
+use mathlib.Core.List.{List, [], _∷_, map}
 use native.Mathlib.Decide.{ℕ-discrete, decLt}
 use native.Mathlib.Omega.{arith}
-use lib.ListN.{length, set, getD, replicate, length-set, List·getD-eq-default}
+use lib.ListN.{length, set, getD, replicate, length-set, List·getD-eq-default, List·getD-map}
 use lib.Seq.{sets, getD-set-same, getD-set-other}
 use Rattle.bits.specs.Choice.{pick}
 use Rattle.bits.specs.Bytes.{bytesOf, spanOf}
 use Rattle.memory.specs.Taints.{tainted, taintByte, anyTainted}
+use Rattle.memory.proofs.Taints.{tainted-byte}
+use Rattle.registers.specs.File.{taintIn}
 use Rattle.secrecy.specs.Agree.{Agree}
 
 -- one element set in each: they need only agree there where they must afterwards
@@ -43,10 +45,6 @@ unfolding spanOf
 span-taints sees zero at k l s h = refl
 span-taints sees (suc n) at k l s h = rw (h .same at (s at (omega arith) (omega arith)), span-taints sees n (suc at) k l (λ i a b. s i (omega arith) (omega arith)) h)
 
-tainted-byte : (q : Bool) → tainted (taintByte q) ≡ q
-tainted-byte true = refl
-tainted-byte false = refl
-
 -- `each`: what is clear together is clear by itself
 module _ (sees : ℕ → Type 0) (clear : Bool → Type 0) (each : (b c : Bool) → clear (pick b true c) → clear b × clear c) where
   -- which bytes must agree, by their taint bytes
@@ -72,7 +70,20 @@ module _ (sees : ℕ → Type 0) (clear : Bool → Type 0) (each : (b c : Bool) 
       rw (h .same at (s at (omega arith) (omega arith), d .0), span-alike n (suc at) k xs ys (λ i a b. s i (omega arith) (omega arith)) h (d .1))
 
 -- a register set to values that agree where its taint is clear
-pub set-alike : (clear : Bool → Type 0) (u : List Bool) (v w : List ℕ) (i a b : ℕ) (q : Bool) → length v ≡ length u → Agree (λ j. clear (getD u j false)) v w → (clear q → a ≡ b)
-    → Agree (λ j. clear (getD (set u i q) j false)) (set v i a) (set w i b)
+pub set-alike : (clear : Bool → Type 0) (u v w : List ℕ) (i a b : ℕ) (q : Bool) → length v ≡ length u → Agree (λ j. clear (taintIn u j)) v w → (clear q → a ≡ b)
+    → Agree (λ j. clear (taintIn (set u i (taintByte q)) j)) (set v i a) (set w i b)
 set-alike clear u v w i a b q l h e =
-    agree-set v w i a b h (λ j z f. rw (getD-set-other u i j q false z) at f) (λ z f. e (rw (getD-set-same u i q false (omega arith)) at f))
+    agree-set v w i a b h (λ j z f. rw (getD-set-other u i j (taintByte q) 0 z) at f) (λ z f. e (rw (getD-set-same u i (taintByte q) 0 (omega arith), tainted-byte) at f))
+
+map-set : {A B : Type 0} (f : A → B) (xs : List A) (i : ℕ) (y : A) → map f (set xs i y) ≡ set (map f xs) i (f y)
+map-set f [] i y = refl
+map-set f (x ∷ xs) zero y = refl
+map-set f (x ∷ xs) (suc i) y = ap (λ zs. f x ∷ zs) (map-set f xs i y)
+
+-- registers that are tainted alike
+module _ (u w : List ℕ) (h : map tainted u ≡ map tainted w) where
+  pub same-taint : (i : ℕ) → taintIn u i ≡ taintIn w i
+  same-taint i = sym (List·getD-map tainted u i 0) ∙ ap (λ (bs : List Bool). getD bs i false) h ∙ List·getD-map tainted w i 0
+
+  pub set-tainted : (i a : ℕ) → map tainted (set u i a) ≡ map tainted (set w i a)
+  set-tainted i a = map-set tainted u i a ∙ ap (λ (bs : List Bool). set bs i (tainted a)) h ∙ sym (map-set tainted w i a)

@@ -1,7 +1,7 @@
 -- A step takes machines that agree on what may be seen to such machines, and shows the same of both. Assumes
 -- nothing.
 use Prim.Native.Nat.{ℕ, _+_, _-_}
-use mathlib.Core.Path.{_≡_, refl, sym, ap, _∙_}
+use mathlib.Core.Path.{_≡_, refl, sym, ap, subst, _∙_}
 use mathlib.Core.Bool.{Bool, true, false}
 use mathlib.Core.List.{List, [], _∷_, _++_}
 use native.Mathlib.Omega.{arith}
@@ -13,6 +13,7 @@ use Rattle.instruction.specs.declared.answer.Answer.the-variants.{BadWindow}
 use Rattle.bits.specs.Bytes.{joined, spanOf}
 use Rattle.bits.specs.Extension.{extendedOf}
 use Rattle.memory.specs.Taints.{taintByte, anyTainted}
+use Rattle.registers.specs.File.{taintIn}
 use Rattle.access.specs.declared.transfer.Transfer.{Transfer}
 use Rattle.access.specs.declared.addressing.Addressing.{Addressing}
 use Rattle.access.specs.declared.Access.{Access}
@@ -27,14 +28,17 @@ use Rattle.plan.proofs.Refusals.{Passed}
 use Rattle.plan.proofs.Tests.{same-lengths}
 use Rattle.access.specs.Accesses.{wordAccess}
 use Rattle.machine.specs.Rule.{moveRule}
-use Rattle.machine.specs.Machine.{Machine, operandsOf, effectOf, codeOf}
+use Rattle.machine.specs.declared.monitor.Monitor.{Monitor}
+use Rattle.machine.specs.Monitor.{statusOf, monitorAfter, writtenBack, madeOf}
+use Rattle.machine.specs.Machine.{Machine, operandsOf, effectOf}
 use Rattle.machine.specs.Refusals.{bad, classRefusals, accessRefusals}
-use Rattle.machine.specs.Step.{shown, Step, stopped, moved, stepOf}
+use Rattle.machine.specs.Step.{Step, stopped, touchOf, stepOf}
 use Rattle.machine.specs.route.Parts.{wordStep, accessStep}
 use Rattle.machine.proofs.Answers.{step-bad}
+use Rattle.machine.proofs.Writing.{load-made}
 use Rattle.secrecy.specs.Agree.{Shows}
 use Rattle.secrecy.specs.route.Alike.{Alike}
-use Rattle.secrecy.proofs.Agreement.{agree-sets, Seen, span-taints, store-alike, span-alike, set-alike}
+use Rattle.secrecy.proofs.Agreement.{agree-sets, Seen, span-taints, store-alike, span-alike, set-alike, same-taint, set-tainted}
 
 -- what is untainted together is untainted by itself
 pub untainted-parts : (b c : Bool) → pick b true c ≡ false → (b ≡ false) × (c ≡ false)
@@ -59,54 +63,64 @@ first-after R x y (e ∷ es) fs gs h = shows-at R (e .holds) (e .answer) (e .add
 -- `none`: what is untainted is clear
 module _ (sees : ℕ → Type 0) (clear : Bool → Type 0) (none : clear false) (each : (b c : Bool) → clear (pick b true c) → clear b × clear c) where
   module _ (m n : Machine) (h : Alike sees clear m n) where
-    value : (slot : ℕ) → clear (getD (m .taints .registers) slot false) → getD (m .values) slot 0 ≡ getD (n .values) slot 0
+    same : (slot : ℕ) → taintIn (m .taints .registers) slot ≡ taintIn (n .taints .registers) slot
+    same = same-taint (m .taints .registers) (n .taints .registers) (h .registers)
+
+    value : (slot : ℕ) → clear (taintIn (m .taints .registers) slot) → getD (m .values) slot 0 ≡ getD (n .values) slot 0
     value slot f = h .values .same slot f
 
     tainted-same : (a : Addressing) → operandsOf a m .tainted ≡ operandsOf a n .tainted
-    tainted-same a = rw (h .registers)
+    tainted-same a = rw (same (a .base), same (a .index))
 
     operands-same : (a : Addressing) → operandsOf a m .tainted ≡ false → operandsOf a m ≡ operandsOf a n
     operands-same a e =
-        let (base, index) = untainted-parts (getD (m .taints .registers) (a .base) false) (getD (m .taints .registers) (a .index) false) e in
-        rw (value (a .base) (rw base none), value (a .index) (rw index none), h .pc, h .registers)
+        let (base, index) = untainted-parts (taintIn (m .taints .registers) (a .base)) (taintIn (m .taints .registers) (a .index)) e in
+        rw (value (a .base) (rw base none), value (a .index) (rw index none), h .pc, same (a .base), same (a .index))
 
     -- both make the same access, and a load is allowed to look at its bytes
-    module _ (long : length (m .memory) ≡ length (m .taints .bytes)) (t : Transfer) (written at next : ℕ) (seen : t .store ≡ false → Seen sees at (totalOf t)) where
+    module _ (long : length (m .memory) ≡ length (m .taints .bytes)) (t : Transfer) (written at next : ℕ) (after : Monitor) (seen : t .store ≡ false → Seen sees at (totalOf t)) where
       abbrev Kept : Type 0
-      Kept = Alike sees clear (effectOf t written at next m) (effectOf t written at next n)
+      Kept = Alike sees clear (effectOf t written at next after m) (effectOf t written at next after n)
 
       effect-at : (z : Bool) → t .store ≡ z → Kept
       unfolding effectOf moveRule
       effect-at true e =
-          let u : List Bool = m .taints .registers in
+          let u : List ℕ = m .taints .registers in
           let k : List ℕ = m .taints .bytes in
-          let p : ℕ = taintByte (getD u (t .target) false) in
-          let q : ℕ = taintByte (getD u (t .second) false) in
+          let p : ℕ = taintByte (taintIn u (t .target)) in
+          let q : ℕ = taintByte (taintIn u (t .second)) in
           let first : List ℕ = sets k at (replicate (t .bytes) p) in
-          rw (e, ← h .registers)
+          rw (e, ← same (t .target), ← same (t .second))
           (record {
             pc = rw (h .pc);
-            registers = refl;
+            monitor = refl;
+            registers = set-tainted u (n .taints .registers) (h .registers) written 0;
             full = simp length-set (h .full);
             values = set-alike clear u (m .values) (n .values) written next next false (h .full) (h .values) (λ z. refl);
             taints = agree-sets (replicate (t .more) q) first (sets (n .taints .bytes) at (replicate (t .bytes) p)) (at + t .bytes) (agree-sets (replicate (t .bytes) p) k (n .taints .bytes) at (h .taints));
             bytes =
-                store-alike sees clear each (t .more) (at + t .bytes) _ _ (getD u (t .second) false) first _ _ (value (t .second)) (simp length-sets long)
-                (store-alike sees clear each (t .bytes) at _ _ (getD u (t .target) false) k (m .memory) (n .memory) (value (t .target)) long (h .bytes));
+                store-alike sees clear each (t .more) (at + t .bytes) _ _ (taintIn u (t .second)) first _ _ (value (t .second)) (simp length-sets long)
+                (store-alike sees clear each (t .bytes) at _ _ (taintIn u (t .target)) k (m .memory) (n .memory) (value (t .target)) long (h .bytes));
           })
       effect-at false e =
-          let u : List Bool = m .taints .registers in
+          let u : List ℕ = m .taints .registers in
           let k : List ℕ = m .taints .bytes in
           let s₁ : Seen sees at (t .bytes) = (λ i a c. seen e i (omega arith) (omega arith)) in
           let s₂ : Seen sees (at + t .bytes) (t .more) = (λ i a c. seen e i (omega arith) (omega arith)) in
           let g₁ : spanOf k at (t .bytes) ≡ spanOf (n .taints .bytes) at (t .bytes) = span-taints sees (t .bytes) at k (n .taints .bytes) s₁ (h .taints) in
           let g₂ : spanOf k (at + t .bytes) (t .more) ≡ spanOf (n .taints .bytes) (at + t .bytes) (t .more) = span-taints sees (t .more) (at + t .bytes) k (n .taints .bytes) s₂ (h .taints) in
-          let based : List Bool = set u written false in
-          let first : List Bool = set based (t .target) (anyTainted (spanOf k at (t .bytes))) in
+          let based : List ℕ = set u written 0 in
+          let p : ℕ = taintByte (anyTainted (spanOf k at (t .bytes))) in
+          let q : ℕ = taintByte (anyTainted (spanOf k (at + t .bytes) (t .more))) in
+          let first : List ℕ = set based (t .target) p in
+          let other : List ℕ = set (n .taints .registers) written 0 in
           rw e
           (record {
             pc = rw (h .pc);
-            registers = rw (h .registers, g₁, g₂);
+            monitor = refl;
+            registers =
+                rw (← g₁, ← g₂)
+                (set-tainted first (set other (t .target) p) (set-tainted based other (set-tainted u (n .taints .registers) (h .registers) written 0) (t .target) p) (t .second) q);
             full = simp length-set (h .full);
             values =
                 set-alike clear first _ _ (t .second) _ _ (anyTainted (spanOf k (at + t .bytes) (t .more))) (simp length-set (h .full))
@@ -125,12 +139,19 @@ module _ (sees : ℕ → Type 0) (clear : Bool → Type 0) (none : clear false) 
         (safe : (t : Transfer) (a : ℕ) → Passed (admit t a) → t .store ≡ false → Seen sees (a - origin) (totalOf t)) where
       -- an access by operands that are the same
       touch-alike : (t : Transfer) (a : Addressing) (o p : Operands) → o ≡ p
-          → Shows (Alike sees clear) (firstOf stopped (moved (effectOf t (a .written) (addressOf a o - origin) (sumOf a o) m) (shown (codeOf t) (addressOf a o))) (refusalsOf admit t a o))
-          (firstOf stopped (moved (effectOf t (a .written) (addressOf a p - origin) (sumOf a p) n) (shown (codeOf t) (addressOf a p))) (refusalsOf admit t a p))
+          → Shows (Alike sees clear) (firstOf stopped (touchOf origin t (a .written) (addressOf a o) (sumOf a o) m) (refusalsOf admit t a o))
+          (firstOf stopped (touchOf origin t (a .written) (addressOf a p) (sumOf a p) n) (refusalsOf admit t a p))
+      unfolding effectOf
       touch-alike t a o p e =
-          rw (← e)
+          let at = addressOf a o in
+          let status = statusOf t at (m .monitor) in
+          rw (← e, ← h .monitor)
           (first-shows (Alike sees clear) _ _ (refusalsOf admit t a o)
-          (λ q. (effect-alike long t (a .written) (addressOf a o - origin) (sumOf a o) (safe t (addressOf a o) (q .1 .1)), refl)))
+          (λ q. (
+            effect-alike long (madeOf t status) (a .written) (at - origin) (writtenBack t status (sumOf a o)) (monitorAfter t at (m .monitor))
+                (λ l. subst (λ x. Seen sees (at - origin) (totalOf x)) (sym (load-made t status l)) (safe t at (q .1 .1) l)),
+            refl,
+          )))
 
       moves-at : (t : Transfer) (a : Addressing) (z : Bool) → operandsOf a m .tainted ≡ z → Shows (Alike sees clear) (accessStep origin admit (Moves t a) m) (accessStep origin admit (Moves t a) n)
       unfolding accessStep
@@ -141,7 +162,7 @@ module _ (sees : ℕ → Type 0) (clear : Bool → Type 0) (none : clear false) 
 
       access-alike : (x : Access) → Shows (Alike sees clear) (accessStep origin admit x m) (accessStep origin admit x n)
       unfolding accessStep
-      access-alike Nothing = (record { pc = rw (h .pc); registers = h .registers; full = h .full; values = h .values; taints = h .taints; bytes = h .bytes }, refl)
+      access-alike Nothing = (record { pc = rw (h .pc); monitor = h .monitor; registers = h .registers; full = h .full; values = h .values; taints = h .taints; bytes = h .bytes }, refl)
       access-alike (Moves t a) = moves-at t a (operandsOf a m .tainted) refl
 
       -- a step under an admission that lets a load look only at what may be seen
