@@ -1,5 +1,5 @@
 -- Answers 1 and 10 are given before the first step alone, and then nothing is changed. Assumes nothing.
-use Prim.Native.Nat.{ℕ, _+_, _*_, _%_, _^_, _<_}
+use Prim.Native.Nat.{ℕ, _+_, _%_, _^_, _<_}
 use mathlib.Core.Path.{_≡_, refl, ap}
 use mathlib.Core.Bool.{Bool, true, false, not}
 use mathlib.Core.List.{List, [], _∷_}
@@ -21,13 +21,14 @@ use Rattle.plan.specs.Window.{badWindow}
 use Rattle.plan.specs.Admission.{admitOf}
 use Rattle.plan.proofs.Refusals.{each, each-map, first-by}
 use Rattle.access.specs.Accesses.{wordAccess}
+use Rattle.machine.specs.declared.monitor.Monitor.{Monitor}
 use Rattle.machine.specs.Rule.{moveRule, storedTaints}
 use Rattle.machine.specs.Machine.{Machine, nextPc, storedBytes, effectOf}
 use Rattle.machine.specs.Refusals.{bad, wordRefusals, refusals}
 use Rattle.machine.specs.declared.Shown.{Shown}
 use Rattle.machine.specs.Step.{shown, Step, stopped, moved, performOf, stepOf, performed}
 use Rattle.machine.proofs.Answers.{answers-exact, Later, word-later}
-use Rattle.execution.specs.Walk.{Walked, goOn, walkOf, notBegun, runOf}
+use Rattle.execution.specs.Walk.{Walked, goOn, walkOf, Log, notBegun, short, runOf}
 use Rattle.execution.specs.Ends.{Early}
 use Rattle.execution.specs.Run.{machineRun}
 
@@ -72,9 +73,9 @@ kept : (store : Bool) (xs ys : List ℕ) → length ys ≡ length xs → length 
 kept true xs ys e = e
 kept false xs ys e = refl
 
-effect-good : (w : Window) (t : Transfer) (written at next : ℕ) (m : Machine) → bad w m ≡ false → bad w (effectOf t written at next m) ≡ false
+effect-good : (w : Window) (t : Transfer) (written at next : ℕ) (r : Monitor) (m : Machine) → bad w m ≡ false → bad w (effectOf t written at next r m) ≡ false
 unfolding effectOf moveRule
-effect-good w t written at next m e =
+effect-good w t written at next r m e =
     let bytes = kept (t .store) (m .memory) (storedBytes t at (m .values) (m .memory)) (simp length-sets) in
     let taints = kept (t .store) (m .taints .bytes) (storedTaints t at (m .taints .registers) (m .taints .bytes)) (simp length-sets) in
     rw (bytes, taints) (good-next w (length (m .memory)) (length (m .taints .bytes)) (m .pc) e)
@@ -88,7 +89,7 @@ Stays w (moved n shown) = bad w n ≡ false
 module _ (w : Window) (m : Machine) (e : bad w m ≡ false) where
   perform-stays : (x : Access) → Stays w (performOf (w .origin) x m)
   perform-stays Nothing = good-next w (length (m .memory)) (length (m .taints .bytes)) (m .pc) e
-  perform-stays (Moves t a) = effect-good w t (a .written) _ _ m e
+  perform-stays (Moves t a) = effect-good w _ (a .written) _ _ _ m e
 
   step-stays : (word : ℕ) → Stays w (stepOf w word m)
   unfolding stepOf
@@ -108,19 +109,19 @@ module _ (w : Window) where
   walk-begun [] m last e h = done-begun h
   walk-begun (word ∷ ws) m last e h = go-begun m (walkOf (stepOf w) ws) (walk-begun ws) (stepOf w word m) (step-begun w word m e) (step-stays w m e word) h
 
-  module _ (ws : List ℕ) (m : Machine) (trace : List ℕ) where
+  module _ (ws : List ℕ) (m : Machine) (l : Log) where
     -- a run that is begun answers neither 1 nor 10
-    pub begun-late : bad w m ≡ false → ltb (length trace) (length ws * 2) ≡ false → Begun (machineRun w ws m trace .answer)
+    pub begun-late : bad w m ≡ false → short ws l ≡ false → Begun (machineRun w ws m l .answer)
     unfolding runOf
-    begun-late e g = rw (e, g) (walk-begun ws m (shown 0 0) e)
+    begun-late e g = rw (e, g) (walk-begun ws m (shown 0 0 0) e)
 
-    early-at : (y z : Bool) → bad w m ≡ y → ltb (length trace) (length ws * 2) ≡ z → Early (answerNumber (machineRun w ws m trace .answer))
-        → machineRun w ws m trace ≡ notBegun (machineRun w ws m trace .answer) m trace
+    early-at : (y z : Bool) → bad w m ≡ y → short ws l ≡ z → Early (answerNumber (machineRun w ws m l .answer))
+        → machineRun w ws m l ≡ notBegun (machineRun w ws m l .answer) m l
     unfolding runOf
     early-at true z e g h = rw e
     early-at false true e g h = rw (e, g)
     early-at false false e g h = absurd (begun-late e g h)
 
-    -- a run that answers 1 or 10 has changed no register, byte, taint or PC, and nothing of the trace
-    pub early-unchanged : Early (answerNumber (machineRun w ws m trace .answer)) → machineRun w ws m trace ≡ notBegun (machineRun w ws m trace .answer) m trace
-    early-unchanged = early-at (bad w m) (ltb (length trace) (length ws * 2)) refl refl
+    -- a run that answers 1 or 10 has changed no register, byte, taint, PC or monitor, and nothing of the trace or the statuses
+    pub early-unchanged : Early (answerNumber (machineRun w ws m l .answer)) → machineRun w ws m l ≡ notBegun (machineRun w ws m l .answer) m l
+    early-unchanged = early-at (bad w m) (short ws l) refl refl

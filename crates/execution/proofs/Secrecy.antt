@@ -10,7 +10,7 @@ use lib.Seq.{ext-getD}
 use Rattle.memory.specs.Taints.{tainted}
 use Rattle.plan.specs.declared.window.Window.{Window}
 use Rattle.plan.proofs.Tests.{same-lengths}
-use Rattle.machine.specs.Rule.{Taints, wordRule}
+use Rattle.machine.specs.Rule.{wordRule}
 use Rattle.machine.specs.Machine.{Machine}
 use Rattle.machine.specs.Refusals.{bad}
 use Rattle.machine.specs.Step.{Step, stopped, moved, stepOf}
@@ -18,9 +18,9 @@ use Rattle.machine.proofs.Taints.{taintsIn, taints-by-rule}
 use Rattle.secrecy.specs.Agree.{Shows}
 use Rattle.secrecy.specs.route.Alike.{Alike}
 use Rattle.secrecy.proofs.Steps.{untainted-parts, step-alike}
-use Rattle.execution.specs.Walk.{Result, afterSteps}
+use Rattle.execution.specs.Walk.{Log, Result, afterSteps}
 use Rattle.execution.specs.Run.{machineRun}
-use Rattle.execution.specs.Secrecy.{Same, ShowsRun}
+use Rattle.execution.specs.Secrecy.{Same, SameRoom, ShowsRun}
 use Rattle.execution.proofs.Walks.{run-shows, run-rule}
 
 -- demand 3 of one plugin: every byte may be looked at, and what is not tainted must agree
@@ -62,19 +62,21 @@ module _ {m n : Machine} (long : length (m .memory) ≡ length (m .taints .bytes
       let k = m .taints .bytes in
       record {
         pc = h .pc;
-        registers = ap (λ (p : Taints). p .registers) (h .taints);
+        monitor = h .monitor;
+        registers = h .marks;
         full = h .full;
         values = h .registers;
-        taints = record { size = ap (λ (p : Taints). length (p .bytes)) (h .taints); same = λ i u. ap (λ (p : Taints). getD (p .bytes) i 0) (h .taints) };
+        taints = record { size = ap length (h .taints); same = λ i u. ap (λ (k : List ℕ). getD k i 0) (h .taints) };
         bytes = record { size = h .bytes .size; same = λ i u. byte-same i (there-or-past k i (zero-is (getD k i 0) (u .1))) };
       }
 
 from-alike : {m n : Machine} → Alike Anywhere Untainted m n → Same m n
 from-alike {m} {n} h =
-    let bytes : m .taints .bytes ≡ n .taints .bytes = ext-getD 0 (m .taints .bytes) (n .taints .bytes) (h .taints .size) (λ i l. h .taints .same i tt) in
     record {
       pc = h .pc;
-      taints = rw (h .registers, bytes);
+      monitor = h .monitor;
+      marks = h .registers;
+      taints = ext-getD 0 (m .taints .bytes) (n .taints .bytes) (h .taints .size) (λ i l. h .taints .same i tt);
       full = h .full;
       registers = h .values;
       bytes = record { size = h .bytes .size; same = λ i e. h .bytes .same i (tt, rw (zero-there (m .taints .bytes) i e)) };
@@ -91,7 +93,7 @@ shows-same (moved m shown) (moved n seen) h = (from-alike (h .0), h .1)
 module _ (w : Window) (m n : Machine) (h : Same m n) where
   bad-same : bad w m ≡ bad w n
   bad-same =
-      let taints : length (m .taints .bytes) ≡ length (n .taints .bytes) = ap (λ (p : Taints). length (p .bytes)) (h .taints) in
+      let taints : length (m .taints .bytes) ≡ length (n .taints .bytes) = ap length (h .taints) in
       rw (h .bytes .size, taints, h .pc)
 
   step-at : (word : ℕ) (z : Bool) → bad w m ≡ z → Shows Same (stepOf w word m) (stepOf w word n)
@@ -110,18 +112,18 @@ module _ (w : Window) (m n : Machine) (h : Same m n) where
 -- ---- a run
 
 -- two runs of the same words in the same window, from machines that differ only in what is tainted, with traces
--- of the same length, show the same and end in such machines
-pub demand-3 : (w : Window) (words : List ℕ) (m n : Machine) (trace trail : List ℕ) → Same m n → length trace ≡ length trail → ShowsRun Same (machineRun w words m trace) (machineRun w words n trail)
-demand-3 w words m n trace trail h room = run-shows Same (stepOf w) (λ word p q k. step-same w p q k word) (bad w) (bad-same w) words m n h trace trail room
+-- and status lists of the same length, show the same and end in such machines
+pub demand-3 : (w : Window) (words : List ℕ) (m n : Machine) (l k : Log) → Same m n → SameRoom l k → ShowsRun Same (machineRun w words m l) (machineRun w words n k)
+demand-3 w words m n l k h room = run-shows Same (stepOf w) (λ word p q s. step-same w p q s word) (bad w) (bad-same w) words m n h l k room
 
 -- the taints at the end of a run are the taint rule's, applied in order to each step done, at its word and at
--- what the trace shows of it
-pub taints-of-run : (w : Window) (words : List ℕ) (m : Machine) (trace : List ℕ)
-    → machineRun w words m trace .machine .taints ≡ afterSteps (wordRule (w .origin)) words (machineRun w words m trace .trace) (machineRun w words m trace .steps) (m .taints)
-taints-of-run w words m trace = run-rule taintsIn (wordRule (w .origin)) (stepOf w) (taints-by-rule w) (bad w) words m trace
+-- what trace and statuses show of it
+pub taints-of-run : (w : Window) (words : List ℕ) (m : Machine) (l : Log)
+    → machineRun w words m l .machine .taints ≡ afterSteps (wordRule (w .origin)) words (machineRun w words m l .log) (machineRun w words m l .steps) (m .taints)
+taints-of-run w words m l = run-rule taintsIn (wordRule (w .origin)) (stepOf w) (taints-by-rule w) (bad w) words m l
 
 -- both, of what equals a run
-pub promised : (w : Window) (words : List ℕ) (m : Machine) (trace : List ℕ) {t : Result Machine} → t ≡ machineRun w words m trace
-    → (t ≡ machineRun w words m trace) × ((t .machine .taints ≡ afterSteps (wordRule (w .origin)) words (t .trace) (t .steps) (m .taints))
-    × ((n : Machine) (trail : List ℕ) → Same m n → length trace ≡ length trail → ShowsRun Same t (machineRun w words n trail)))
-promised w words m trace e = (e, (rw e (taints-of-run w words m trace), λ n trail h room. rw e (demand-3 w words m n trace trail h room)))
+pub promised : (w : Window) (words : List ℕ) (m : Machine) (l : Log) {t : Result Machine} → t ≡ machineRun w words m l
+    → (t ≡ machineRun w words m l) × ((t .machine .taints ≡ afterSteps (wordRule (w .origin)) words (t .log) (t .steps) (m .taints))
+    × ((n : Machine) (k : Log) → Same m n → SameRoom l k → ShowsRun Same t (machineRun w words n k)))
+promised w words m l e = (e, (rw e (taints-of-run w words m l), λ n k h room. rw e (demand-3 w words m n l k h room)))

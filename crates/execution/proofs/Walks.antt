@@ -8,6 +8,7 @@ use native.Mathlib.Nat.{add-zero, zero-add}
 use native.Mathlib.Omega.{arith}
 use borrow.Author.Tests.{ltb-false}
 use lib.Dec.{ltb}
+use Rattle.bits.specs.Choice.{pick}
 use lib.ListN.{length, take, drop, getD, set, drop-of-length-le}
 use lib.Seq.{sets, take-length, drop-cons, getD-take}
 use Rattle.bits.proofs.Lists.{sets-front}
@@ -19,16 +20,20 @@ use Rattle.machine.specs.Step.{shown, Step, stopped, moved, Outcome}
 use Rattle.machine.proofs.Answers.{Refuses}
 use Rattle.machine.proofs.Taints.{Follows}
 use Rattle.secrecy.specs.Agree.{Shows}
-use Rattle.execution.specs.Walk.{Walked, ahead, goOn, walkOf, numbersOf, Result, glue, notBegun, runOf, afterSteps}
+use Rattle.execution.specs.Walk.{Walked, ahead, goOn, walkOf, numbersOf, statusesOf, Log, log, logged, Result, glue, notBegun, tooShort, short, runOf, afterSteps}
 use Rattle.execution.specs.Ends.{alone, Kept, Tried, Ends, lastOf}
-use Rattle.execution.specs.Secrecy.{ShowsRun}
+use Rattle.execution.specs.Secrecy.{SameRoom, ShowsRun}
 
 -- ---- the loop
 
-module _ {A : Type 0} (f : ℕ → A → Step A) (ws : List ℕ) (i : ℕ) (m : A) (trace : List ℕ) (last : Shown) (below : i < length ws) where
+-- a log with what the step at i showed
+abbrev pub noted : ℕ → Log → Shown → Log
+noted i l s = log (set (set (l .trace) (i * 2) (s .code)) (i * 2 + 1) (s .address)) (set (l .statuses) i (s .status))
+
+module _ {A : Type 0} (f : ℕ → A → Step A) (ws : List ℕ) (i : ℕ) (m : A) (l : Log) (last : Shown) (below : i < length ws) where
   -- a step done
   pub walk-more : {n : A} {s : Shown} → f (getD ws i 0) m ≡ moved n s
-      → glue i trace (walkOf f (drop i ws) m last) ≡ glue (i + 1) (set (set trace (i * 2) (s .code)) (i * 2 + 1) (s .address)) (walkOf f (drop (i + 1) ws) n s)
+      → glue i l (walkOf f (drop i ws) m last) ≡ glue (i + 1) (noted i l s) (walkOf f (drop (i + 1) ws) n s)
   unfolding walkOf
   walk-more {n} {s} e =
       let t : Walked A = walkOf f (drop (suc i) ws) n s in
@@ -40,15 +45,15 @@ module _ {A : Type 0} (f : ℕ → A → Step A) (ws : List ℕ) (i : ℕ) (m : 
 
   -- a step refused
   pub walk-stop : {answer : Answer} {address : ℕ} → f (getD ws i 0) m ≡ stopped answer address
-      → record { machine = m; trace = trace; steps = i; answer = answer; shown = shown 0 address } ≡ glue i trace (walkOf f (drop i ws) m last)
+      → record { machine = m; log = l; steps = i; answer = answer; shown = shown 0 address 0 } ≡ glue i l (walkOf f (drop i ws) m last)
   unfolding walkOf
   walk-stop e = rw (drop-cons ws i 0, e, add-zero)
 
 -- no word left
-pub walk-end : {A : Type 0} (f : ℕ → A → Step A) (ws : List ℕ) (i : ℕ) (m : A) (trace : List ℕ) (last : Shown) → length ws ≤ i
-    → record { machine = m; trace = trace; steps = i; answer = Done; shown = last } ≡ glue i trace (walkOf f (drop i ws) m last)
+pub walk-end : {A : Type 0} (f : ℕ → A → Step A) (ws : List ℕ) (i : ℕ) (m : A) (l : Log) (last : Shown) → length ws ≤ i
+    → record { machine = m; log = l; steps = i; answer = Done; shown = last } ≡ glue i l (walkOf f (drop i ws) m last)
 unfolding walkOf
-walk-end f ws i m trace last h = rw (drop-of-length-le ws, add-zero)
+walk-end f ws i m l last h = rw (drop-of-length-le ws, add-zero)
 
 -- ---- lengths
 
@@ -56,6 +61,19 @@ walk-end f ws i m trace last h = rw (drop-of-length-le ws, add-zero)
 numbers-long : (ss : List Shown) → length (numbersOf ss) ≡ length ss * 2
 numbers-long [] = refl
 numbers-long (s ∷ ss) = omega (arith, numbers-long ss)
+
+statuses-long : (ss : List Shown) → length (statusesOf ss) ≡ length ss
+statuses-long [] = refl
+statuses-long (s ∷ ss) = ap suc (statuses-long ss)
+
+-- a log that is not too short has room for every word
+enough-at : (words trace statuses : ℕ) (b : Bool) → ltb trace (words * 2) ≡ b → pick b true (ltb statuses words) ≡ false → (words * 2 ≤ trace) × (words ≤ statuses)
+enough-at words trace statuses true e h = absurd (let z : _≡_ {A = ℕ} 0 1 = cc in omega arith)
+enough-at words trace statuses false e h = (ltb-false trace (words * 2) e, ltb-false statuses words h)
+
+pub long-enough : (ws : List ℕ) (l : Log) → short ws l ≡ false → (length ws * 2 ≤ length (l .trace)) × (length ws ≤ length (l .statuses))
+unfolding tooShort
+long-enough ws l e = enough-at (length ws) (length (l .trace)) (length (l .statuses)) (ltb (length (l .trace)) (length ws * 2)) refl e
 
 module _ {A : Type 0} (f : ℕ → A → Step A) where
   go-short : (m : A) (rest : A → Shown → Walked A) (l : ℕ) → ((n : A) (s : Shown) → length (rest n s .done) ≤ l) → (t : Step A) → length (goOn m rest t .done) ≤ suc l
@@ -68,16 +86,20 @@ module _ {A : Type 0} (f : ℕ → A → Step A) where
   walk-short [] m last = omega arith
   walk-short (w ∷ ws) m last = go-short m (walkOf f ws) (length ws) (walk-short ws) (f w m)
 
-  module _ (ws : List ℕ) (m : A) (trace : List ℕ) (e : ltb (length trace) (length ws * 2) ≡ false) where
+  module _ (ws : List ℕ) (m : A) (l : Log) (e : short ws l ≡ false) where
     abbrev walked : List Shown
-    walked = walkOf f ws m (shown 0 0) .done
+    walked = walkOf f ws m (shown 0 0 0) .done
 
-    numbers-fit : length (numbersOf walked) ≤ length trace
-    numbers-fit = omega (arith, ltb-false (length trace) (length ws * 2) e, numbers-long walked, walk-short ws m (shown 0 0))
+    -- what the trace of a walk begins with, and its statuses
+    trace-begins : take ((0 + length walked) * 2) (logged 0 l walked .trace) ≡ numbersOf walked
+    trace-begins =
+        let fit : length (numbersOf walked) ≤ length (l .trace) = omega (arith, long-enough ws l e .0, numbers-long walked, walk-short ws m (shown 0 0 0)) in
+        rw (zero-add, ← numbers-long walked) (sets-front (numbersOf walked) (l .trace) fit)
 
-    -- what the trace of a walk begins with
-    trace-begins : take ((0 + length walked) * 2) (sets trace (0 * 2) (numbersOf walked)) ≡ numbersOf walked
-    trace-begins = rw (zero-add, ← numbers-long walked) (sets-front (numbersOf walked) trace numbers-fit)
+    statuses-begin : take (0 + length walked) (logged 0 l walked .statuses) ≡ statusesOf walked
+    statuses-begin =
+        let fit : length (statusesOf walked) ≤ length (l .statuses) = omega (arith, long-enough ws l e .1, statuses-long walked, walk-short ws m (shown 0 0 0)) in
+        rw (zero-add, ← statuses-long walked) (sets-front (statusesOf walked) (l .statuses) fit)
 
 -- ---- two runs
 
@@ -101,102 +123,113 @@ module _ {A : Type 0} (R : A → A → Type 0) (f : ℕ → A → Step A) (shows
   walk-shows [] m n last r = record { machine = r; done = refl; answer = refl; shown = refl }
   walk-shows (w ∷ ws) m n last r = go-shows m n (walkOf f ws) r (walk-shows ws) (f w m) (f w n) (shows w m n r)
 
-  module _ (bad : A → Bool) (alike : (m n : A) → R m n → bad m ≡ bad n) (ws : List ℕ) (m n : A) (r : R m n) (u v : List ℕ) (room : length u ≡ length v) where
-    begun : ltb (length u) (length ws * 2) ≡ false → ShowsRun R (glue 0 u (walkOf f ws m (shown 0 0))) (glue 0 v (walkOf f ws n (shown 0 0)))
+  module _ (bad : A → Bool) (alike : (m n : A) → R m n → bad m ≡ bad n) (ws : List ℕ) (m n : A) (r : R m n) (u v : Log) (room : SameRoom u v) where
+    short-same : short ws u ≡ short ws v
+    short-same = rw (room .trace, room .statuses)
+
+    begun : short ws u ≡ false → ShowsRun R (glue 0 u (walkOf f ws m (shown 0 0 0))) (glue 0 v (walkOf f ws n (shown 0 0 0)))
     begun e =
-        let l : ShowsWalk R (walkOf f ws m (shown 0 0)) (walkOf f ws n (shown 0 0)) = walk-shows ws m n (shown 0 0) r in
-        let d : ltb (length v) (length ws * 2) ≡ false = rw room at e in
+        let l : ShowsWalk R (walkOf f ws m (shown 0 0 0)) (walkOf f ws n (shown 0 0 0)) = walk-shows ws m n (shown 0 0 0) r in
+        let d : short ws v ≡ false = sym short-same ∙ e in
         record {
           machine = l .machine;
           trace = trace-begins f ws m u e ∙ ap numbersOf (l .done) ∙ sym (trace-begins f ws n v d);
+          statuses = statuses-begin f ws m u e ∙ ap statusesOf (l .done) ∙ sym (statuses-begin f ws n v d);
           steps = ap (λ (ss : List Shown). 0 + length ss) (l .done);
           answer = l .answer;
           shown = l .shown;
         }
 
-    run-at : (y z : Bool) → bad m ≡ y → ltb (length u) (length ws * 2) ≡ z → ShowsRun R (runOf bad f ws m u) (runOf bad f ws n v)
+    run-at : (y z : Bool) → bad m ≡ y → short ws u ≡ z → ShowsRun R (runOf bad f ws m u) (runOf bad f ws n v)
     unfolding runOf
-    run-at true z e g = rw (← alike m n r, e) (record { machine = r; trace = refl; steps = refl; answer = refl; shown = refl })
-    run-at false true e g = rw (← alike m n r, e, ← room, g) (record { machine = r; trace = refl; steps = refl; answer = refl; shown = refl })
-    run-at false false e g = rw (← alike m n r, e, ← room, g) (begun g)
+    run-at true z e g = rw (← alike m n r, e) (record { machine = r; trace = refl; statuses = refl; steps = refl; answer = refl; shown = refl })
+    run-at false true e g = rw (← alike m n r, e, ← short-same, g) (record { machine = r; trace = refl; statuses = refl; steps = refl; answer = refl; shown = refl })
+    run-at false false e g = rw (← alike m n r, e, ← short-same, g) (begun g)
 
     -- a step that keeps a relation and shows the same makes a run that does
     pub run-shows : ShowsRun R (runOf bad f ws m u) (runOf bad f ws n v)
-    run-shows = run-at (bad m) (ltb (length u) (length ws * 2)) refl refl
+    run-shows = run-at (bad m) (short ws u) refl refl
 
 -- ---- a rule over the steps done
 
+-- a log of just these steps
+abbrev logOf : List Shown → Log
+logOf ss = log (numbersOf ss) (statusesOf ss)
+
 module _ {B : Type 0} (rule : ℕ → Shown → B → B) where
   -- one step more at the front
-  after-cons : (w : ℕ) (ws : List ℕ) (s : Shown) (ns : List ℕ) (j : ℕ) (b : B) → afterSteps rule (w ∷ ws) (s .code ∷ s .address ∷ ns) (suc j) b ≡ afterSteps rule ws ns j (rule w s b)
+  after-cons : (w : ℕ) (ws : List ℕ) (s : Shown) (ss : List Shown) (j : ℕ) (b : B) → afterSteps rule (w ∷ ws) (logOf (s ∷ ss)) (suc j) b ≡ afterSteps rule ws (logOf ss) j (rule w s b)
   unfolding afterSteps
-  after-cons w ws s ns zero b = refl
-  after-cons w ws s ns (suc j) b =
+  after-cons w ws s ss zero b = refl
+  after-cons w ws s ss (suc j) b =
       let d : suc j * 2 ≡ suc (suc (j * 2)) = omega arith in
       let e : suc j * 2 + 1 ≡ suc (suc (j * 2 + 1)) = omega arith in
-      rw (e, d, ← after-cons w ws s ns j b)
+      rw (e, d, ← after-cons w ws s ss j b)
 
-  -- the first numbers of a trace decide
-  after-trace : (ws t u : List ℕ) (n j : ℕ) (b : B) → take n t ≡ take n u → j * 2 ≤ n → afterSteps rule ws t j b ≡ afterSteps rule ws u j b
+  same-at : (t u : List ℕ) (n i : ℕ) → take n t ≡ take n u → i < n → getD t i 0 ≡ getD u i 0
+  same-at t u n i e l = sym (getD-take n t i 0 l) ∙ ap (λ (v : List ℕ). getD v i 0) e ∙ getD-take n u i 0 l
+
+  -- what a log holds of the first steps decides
+  after-log : (ws : List ℕ) (t u : Log) (n j : ℕ) (b : B) → take (n * 2) (t .trace) ≡ take (n * 2) (u .trace) → take n (t .statuses) ≡ take n (u .statuses) → j ≤ n
+      → afterSteps rule ws t j b ≡ afterSteps rule ws u j b
   unfolding afterSteps
-  after-trace ws t u n zero b e h = refl
-  after-trace ws t u n (suc j) b e h = rw (same (j * 2) (omega arith), same (j * 2 + 1) (omega arith), after-trace ws t u n j b e (omega arith))
-    where
-      same : (i : ℕ) → i < n → getD t i 0 ≡ getD u i 0
-      same i l = sym (getD-take n t i 0 l) ∙ ap (λ (v : List ℕ). getD v i 0) e ∙ getD-take n u i 0 l
+  after-log ws t u n zero b e f h = refl
+  after-log ws t u n (suc j) b e f h =
+      rw (same-at (t .trace) (u .trace) (n * 2) (j * 2) e (omega arith), same-at (t .trace) (u .trace) (n * 2) (j * 2 + 1) e (omega arith), same-at (t .statuses) (u .statuses) n j f (omega arith), after-log ws t u n j b e f (omega arith))
 
 module _ {A B : Type 0} (part : A → B) (rule : ℕ → Shown → B → B) (f : ℕ → A → Step A) (follows : (w : ℕ) (m : A) → Follows part (rule w) m (f w m)) where
   abbrev Ruled : List ℕ → B → Walked A → Type 0
-  Ruled ws b t = part (t .machine) ≡ afterSteps rule ws (numbersOf (t .done)) (length (t .done)) b
+  Ruled ws b t = part (t .machine) ≡ afterSteps rule ws (logOf (t .done)) (length (t .done)) b
 
   go-rule : (w : ℕ) (ws : List ℕ) (m : A) (rest : A → Shown → Walked A) → ((n : A) (s : Shown) → Ruled ws (part n) (rest n s)) → (s : Step A) → Follows part (rule w) m s → Ruled (w ∷ ws) (part m) (goOn m rest s)
   unfolding afterSteps
   go-rule w ws m rest k (stopped answer address) e = refl
   go-rule w ws m rest k (moved n s) e =
       let d = rest n s .done in
-      k n s ∙ ap (afterSteps rule ws (numbersOf d) (length d)) e ∙ sym (after-cons rule w ws s (numbersOf d) (length d) (part m))
+      k n s ∙ ap (afterSteps rule ws (logOf d) (length d)) e ∙ sym (after-cons rule w ws s d (length d) (part m))
 
   walk-rule : (ws : List ℕ) (m : A) (last : Shown) → Ruled ws (part m) (walkOf f ws m last)
   unfolding walkOf afterSteps
   walk-rule [] m last = refl
   walk-rule (w ∷ ws) m last = go-rule w ws m (walkOf f ws) (walk-rule ws) (f w m) (follows w m)
 
-  begun-rule : (ws : List ℕ) (m : A) (trace : List ℕ) → ltb (length trace) (length ws * 2) ≡ false
-      → let t = glue 0 trace (walkOf f ws m (shown 0 0)) in
-      part (t .machine) ≡ afterSteps rule ws (t .trace) (t .steps) (part m)
-  begun-rule ws m trace e =
-      let d = walkOf f ws m (shown 0 0) .done in
-      let n : length (numbersOf d) ≡ (0 + length d) * 2 = rw zero-add (numbers-long d) in
-      let same : take ((0 + length d) * 2) (numbersOf d) ≡ take ((0 + length d) * 2) (sets trace (0 * 2) (numbersOf d)) =
-      ap (λ (k : ℕ). take k (numbersOf d)) (sym n) ∙ take-length (numbersOf d) ∙ sym (trace-begins f ws m trace e)
-      in
-      walk-rule ws m (shown 0 0) ∙ ap (λ (k : ℕ). afterSteps rule ws (numbersOf d) k (part m)) (sym (zero-add (length d)))
-      ∙ after-trace rule ws (numbersOf d) (sets trace (0 * 2) (numbersOf d)) ((0 + length d) * 2) (0 + length d) (part m) same (omega arith)
+  module _ (bad : A → Bool) (ws : List ℕ) (m : A) (l : Log) where
+    begun-rule : short ws l ≡ false
+        → let t = glue 0 l (walkOf f ws m (shown 0 0 0)) in
+        part (t .machine) ≡ afterSteps rule ws (t .log) (t .steps) (part m)
+    begun-rule e =
+        let d : List Shown = walkOf f ws m (shown 0 0 0) .done in
+        let n : ℕ = 0 + length d in
+        let numbers : n * 2 ≡ length (numbersOf d) = rw (zero-add, numbers-long d) in
+        let statuses : n ≡ length (statusesOf d) = rw (zero-add, statuses-long d) in
+        let trace : take (n * 2) (numbersOf d) ≡ take (n * 2) (logged 0 l d .trace) = ap (λ (k : ℕ). take k (numbersOf d)) numbers ∙ take-length (numbersOf d) ∙ sym (trace-begins f ws m l e) in
+        let rest : take n (statusesOf d) ≡ take n (logged 0 l d .statuses) = ap (λ (k : ℕ). take k (statusesOf d)) statuses ∙ take-length (statusesOf d) ∙ sym (statuses-begin f ws m l e) in
+        walk-rule ws m (shown 0 0 0) ∙ ap (λ (k : ℕ). afterSteps rule ws (logOf d) k (part m)) (sym (zero-add (length d))) ∙ after-log rule ws (logOf d) (logged 0 l d) n n (part m) trace rest (omega arith)
 
-  module _ (bad : A → Bool) (ws : List ℕ) (m : A) (trace : List ℕ) where
-    run-rule-at : (y z : Bool) → bad m ≡ y → ltb (length trace) (length ws * 2) ≡ z
-        → part (runOf bad f ws m trace .machine) ≡ afterSteps rule ws (runOf bad f ws m trace .trace) (runOf bad f ws m trace .steps) (part m)
+    abbrev ran : Result A
+    ran = runOf bad f ws m l
+
+    run-rule-at : (y z : Bool) → bad m ≡ y → short ws l ≡ z → part (ran .machine) ≡ afterSteps rule ws (ran .log) (ran .steps) (part m)
     unfolding runOf afterSteps
     run-rule-at true z e g = rw e
     run-rule-at false true e g = rw (e, g)
-    run-rule-at false false e g = rw (e, g) (begun-rule ws m trace g)
+    run-rule-at false false e g = rw (e, g) (begun-rule g)
 
     -- a rule that each step done follows is followed by the whole run
-    pub run-rule : part (runOf bad f ws m trace .machine) ≡ afterSteps rule ws (runOf bad f ws m trace .trace) (runOf bad f ws m trace .steps) (part m)
-    run-rule = run-rule-at (bad m) (ltb (length trace) (length ws * 2)) refl refl
+    pub run-rule : part (runOf bad f ws m l .machine) ≡ afterSteps rule ws (runOf bad f ws m l .log) (runOf bad f ws m l .steps) (part m)
+    run-rule = run-rule-at (bad m) (short ws l) refl refl
 
 -- ---- a part of the machine that no step changes
 
 module _ {A B : Type 0} (part : A → B) (f : ℕ → A → Step A) (follows : (w : ℕ) (m : A) → Follows part (λ a b. b) m (f w m)) where
-  after-none : (ws trace : List ℕ) (j : ℕ) (b : B) → afterSteps (λ w a b. b) ws trace j b ≡ b
+  after-none : (ws : List ℕ) (l : Log) (j : ℕ) (b : B) → afterSteps (λ w a b. b) ws l j b ≡ b
   unfolding afterSteps
-  after-none ws trace zero b = refl
-  after-none ws trace (suc j) b = after-none ws trace j b
+  after-none ws l zero b = refl
+  after-none ws l (suc j) b = after-none ws l j b
 
   -- a run leaves it as it was
-  pub run-leaves : (bad : A → Bool) (ws : List ℕ) (m : A) (trace : List ℕ) → part (runOf bad f ws m trace .machine) ≡ part m
-  run-leaves bad ws m trace =
-      run-rule part (λ w a b. b) f follows bad ws m trace ∙ after-none ws (runOf bad f ws m trace .trace) (runOf bad f ws m trace .steps) (part m)
+  pub run-leaves : (bad : A → Bool) (ws : List ℕ) (m : A) (l : Log) → part (runOf bad f ws m l .machine) ≡ part m
+  run-leaves bad ws m l = run-rule part (λ w a b. b) f follows bad ws m l ∙ after-none ws (runOf bad f ws m l .log) (runOf bad f ws m l .steps) (part m)
 
 -- ---- what a refused run keeps
 
@@ -221,18 +254,18 @@ module _ {A : Type 0} (f : ℕ → A → Step A) where
   walk-keeps [] m last = record { machine = refl; shows = refl; done = refl }
   walk-keeps (w ∷ ws) m last = go-keeps w ws m last (f w m) refl (walk-keeps ws)
 
-  module _ (bad : A → Bool) (ws : List ℕ) (m : A) (trace : List ℕ) where
-    keeps-at : (y z : Bool) → bad m ≡ y → ltb (length trace) (length ws * 2) ≡ z → Kept f ws m trace (runOf bad f ws m trace)
+  module _ (bad : A → Bool) (ws : List ℕ) (m : A) (l : Log) where
+    keeps-at : (y z : Bool) → bad m ≡ y → short ws l ≡ z → Kept f ws m l (runOf bad f ws m l)
     unfolding runOf walkOf
-    keeps-at true z e g = rw e (record { machine = refl; trace = refl; steps = refl; done = refl })
-    keeps-at false true e g = rw (e, g) (record { machine = refl; trace = refl; steps = refl; done = refl })
+    keeps-at true z e g = rw e (record { machine = refl; log = refl; steps = refl; done = refl })
+    keeps-at false true e g = rw (e, g) (record { machine = refl; log = refl; steps = refl; done = refl })
     keeps-at false false e g =
-        let t = walk-keeps ws m (shown 0 0) in
-        rw (e, g, zero-add) (record { machine = t .machine; trace = ap (λ ss. sets trace 0 (numbersOf ss)) (t .shows); steps = ap length (t .shows); done = t .done })
+        let t = walk-keeps ws m (shown 0 0 0) in
+        rw (e, g, zero-add) (record { machine = t .machine; log = ap (logged 0 l) (t .shows); steps = ap length (t .shows); done = t .done })
 
     -- a run leaves what the steps done leave, run alone and not refused
-    pub run-keeps : Kept f ws m trace (runOf bad f ws m trace)
-    run-keeps = keeps-at (bad m) (ltb (length trace) (length ws * 2)) refl refl
+    pub run-keeps : Kept f ws m l (runOf bad f ws m l)
+    run-keeps = keeps-at (bad m) (short ws l) refl refl
 
 -- ---- how a run ends
 
@@ -246,7 +279,7 @@ module _ {A : Type 0} (f : ℕ → A → Step A) (refuses : (w : ℕ) (m : A) �
   module _ (w : ℕ) (ws : List ℕ) (m n : A) (s : Shown) (e : f w m ≡ moved n s) where
     alone-later : (i : ℕ) → alone f (w ∷ ws) m (suc i) .machine ≡ alone f ws n i .machine
     unfolding walkOf
-    alone-later i = rw e (machine-any (take i ws) n s (shown 0 0))
+    alone-later i = rw e (machine-any (take i ws) n s (shown 0 0 0))
 
     -- what is tried after a step done is tried one word later
     later : (i : ℕ) (o : Outcome A) → Tried f ws n i o → Tried f (w ∷ ws) m (suc i) o
@@ -281,28 +314,28 @@ module _ {A : Type 0} (f : ℕ → A → Step A) (refuses : (w : ℕ) (m : A) �
   walk-ends [] m last = inl (refl, refl, refl)
   walk-ends (w ∷ ws) m last = go-ends w ws m last (f w m) refl (refuses w m) (walk-ends ws)
 
-  ends-from : (ws : List ℕ) (m : A) (trace : List ℕ) (t : Walked A) → EndsFrom ws m (shown 0 0) t → Ends f ws m (0 + length (t .done)) (lastOf (glue 0 trace t))
-  ends-from [] m trace t (inl (l, d, h)) = rw zero-add (inl (l, d, h))
-  ends-from (w ∷ ws) m trace t (inl (l, d, h)) = rw zero-add (inl (l, d, h))
-  ends-from ws m trace t (inr (d, h)) = rw zero-add (inr (d, h))
+  ends-from : (ws : List ℕ) (m : A) (log : Log) (t : Walked A) → EndsFrom ws m (shown 0 0 0) t → Ends f ws m (0 + length (t .done)) (lastOf (glue 0 log t))
+  ends-from [] m log t (inl (l, d, h)) = rw zero-add (inl (l, d, h))
+  ends-from (w ∷ ws) m log t (inl (l, d, h)) = rw zero-add (inl (l, d, h))
+  ends-from ws m log t (inr (d, h)) = rw zero-add (inr (d, h))
 
   -- a run that is begun ends with every word done, or at the one that is refused
-  pub run-ends : (bad : A → Bool) (ws : List ℕ) (m : A) (trace : List ℕ) → bad m ≡ false → ltb (length trace) (length ws * 2) ≡ false
-      → Ends f ws m (runOf bad f ws m trace .steps) (lastOf (runOf bad f ws m trace))
+  pub run-ends : (bad : A → Bool) (ws : List ℕ) (m : A) (l : Log) → bad m ≡ false → short ws l ≡ false
+      → Ends f ws m (runOf bad f ws m l .steps) (lastOf (runOf bad f ws m l))
   unfolding runOf
-  run-ends bad ws m trace e g = rw (e, g) (ends-from ws m trace (walkOf f ws m (shown 0 0)) (walk-ends ws m (shown 0 0)))
+  run-ends bad ws m l e g = rw (e, g) (ends-from ws m l (walkOf f ws m (shown 0 0 0)) (walk-ends ws m (shown 0 0 0)))
 
 -- ---- the three ways that a run goes
 
-module _ {A : Type 0} (bad : A → Bool) (f : ℕ → A → Step A) (ws : List ℕ) (m : A) (trace : List ℕ) {t : Result A} where
-  pub run-bad : t ≡ notBegun BadWindow m trace → bad m ≡ true → t ≡ runOf bad f ws m trace
+module _ {A : Type 0} (bad : A → Bool) (f : ℕ → A → Step A) (ws : List ℕ) (m : A) (l : Log) {t : Result A} where
+  pub run-bad : t ≡ notBegun BadWindow m l → bad m ≡ true → t ≡ runOf bad f ws m l
   unfolding runOf
   run-bad h e = rw e h
 
-  pub run-short : t ≡ notBegun NoRoom m trace → bad m ≡ false → ltb (length trace) (length ws * 2) ≡ true → t ≡ runOf bad f ws m trace
+  pub run-short : t ≡ notBegun NoRoom m l → bad m ≡ false → short ws l ≡ true → t ≡ runOf bad f ws m l
   unfolding runOf
   run-short h e g = rw (e, g) h
 
-  pub run-begun : t ≡ glue 0 trace (walkOf f ws m (shown 0 0)) → bad m ≡ false → ltb (length trace) (length ws * 2) ≡ false → t ≡ runOf bad f ws m trace
+  pub run-begun : t ≡ glue 0 l (walkOf f ws m (shown 0 0 0)) → bad m ≡ false → short ws l ≡ false → t ≡ runOf bad f ws m l
   unfolding runOf
   run-begun h e g = rw (e, g) h

@@ -4,20 +4,19 @@ use mathlib.Core.Path.{_≡_}
 use mathlib.Core.List.{List, [], _∷_}
 use mathlib.Core.Logic.{_⊎_}
 use lib.ListN.{length, take, getD}
-use lib.Seq.{sets}
 use Rattle.instruction.specs.declared.answer.Answer.the-variants.{Done}
 use Rattle.instruction.specs.Answers.{answerNumber}
 use Rattle.machine.specs.Step.{shown, Step, Outcome, leaves}
-use Rattle.execution.specs.Walk.{Walked, walkOf, numbersOf, Result}
+use Rattle.execution.specs.Walk.{Walked, walkOf, Log, logged, Result}
 
 -- the first i words, run alone
 abbrev pub alone : {A : Type 0} → (ℕ → A → Step A) → List ℕ → A → ℕ → Walked A
-alone f ws m i = walkOf f (take i ws) m (shown 0 0)
+alone f ws m i = walkOf f (take i ws) m (shown 0 0 0)
 
 -- what a run leaves is what the steps done leave, run alone, and none of those is refused
-pub record Kept {A : Type 0} (f : ℕ → A → Step A) (ws : List ℕ) (m : A) (before : List ℕ) (t : Result A) : Type 0 where
+pub record Kept {A : Type 0} (f : ℕ → A → Step A) (ws : List ℕ) (m : A) (before : Log) (t : Result A) : Type 0 where
   pub machine : t .machine ≡ alone f ws m (t .steps) .machine
-  pub trace : t .trace ≡ sets before 0 (numbersOf (alone f ws m (t .steps) .done))
+  pub log : t .log ≡ logged 0 before (alone f ws m (t .steps) .done)
   pub steps : t .steps ≡ length (alone f ws m (t .steps) .done)
   pub done : alone f ws m (t .steps) .answer ≡ Done
 
@@ -31,7 +30,7 @@ Tried f ws m i o = (i < length ws) × (stepAt f ws m i ≡ o)
 
 -- every word is done, and the last step tried is that of the last word; an empty list has code and address 0
 abbrev pub AllDone : {A : Type 0} → (ℕ → A → Step A) → List ℕ → A → Outcome A → Type 0
-AllDone f [] m o = o ≡ record { machine = m; answer = Done; shown = shown 0 0 }
+AllDone f [] m o = o ≡ record { machine = m; answer = Done; shown = shown 0 0 0 }
 AllDone f (w ∷ ws) m o = Tried f (w ∷ ws) m (length ws) o
 
 -- every word is done and the answer is 0, or the word at the number of steps done is the one that is refused

@@ -1,4 +1,4 @@
-// A run: a step for each word of a list, up to the first refusal, with a trace of the steps done.
+// A run: a step for each word of a list, up to the first refusal, with a trace of the steps done and their statuses.
 use instruction::Answer;
 use machine::Decision;
 use machine::Shown;
@@ -6,14 +6,14 @@ use machine::State;
 use plan::Window;
 ghost use mathlib.Core.Path.{_≡_};
 ghost use mathlib.Core.List.{List};
-ghost use Prim.Native.Nat.{ℕ, _+_, _*_, _≤_};
+ghost use Prim.Native.Nat.{ℕ, _+_, _*_, _≤_, _<_};
 ghost use lib.ListN.{length, set};
 ghost use Rattle.machine.specs.Rule.{wordRule};
 ghost use Rattle.machine.specs.Machine.{Machine, machineOf};
 ghost use Rattle.machine.specs.Step.{shown, stepOf};
-ghost use Rattle.execution.specs.Walk.{walkOf, glue, notBegun, afterSteps};
+ghost use Rattle.execution.specs.Walk.{walkOf, Log, log, glue, notBegun, tooShort, afterSteps};
 ghost use Rattle.execution.specs.Run.{machineRun, result};
-ghost use Rattle.execution.specs.Secrecy.{Same, ShowsRun};
+ghost use Rattle.execution.specs.Secrecy.{Same, SameRoom, ShowsRun};
 
 // What a run returns: how many steps were done, the answer, code and address of the last step tried, and the
 // state after the steps done.
@@ -26,7 +26,7 @@ pub struct Ran {
 
 // The steps, their order and all that they leave are those of the definition. The taints at the end are those
 // of the taint rule over the steps done. And whatever else the run could have started from that differs only
-// in what is tainted and in what the trace held: it would have shown the same.
+// in what is tainted and in what the trace and the status list held: it would have shown the same.
 pub fn run(
     words: &[u32],
     state: State,
@@ -34,36 +34,55 @@ pub fn run(
     memory: &mut [u8],
     taint: &mut [u8],
     trace: &mut [u64],
+    statuses: &mut [u8],
 ) -> Ran
-    ensures exact { λ r. ⌜ result r (now (memory .exit)) (now (taint .exit)) (now (trace .exit)) ≡ machineRun window (now (words .entry)) (machineOf state (now (memory .entry)) (now (taint .entry))) (now (trace .entry)) ⌝ }
-    ensures rule { λ r. ⌜ machineOf (r .state) (now (memory .exit)) (now (taint .exit)) .taints ≡ afterSteps (wordRule (window .origin)) (now (words .entry)) (now (trace .exit)) (r .steps) (machineOf state (now (memory .entry)) (now (taint .entry)) .taints) ⌝ }
-    ensures secret { λ r. ⌜ ((other : Machine) (trail : List ℕ) → Same (machineOf state (now (memory .entry)) (now (taint .entry))) other → length (now (trace .entry)) ≡ length trail
-        → ShowsRun Same (result r (now (memory .exit)) (now (taint .exit)) (now (trace .exit))) (machineRun window (now (words .entry)) other trail)) ⌝ }
+    ensures exact { λ r. ⌜ result r (now (memory .exit)) (now (taint .exit)) (now (trace .exit)) (now (statuses .exit)) ≡ machineRun window (now (words .entry)) (machineOf state (now (memory .entry)) (now (taint .entry))) (log (now (trace .entry)) (now (statuses .entry))) ⌝ }
+    ensures rule { λ r. ⌜ machineOf (r .state) (now (memory .exit)) (now (taint .exit)) .taints ≡ afterSteps (wordRule (window .origin)) (now (words .entry)) (log (now (trace .exit)) (now (statuses .exit))) (r .steps) (machineOf state (now (memory .entry)) (now (taint .entry)) .taints) ⌝ }
+    ensures secret { λ r. ⌜ ((other : Machine) (lent : Log) → Same (machineOf state (now (memory .entry)) (now (taint .entry))) other → SameRoom (log (now (trace .entry)) (now (statuses .entry))) lent
+        → ShowsRun Same (result r (now (memory .exit)) (now (taint .exit)) (now (trace .exit)) (now (statuses .exit))) (machineRun window (now (words .entry)) other lent)) ⌝ }
 {
     if plan::is_bad(window, memory.len() as u64, taint.len() as u64, state.pc) {
         return not_begun(state, Answer::BadWindow);
     }
-    if trace.len() / 2 < words.len() {
+    if is_short(words.len(), trace.len(), statuses.len()) {
         return not_begun(state, Answer::NoRoom);
     }
-    walk(words, state, window, memory, taint, trace)
+    walk(words, state, window, memory, taint, trace, statuses)
+}
+
+// Answer 10, by the lengths of the words, the trace and the status list.
+fn is_short(words: usize, trace: usize, statuses: usize) -> bool
+    ensures { λ r. ⌜ r ≡ tooShort words trace statuses ⌝ }
+{
+    if trace / 2 < words {
+        return true;
+    }
+    statuses < words
 }
 
 fn not_begun(state: State, answer: Answer) -> Ran
-    ensures { λ r. ⌜ ((m k t : List ℕ) → result r m k t ≡ notBegun answer (machineOf state m k) t) ⌝ }
+    ensures { λ r. ⌜ ((m k t s : List ℕ) → result r m k t s ≡ notBegun answer (machineOf state m k) (log t s)) ⌝ }
 {
     Ran {
         state,
         steps: 0,
         answer,
-        shown: Shown {
-            code: 0,
-            address: 0,
-        },
+        shown: no_code(0),
     }
 }
 
-// The steps of a run whose window and trace were tested. Both halves of a step stand in the loop, so that a step that
+// What a refusal shows, and what an empty list does with address 0.
+fn no_code(address: u64) -> Shown
+    ensures { λ r. ⌜ r ≡ shown 0 address 0 ⌝ }
+{
+    Shown {
+        code: 0,
+        address,
+        status: 0,
+    }
+}
+
+// The steps of a run whose window and lists were tested. Both halves of a step stand in the loop, so that a step that
 // sets no register copies none.
 fn walk(
     words: &[u32],
@@ -72,20 +91,19 @@ fn walk(
     memory: &mut [u8],
     taint: &mut [u8],
     trace: &mut [u64],
+    statuses: &mut [u8],
 ) -> Ran
-    requires { ⌜ length (now words) * 2 ≤ length (now trace) ⌝ }
-    ensures { λ r. ⌜ result r (now (memory .exit)) (now (taint .exit)) (now (trace .exit)) ≡ glue 0 (now (trace .entry)) (walkOf (stepOf window) (now (words .entry)) (machineOf start (now (memory .entry)) (now (taint .entry))) (shown 0 0)) ⌝ }
+    requires { ⌜ (length (now words) * 2 ≤ length (now trace)) × (length (now words) ≤ length (now statuses)) ⌝ }
+    ensures { λ r. ⌜ result r (now (memory .exit)) (now (taint .exit)) (now (trace .exit)) (now (statuses .exit)) ≡ glue 0 (log (now (trace .entry)) (now (statuses .entry))) (walkOf (stepOf window) (now (words .entry)) (machineOf start (now (memory .entry)) (now (taint .entry))) (shown 0 0 0)) ⌝ }
 {
     let mut state = start;
-    let mut last = Shown {
-        code: 0,
-        address: 0,
-    };
+    let mut last = no_code(0);
     let mut i = 0;
     while i < words.len() {
         match machine::decide(
             words[i],
             state.pc,
+            state.monitor,
             window,
             &state.registers.value,
             &state.registers.taint,
@@ -93,18 +111,16 @@ fn walk(
             taint,
         ) {
             Decision::Refused(answer, address) => {
-                return ended(state, i, answer, Shown { code: 0, address });
+                return ended(state, i, answer, no_code(address));
             }
             Decision::Passed(shown) => {
-                noted(trace, i, shown);
                 last = shown;
-                i += 1;
+                i = noted(trace, statuses, i, shown);
                 state.pc = machine::next_pc(state.pc);
             }
             Decision::Wrote(shown, writes) => {
-                noted(trace, i, shown);
                 last = shown;
-                i += 1;
+                i = noted(trace, statuses, i, shown);
                 let next = machine::settled(state, writes);
                 state = next;
             }
@@ -115,7 +131,7 @@ fn walk(
 
 // What is returned after so many steps, with the answer of the last step tried and what it shows.
 fn ended(state: State, steps: usize, answer: Answer, shown: Shown) -> Ran
-    ensures { λ r. ⌜ ((m k t : List ℕ) → result r m k t ≡ record { machine = machineOf state m k; trace = t; steps = steps; answer = answer; shown = shown }) ⌝ }
+    ensures { λ r. ⌜ ((m k t s : List ℕ) → result r m k t s ≡ record { machine = machineOf state m k; log = log t s; steps = steps; answer = answer; shown = shown }) ⌝ }
 {
     Ran {
         state,
@@ -125,11 +141,13 @@ fn ended(state: State, steps: usize, answer: Answer, shown: Shown) -> Ran
     }
 }
 
-// The two numbers of a step in the trace.
-fn noted(trace: &mut [u64], i: usize, shown: Shown)
-    requires { ⌜ i * 2 + 2 ≤ length (now trace) ⌝ }
-    ensures { λ _. ⌜ now (trace .exit) ≡ set (set (now (trace .entry)) (i * 2) (shown .code)) (i * 2 + 1) (shown .address) ⌝ }
+// The two numbers of a step in the trace, and its status; then the number of steps done.
+fn noted(trace: &mut [u64], statuses: &mut [u8], i: usize, shown: Shown) -> usize
+    requires { ⌜ (i * 2 + 2 ≤ length (now trace)) × (i < length (now statuses)) ⌝ }
+    ensures { λ r. ⌜ (r ≡ i + 1) × (now (trace .exit) ≡ set (set (now (trace .entry)) (i * 2) (shown .code)) (i * 2 + 1) (shown .address)) × (now (statuses .exit) ≡ set (now (statuses .entry)) i (shown .status)) ⌝ }
 {
     trace[i * 2] = shown.code;
     trace[i * 2 + 1] = shown.address;
+    statuses[i] = shown.status;
+    i + 1
 }

@@ -1,15 +1,12 @@
 -- `execution::run` meets its contract. The three ways that a run goes are laws of proofs/Walks.antt,
 -- and what is promised of its taints and of secrecy follows from the run alone: `promised`. Assumes nothing.
-use Prim.Native.Nat.{_*_}
 use mathlib.Core.Path.{sym, _∙_}
-use native.Mathlib.Omega.{arith}
-use borrow.Author.Tests.{lt-ltb, le-ltb}
-use lib.ListN.{length}
 use Rattle.machine.specs.Machine.{machineOf}
 use Rattle.machine.specs.Refusals.{bad}
 use Rattle.machine.specs.Step.{stepOf}
+use Rattle.execution.specs.Walk.{log}
 use Rattle.execution.proofs.Secrecy.{promised}
-use Rattle.execution.proofs.Walks.{run-bad, run-short, run-begun}
+use Rattle.execution.proofs.Walks.{long-enough, run-bad, run-short, run-begun}
 use borrow.Author.Needs.{needs}
 use Rattle.execution.proofs.run.Statement.{statement}
 use Rattle.execution.proofs.run.Tie as tie
@@ -21,22 +18,31 @@ run-spec =
     (λ c κs. search needs)
     (λ c κs. search needs)
     (λ c.
-    let a = c .before .before .before .before .before .before .before .args in
-    let m = machineOf (a .state) (a .memory .now) (a .taint .now) in
-    let fine = sym (c .before .before .is-bad .ensures) ∙ c .before .if1 .taken in
-    promised (a .window) (a .words .now) m (a .trace .now) (run-bad (bad (a .window)) (stepOf (a .window)) (a .words .now) m (a .trace .now) (c .not-begun .ensures _ _ _) fine))
-    (λ c κs. search needs)
-    (λ c.
     let a = c .before .before .before .before .before .before .before .before .args in
     let m = machineOf (a .state) (a .memory .now) (a .taint .now) in
-    let fine = sym (c .before .before .before .is-bad .ensures) ∙ c .before .before .if1 .left in
-    promised (a .window) (a .words .now) m (a .trace .now) (run-short (bad (a .window)) (stepOf (a .window)) (a .words .now) m (a .trace .now) (c .not-begun2 .ensures _ _ _) fine (lt-ltb (length (a .trace .now)) (length (a .words .now) * 2) (omega (arith, c .before .if2 .taken)))))
+    let lent = log (a .trace .now) (a .statuses .now) in
+    let fine = sym (c .before .before .is-bad .ensures) ∙ c .before .if1 .taken in
+    promised (a .window) (a .words .now) m lent (run-bad (bad (a .window)) (stepOf (a .window)) (a .words .now) m lent (c .not-begun .ensures _ _ _ _) fine))
     (λ c κs. search needs)
+    (λ c κs. search needs)
+    (λ c.
+    let a = c .before .before .before .before .before .before .before .before .before .before .args in
+    let m = machineOf (a .state) (a .memory .now) (a .taint .now) in
+    let lent = log (a .trace .now) (a .statuses .now) in
+    let fine = sym (c .before .before .before .before .is-bad .ensures) ∙ c .before .before .before .if1 .left in
+    let short = sym (c .before .before .is-short .ensures) ∙ c .before .if2 .taken in
+    promised (a .window) (a .words .now) m lent (run-short (bad (a .window)) (stepOf (a .window)) (a .words .now) m lent (c .not-begun2 .ensures _ _ _ _) fine short))
+    (λ c κs.
+    let a = c .before .before .before .before .before .before .before .before .before .before .before .before .before .args in
+    long-enough (a .words .now) (log (a .trace .now) (a .statuses .now)) (sym (c .before .before .before .before .before .is-short .ensures) ∙ c .before .before .before .before .if2 .left))
+    (λ c. search needs)
     (λ c. search needs)
     (λ c. search needs)
     (λ c. search needs)
     (λ c.
-    let a = c .before .before .before .before .before .before .before .before .before .before .before .before .before .before .before .before .before .args in
+    let a = c .before .before .before .before .before .before .before .before .before .before .before .before .before .before .before .before .before .before .before .before .before .before .args in
     let m = machineOf (a .state) (a .memory .now) (a .taint .now) in
-    let fine = sym (c .before .before .before .before .before .before .before .before .before .before .before .before .is-bad .ensures) ∙ c .before .before .before .before .before .before .before .before .before .before .before .if1 .left in
-    promised (a .window) (a .words .now) m (a .trace .now) (run-begun (bad (a .window)) (stepOf (a .window)) (a .words .now) m (a .trace .now) (c .before .before .before .before .before .before .walk .ensures) fine (le-ltb (length (a .trace .now)) (length (a .words .now) * 2) (omega (arith, c .before .before .before .before .before .before .before .before .before .before .if2 .left))))))
+    let lent = log (a .trace .now) (a .statuses .now) in
+    let fine = sym (c .before .before .before .before .before .before .before .before .before .before .before .before .before .before .before .before .is-bad .ensures) ∙ c .before .before .before .before .before .before .before .before .before .before .before .before .before .before .before .if1 .left in
+    let room = sym (c .before .before .before .before .before .before .before .before .before .before .before .before .before .before .is-short .ensures) ∙ c .before .before .before .before .before .before .before .before .before .before .before .before .before .if2 .left in
+    promised (a .window) (a .words .now) m lent (run-begun (bad (a .window)) (stepOf (a .window)) (a .words .now) m lent (c .before .before .before .before .before .before .before .before .walk .ensures) fine room)))
