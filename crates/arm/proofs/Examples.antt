@@ -2,7 +2,6 @@
 -- stack pointer that is not aligned (02, CR 1). Assumes nothing.
 use Prim.Native.Nat.{ℕ, _-_, _^_}
 use mathlib.Core.Path.{_≡_, refl}
-use mathlib.Core.Bool.{false}
 use mathlib.Core.List.{[], _∷_, _++_, map}
 use lib.ListN.{getD, set, replicate}
 use Rattle.bits.specs.Fields.{part}
@@ -30,7 +29,8 @@ start =
       values = 0 ∷ 4101 ∷ replicate 30 0;
       pc = 8;
       memory = replicate 4 0 ++ (128 ∷ replicate 11 0);
-      taints = record { registers = replicate 32 false; bytes = replicate 16 0 };
+      taints = record { registers = replicate 32 0; bytes = replicate 16 0 };
+      monitor = record { address = 0; size = 0 };
     }
 
 abbrev loaded : ℕ → ℕ
@@ -41,7 +41,7 @@ answer word = answerNumber (performed start (armStep window word start) .answer)
 
 -- with this SP
 abbrev stack : ℕ → Machine
-stack sp = record { values = set (start .values) 31 sp; pc = 8; memory = start .memory; taints = start .taints }
+stack sp = record { values = set (start .values) 31 sp; pc = 8; memory = start .memory; taints = start .taints; monitor = start .monitor }
 
 abbrev stacked : ℕ → ℕ → ℕ × ℕ
 stacked word sp =

@@ -13,7 +13,7 @@ use Rattle.bits.specs.Fields.{part, field}
 use Rattle.bits.specs.Signed.{signedOf, twosComplement}
 use Rattle.bits.proofs.Choices.{both, neither}
 use Rattle.bits.proofs.Parts.{part-lt}
-use Rattle.registers.specs.File.{zeroSlot}
+use Rattle.registers.specs.File.{zeroSlot, taintIn}
 use Rattle.bits.specs.Extension.{extendedOf}
 use Rattle.instruction.specs.declared.row.Row.{Row}
 use Rattle.instruction.specs.declared.row.Row.the-variants.{LiteralRow, OrderedRow, UnscaledRow, PostRow, PreRow, RegisterRow, UnsignedRow}
@@ -40,12 +40,12 @@ use Rattle.arm.specs.Ordered.{ordered}
 use Rattle.arm.specs.Immediate.{immediate, postIndex, preIndex, unsigned}
 use Rattle.arm.specs.Indexed.{indexed}
 use Rattle.arm.specs.Literal.{literal}
-use Rattle.arm.specs.Marks.{mark}
+use Rattle.arm.specs.Marks.{baseMark, mark}
 use Rattle.arm.specs.Pages.{pageOf}
 use Rattle.arm.specs.Choices.{marked, crosses, armOf}
 use Rattle.arm.proofs.Bits.{add-is, imm9-is, imm12-is, imm19-is, index-is, extended-is}
 use Rattle.arm.proofs.Places.{base-is, x-is}
-use Rattle.arm.proofs.Marks.{mark-is}
+use Rattle.arm.proofs.Marks.{marked-base, none-marked, mark-is}
 use Rattle.arm.proofs.Steps.{Ready, Steps, hints-step, same-block}
 use Rattle.arm.proofs.Singles.{four, Form, one-load, extended-none, all-sizes}
 
@@ -119,11 +119,13 @@ module _ (w : Window) (m : Machine) (r : Ready w m) (l : Row) (word : ℕ) where
     unfolding based sumOf shiftedOf indexOf
     based-sum = rw (base-register, add-is, List·getD-eq-default (m .values) 0 {n = 32} (omega (arith, r .real .registers))) (omega arith)
 
-    based-mark : operandsOf a m .tainted ≡ (getD (m .taints .registers) n false || false)
+    based-mark : operandsOf a m .tainted ≡ (baseMark n (m .taints .registers) || false)
     unfolding based
-    based-mark = rw (List·getD-eq-default (m .taints .registers) false {n = 32} (omega (arith, r .real .marks))) (either (getD (m .taints .registers) n false) false)
+    based-mark =
+        let u = m .taints .registers in
+        either (taintIn u n) (taintIn u 32) ∙ ap (λ (b : Bool). taintIn u n || b) (none-marked u (r .real .marks)) ∙ ap (λ (b : Bool). b || false) (marked-base u n)
 
-    pub based-form : (ordered : Bool) → pageOf l word .wback ≡ wback → (getD (m .taints .registers) n false || false) ≡ marked (pageOf l word) word m
+    pub based-form : (ordered : Bool) → pageOf l word .wback ≡ wback → (baseMark n (m .taints .registers) || false) ≡ marked (pageOf l word) word m
         → (wback ≡ true → ¬ (n ≡ zeroSlot (field 4 0 word)))
         → ((k address : ℕ) → 0 < k → k ≤ 16 → misaligned ordered k address ≡ crosses (pageOf l word) address k)
         → Form w m l word a ordered wback (strays m n) (pick post (base n s) (Add (base n s) offset)) (Add (base n s) offset)
@@ -267,8 +269,9 @@ module _ (w : Window) (m : Machine) (r : Ready w m) (word : ℕ) where
   index-mark : operandsOf indexing m .tainted ≡ marked (pageOf RegisterRow word) word m
   index-mark =
       let u = m .taints .registers in
-      either (getD u (field 9 5 word) false) (getD u (zeroSlot i) false)
-      ∙ ap (λ (b : Bool). getD u (field 9 5 word) false || b) (mark-is u (r .real .marks) i)
+      either (taintIn u (field 9 5 word)) (taintIn u (zeroSlot i))
+      ∙ ap (λ (b : Bool). taintIn u (field 9 5 word) || b) (mark-is u (r .real .marks) i)
+      ∙ ap (λ (b : Bool). b || mark i u) (marked-base u (field 9 5 word))
 
   index-form : undefinedOption word ≡ false
       → let address = Add (base (field 9 5 word) (armOf w m)) (ExtendReg i option shift (armOf w m)) in
@@ -309,7 +312,7 @@ module _ (w : Window) (m : Machine) (r : Ready w m) (word : ℕ) where
   unfolding literalMode misaligned misalignedStack
   literal-form offset =
       record {
-        mark = rw (List·getD-eq-default (m .taints .registers) false {n = 32} (omega (arith, r .real .marks)));
+        mark = ap (λ (b : Bool). pick b true b) (none-marked (m .taints .registers) (r .real .marks));
         stack = refl;
         pointer = λ h. absurd (never h);
         first = literal-sum offset;

@@ -10,33 +10,45 @@ use lib.Seq.{sets, set-out}
 use Rattle.bits.specs.Choice.{pick}
 use Rattle.bits.specs.Fields.{field}
 use Rattle.bits.specs.Bytes.{spanOf}
-use Rattle.registers.specs.File.{zeroSlot}
+use Rattle.registers.specs.File.{zeroSlot, taintIn}
 use Rattle.memory.specs.Taints.{tainted, anyTainted, taintByte}
+use Rattle.memory.proofs.Taints.{nonzero-tainted}
 use Rattle.access.specs.declared.transfer.Transfer.{Transfer}
 use Rattle.machine.specs.Rule.{Taints, moveRule}
-use Rattle.arm.specs.Marks.{mark, setMark, anyMarked, setMarks, marksOf}
+use Rattle.arm.specs.Marks.{baseMark, mark, setMark, anyMarked, setMarks, marksOf}
 use Rattle.arm.proofs.Places.{next}
 
 -- ---- registers: a slot of 32 is none
 
-module _ (u : List Bool) (len : length u ≡ 32) where
-  set-mark : (n : ℕ) (b : Bool) → set u (zeroSlot n) b ≡ setMark n b u
+byte-is : (b : Bool) → taintByte b ≡ pick b 1 0
+byte-is true = refl
+byte-is false = refl
+
+pub marked-base : (u : List ℕ) (n : ℕ) → taintIn u n ≡ baseMark n u
+marked-base u n = sym (nonzero-tainted (getD u n 0))
+
+module _ (u : List ℕ) (len : length u ≡ 32) where
+  set-mark : (n : ℕ) (b : Bool) → set u (zeroSlot n) (taintByte b) ≡ setMark n b u
   set-mark n b = go (eqb n 31)
     where
-      go : (t : Bool) → set u (pick t 32 n) b ≡ pick t u (set u n b)
-      go true = set-out u 32 b (omega arith)
-      go false = refl
+      go : (t : Bool) → set u (pick t 32 n) (taintByte b) ≡ pick t u (set u n (pick b 1 0))
+      go true = set-out u 32 (taintByte b) (omega arith)
+      go false = ap (set u n) (byte-is b)
 
-  pub mark-is : (n : ℕ) → getD u (zeroSlot n) false ≡ mark n u
+  -- no register, no mark
+  pub none-marked : taintIn u 32 ≡ false
+  none-marked = ap tainted (List·getD-eq-default u 0 {n = 32} (omega arith))
+
+  pub mark-is : (n : ℕ) → taintIn u (zeroSlot n) ≡ mark n u
   mark-is n = go (eqb n 31)
     where
-      go : (t : Bool) → getD u (pick t 32 n) false ≡ pick t false (getD u n false)
-      go true = List·getD-eq-default u false (omega arith)
-      go false = refl
+      go : (t : Bool) → taintIn u (pick t 32 n) ≡ pick t false (baseMark n u)
+      go true = none-marked
+      go false = marked-base u n
 
-  base-mark : (wback : Bool) (n : ℕ) → set u (pick wback n 32) false ≡ pick wback (set u n false) u
+  base-mark : (wback : Bool) (n : ℕ) → set u (pick wback n 32) 0 ≡ pick wback (set u n 0) u
   base-mark true n = refl
-  base-mark false n = set-out u 32 false (omega arith)
+  base-mark false n = set-out u 32 0 (omega arith)
 
 -- ---- bytes
 
@@ -48,10 +60,6 @@ any-is : (origin address n : ℕ) (k : List ℕ) → origin ≤ address → anyT
 unfolding anyTainted spanOf anyMarked
 any-is origin address zero k h = refl
 any-is origin address (suc n) k h = one-byte (getD k (address - origin) 0) _ ∙ rw (← next h, any-is origin (address + 1) n k (omega arith))
-
-byte-is : (b : Bool) → taintByte b ≡ pick b 1 0
-byte-is true = refl
-byte-is false = refl
 
 set-marks : (origin address n : ℕ) (b : Bool) (k : List ℕ) → origin ≤ address
     → sets k (address - origin) (replicate n (taintByte b)) ≡ setMarks origin address n b k
@@ -67,16 +75,16 @@ set-marks origin address (suc n) b k h =
 -- the transfers of one register and of two
 abbrev pub single : Bool → Bool → ℕ → ℕ → ℕ → Transfer
 single store ordered k extent t =
-    record { store = store; ordered = ordered; bytes = k; more = 0; extent = extent; target = zeroSlot t; second = 32 }
+    record { store = store; ordered = ordered; bytes = k; more = 0; extent = extent; target = zeroSlot t; second = 32; exclusive = false }
 
 abbrev pub double : Bool → ℕ → ℕ → ℕ → ℕ → Transfer
 double store k extent t t2 =
-    record { store = store; ordered = false; bytes = k; more = k; extent = extent; target = zeroSlot t; second = zeroSlot t2 }
+    record { store = store; ordered = false; bytes = k; more = k; extent = extent; target = zeroSlot t; second = zeroSlot t2; exclusive = false }
 
-abbrev taints : List Bool → List ℕ → Taints
+abbrev taints : List ℕ → List ℕ → Taints
 taints r b = record { registers = r; bytes = b }
 
-same : {a b : List Bool} {c d : List ℕ} → a ≡ b → c ≡ d → taints a c ≡ taints b d
+same : {a b c d : List ℕ} → a ≡ b → c ≡ d → taints a c ≡ taints b d
 same e f = rw (e, f)
 
 module _ (wback : Bool) (origin word address : ℕ) (p : Taints) (len : length (p .registers) ≡ 32) (h : origin ≤ address) where
@@ -86,10 +94,10 @@ module _ (wback : Bool) (origin word address : ℕ) (p : Taints) (len : length (
   abbrev t2 : ℕ
   t2 = field 14 10 word
 
-  abbrev based : List Bool
-  based = pick wback (set (p .registers) (field 9 5 word) false) (p .registers)
+  abbrev based : List ℕ
+  based = pick wback (set (p .registers) (field 9 5 word) 0) (p .registers)
 
-  based-is : set (p .registers) (pick wback (field 9 5 word) 32) false ≡ based
+  based-is : set (p .registers) (pick wback (field 9 5 word) 32) 0 ≡ based
   based-is = base-mark (p .registers) len wback (field 9 5 word)
 
   based-length : length based ≡ 32
@@ -97,7 +105,7 @@ module _ (wback : Bool) (origin word address : ℕ) (p : Taints) (len : length (
 
   -- the bytes of one register
   stored : (n k a : ℕ) (bytes : List ℕ) → origin ≤ a
-      → sets bytes (a - origin) (replicate k (taintByte (getD (p .registers) (zeroSlot n) false))) ≡ setMarks origin a k (mark n (p .registers)) bytes
+      → sets bytes (a - origin) (replicate k (taintByte (taintIn (p .registers) (zeroSlot n)))) ≡ setMarks origin a k (mark n (p .registers)) bytes
   stored n k a bytes l = rw (mark-is (p .registers) len n) (set-marks origin a k (mark n (p .registers)) bytes l)
 
   pub one-marks : (store ordered : Bool) (k extent written : ℕ) → written ≡ pick wback (field 9 5 word) 32
@@ -106,9 +114,9 @@ module _ (wback : Bool) (origin word address : ℕ) (p : Taints) (len : length (
   one-marks true ordered k extent written e = rw e (same based-is (stored t k address (p .bytes) h))
   one-marks false ordered k extent written e =
       let x : Bool = anyTainted (spanOf (p .bytes) (address - origin) k) in
-      let l : length (set based (zeroSlot t) x) ≤ 32 = simp length-set (omega (arith, based-length)) in
-      rw (e, based-is, set-out (set based (zeroSlot t) x) 32 _ l)
-      (same (ap (set based (zeroSlot t)) (any-is origin address k (p .bytes) h) ∙ set-mark based based-length t _) refl)
+      let l : length (set based (zeroSlot t) (taintByte x)) ≤ 32 = simp length-set (omega (arith, based-length)) in
+      rw (e, based-is, set-out (set based (zeroSlot t) (taintByte x)) 32 _ l)
+      (same (ap (λ (b : Bool). set based (zeroSlot t) (taintByte b)) (any-is origin address k (p .bytes) h) ∙ set-mark based based-length t (anyMarked origin address k (p .bytes))) refl)
 
   pub two-marks : (store : Bool) (k extent written : ℕ) → written ≡ pick wback (field 9 5 word) 32
       → moveRule (double store k extent t t2) written (address - origin) p ≡ marksOf true wback store origin word address (2 * k) p
@@ -122,7 +130,7 @@ module _ (wback : Bool) (origin word address : ℕ) (p : Taints) (len : length (
       let far : address - origin + k ≡ address + k - origin = omega arith in
       let x : Bool = anyMarked origin address k (p .bytes) in
       let y : Bool = anyMarked origin (address + k) k (p .bytes) in
-      let one : set based (zeroSlot t) x ≡ setMark t x based = set-mark based based-length t x in
+      let one : set based (zeroSlot t) (taintByte x) ≡ setMark t x based = set-mark based based-length t x in
       let l : length (setMark t x based) ≡ 32 = rw (← one) (simp length-set based-length) in
       rw (e, half, based-is, far, any-is origin address k (p .bytes) h, any-is origin (address + k) k (p .bytes) (omega arith))
-      (same (ap (λ (v : List Bool). set v (zeroSlot t2) y) one ∙ set-mark (setMark t x based) l t2 y) refl)
+      (same (ap (λ (v : List ℕ). set v (zeroSlot t2) (taintByte y)) one ∙ set-mark (setMark t x based) l t2 y) refl)

@@ -111,6 +111,7 @@ module _ (w : Window) (m : Machine) (r : Ready w m) (word : ℕ) (a : Addressing
       access-step w m (r .top) PairRow word (double false k extent t t2) a stray address (2 * k) (loaded k width g)
       (record {
         access = e;
+        plain = refl;
         total = omega arith;
         mark = f .mark;
         stack = f .stack;
@@ -144,6 +145,7 @@ module _ (w : Window) (m : Machine) (r : Ready w m) (word : ℕ) (a : Addressing
       access-step w m (r .top) PairRow word (double true k extent t t2) a stray address (2 * k) (stored k)
       (record {
         access = e;
+        plain = refl;
         total = omega arith;
         mark = f .mark;
         stack = f .stack;

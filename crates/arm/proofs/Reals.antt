@@ -1,7 +1,6 @@
 -- A step leaves a machine that there is (`Real`), where it starts from one; and there is one. Assumes nothing.
 use Prim.Native.Nat.{ℕ, zero, suc, _+_, _-_, _%_, _/_, _^_, _≤_, _<_}
 use mathlib.Core.Path.{_≡_, refl}
-use mathlib.Core.Bool.{Bool, false}
 use mathlib.Core.List.{List, [], _∷_}
 use native.Mathlib.Omega.{arith}
 use lib.ListN.{length, getD, set, replicate, length-set}
@@ -11,13 +10,17 @@ use Rattle.bits.proofs.Choices.{pick-by}
 use Rattle.bits.specs.Extension.{extendedOf}
 use Rattle.decoder.specs.Decoding.{decodeOf}
 use Rattle.access.specs.declared.transfer.Transfer.{Transfer}
+use Rattle.access.specs.declared.addressing.Addressing.{Addressing}
 use Rattle.access.specs.declared.Access.{Access}
 use Rattle.access.specs.declared.Access.the-variants.{Nothing, Moves}
 use Rattle.access.proofs.Bounds.{Bounded, Within, bounded}
 use Rattle.plan.specs.declared.window.Window.{Window}
+use Rattle.plan.specs.declared.operands.Operands.{Operands}
 use Rattle.plan.specs.Address.{sumOf, addressOf}
 use Rattle.plan.proofs.Refusals.{each, first-by}
 use Rattle.access.specs.Accesses.{wordAccess}
+use Rattle.machine.specs.declared.monitor.Monitor.{Monitor}
+use Rattle.machine.specs.Monitor.{openMonitor, matches, storeExclusive, statusOf, monitorAfter, writtenBack, fails, madeOf}
 use Rattle.machine.specs.Rule.{moveRule}
 use Rattle.machine.specs.Machine.{Machine, operandsOf, effectOf}
 use Rattle.machine.specs.Refusals.{refusals}
@@ -45,13 +48,31 @@ bytes-below (suc k) v at xs b = bytes-below k (v / 256) (suc at) (set xs at (v %
 
 -- ---- a step
 
+-- what is made of an access is no longer than the access
+made-bounded : (t : Transfer) (status : ℕ) → Bounded t → Bounded (madeOf t status)
+made-bounded t status b =
+    record {
+      wide = pick-by (λ (n : ℕ). n ≤ t .extent) (fails t status) (λ e. omega arith) (λ e. b .wide);
+      wider = pick-by (λ (n : ℕ). n ≤ t .extent) (fails t status) (λ e. omega arith) (λ e. b .wider);
+      extent = b .extent;
+    }
+
+-- a status is a small number, and the sum of an address one of 64 bits
+written-below : (t : Transfer) (address : ℕ) (r : Monitor) (a : Addressing) (o : Operands) → writtenBack t (statusOf t address r) (sumOf a o) < 2 ^ 64
+unfolding writtenBack statusOf sumOf
+written-below t address r a o =
+    let low : ℕ → Type 0 = (λ n. n < 2 ^ 64) in
+    pick-by low (t .exclusive)
+    (λ e. pick-by low (storeExclusive t) (λ f. pick-by low (matches r address (t .bytes)) (λ g. omega arith) (λ g. omega arith)) (λ f. omega arith))
+    (λ e. omega arith)
+
 module _ (m : Machine) (r : Real m) where
   loaded-below : (k extent at : ℕ) → k ≤ extent → extent ≤ 8 → extendedOf k extent (joined (spanOf (m .memory) at k)) < 2 ^ 64
   loaded-below k extent at h l = extended-below k extent _ h l (joined-lt (m .memory) (r .bytes) k at)
 
-  real-effect : (t : Transfer) → Bounded t → (written at next : ℕ) → next < 2 ^ 64 → Real (effectOf t written at next m)
+  real-effect : (t : Transfer) → Bounded t → (written at next : ℕ) (after : Monitor) → next < 2 ^ 64 → Real (effectOf t written at next after m)
   unfolding effectOf moveRule
-  real-effect t b written at next h =
+  real-effect t b written at next after h =
       let v : List ℕ = set (m .values) written next in
       let base = set-below (m .values) written next h (r .values) in
       let x : ℕ = extendedOf (t .bytes) (t .extent) (joined (spanOf (m .memory) at (t .bytes))) in
@@ -60,7 +81,7 @@ module _ (m : Machine) (r : Real m) where
       let bytes = bytes-below (t .bytes) (getD (m .values) (t .target) 0) at (m .memory) (r .bytes) in
       record {
         registers = pick-by (λ (l : List ℕ). length l ≡ 32) (t .store) (λ e. simp length-set (r .registers)) (λ e. simp length-set (r .registers));
-        marks = pick-by (λ (l : List Bool). length l ≡ 32) (t .store) (λ e. simp length-set (r .marks)) (λ e. simp length-set (r .marks));
+        marks = pick-by (λ (l : List ℕ). length l ≡ 32) (t .store) (λ e. simp length-set (r .marks)) (λ e. simp length-set (r .marks));
         values =
             pick-by (Below (2 ^ 64)) (t .store) (λ e. base) (λ e. set-below (set v (t .target) x) (t .second) _ two (set-below v (t .target) x one base));
         bytes = pick-by (Below 256) (t .store) (λ e. bytes-below (t .more) _ (at + t .bytes) _ bytes) (λ e. r .bytes);
@@ -71,9 +92,12 @@ module _ (m : Machine) (r : Real m) where
   RealStep (moved n shown) = Real n
 
   real-perform : (origin : ℕ) (x : Access) → Within x → RealStep (performOf origin x m)
-  unfolding sumOf
   real-perform origin Nothing b = record { registers = r .registers; marks = r .marks; values = r .values; bytes = r .bytes }
-  real-perform origin (Moves t a) b = real-effect t b (a .written) (addressOf a (operandsOf a m) - origin) (sumOf a (operandsOf a m)) (omega arith)
+  real-perform origin (Moves t a) b =
+      let o = operandsOf a m in
+      let address = addressOf a o in
+      let status = statusOf t address (m .monitor) in
+      real-effect (madeOf t status) (made-bounded t status b) (a .written) (address - origin) (writtenBack t status (sumOf a o)) (monitorAfter t address (m .monitor)) (written-below t address (m .monitor) a o)
 
   pub real-moved : (w : Window) (word : ℕ) → RealStep (stepOf w word m)
   unfolding stepOf
@@ -96,7 +120,7 @@ zeros-below top (suc k) zero h = h
 zeros-below top (suc k) (suc n) h = zeros-below top k n h
 
 abbrev pub cleared : ℕ → Machine
-cleared len = record { values = replicate 32 0; pc = 0; memory = replicate len 0; taints = record { registers = replicate 32 false; bytes = replicate len 0 } }
+cleared len = record { values = replicate 32 0; pc = 0; memory = replicate len 0; taints = record { registers = replicate 32 0; bytes = replicate len 0 }; monitor = openMonitor }
 
 pub cleared-real : (len : ℕ) → Real (cleared len)
 cleared-real len =

@@ -6,7 +6,7 @@ use Rattle.plan.specs.declared.window.Window.{Window}
 use Rattle.machine.specs.Machine.{Machine}
 use Rattle.machine.specs.declared.Shown.{Shown}
 use Rattle.machine.specs.Step.{shown, Step, stopped, moved, stepOf}
-use Rattle.execution.specs.Walk.{ahead, goOn, walkOf, runOf}
+use Rattle.execution.specs.Walk.{ahead, goOn, walkOf, Log, runOf}
 use Rattle.execution.specs.Run.{machineRun}
 use Rattle.arm.specs.Real.{Real}
 use Rattle.arm.specs.Choices.{badStart, armStep}
@@ -24,6 +24,6 @@ walk-as-arm w (x ∷ words) m r last =
     go f (stopped answer address) h = refl
     go f (moved n s) h = ap (ahead s) (f n h s)
 
-pub run-as-arm : (w : Window) (words : List ℕ) (m : Machine) (trace : List ℕ) → Real m → machineRun w words m trace ≡ runOf (badStart w) (armStep w) words m trace
+pub run-as-arm : (w : Window) (words : List ℕ) (m : Machine) (l : Log) → Real m → machineRun w words m l ≡ runOf (badStart w) (armStep w) words m l
 unfolding runOf
-run-as-arm w words m trace r = rw (bad-is w m, walk-as-arm w words m r (shown 0 0))
+run-as-arm w words m l r = rw (bad-is w m, walk-as-arm w words m r (shown 0 0 0))

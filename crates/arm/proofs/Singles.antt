@@ -140,6 +140,7 @@ module _ (w : Window) (m : Machine) (r : Ready w m) (l : Row) (word : ℕ) (a : 
       access-step w m (r .top) l word (single false ordered k extent t) a stray address k (loaded k width g)
       (record {
         access = e;
+        plain = refl;
         total = add-zero k;
         mark = f .mark;
         stack = f .stack;
@@ -166,6 +167,7 @@ module _ (w : Window) (m : Machine) (r : Ready w m) (l : Row) (word : ℕ) (a : 
       access-step w m (r .top) l word (single true ordered k extent t) a stray address k (stored k)
       (record {
         access = e;
+        plain = refl;
         total = add-zero k;
         mark = f .mark;
         stack = f .stack;

@@ -15,14 +15,16 @@ use Rattle.access.specs.declared.transfer.Transfer.{Transfer}
 use Rattle.access.specs.declared.addressing.Addressing.{Addressing}
 use Rattle.access.specs.declared.Access.the-variants.{Nothing, Moves}
 use Rattle.plan.specs.declared.window.Window.{Window}
+use Rattle.plan.specs.declared.operands.Operands.{Operands}
 use Rattle.plan.specs.Address.{sumOf, addressOf}
-use Rattle.plan.specs.Admission.{totalOf, misaligned, outside, guarded, admitOf}
+use Rattle.plan.specs.Admission.{totalOf, misaligned, unaligned, outside, guarded, admitOf}
 use Rattle.plan.specs.Plans.{misalignedStack}
 use Rattle.plan.proofs.Tests.{same-test}
 use Rattle.access.specs.Accesses.{wordAccess}
+use Rattle.machine.specs.Monitor.{statusOf, monitorAfter, writtenBack, fails}
 use Rattle.machine.specs.Rule.{moveRule}
 use Rattle.machine.specs.Machine.{Machine, operandsOf, basedValues, loadedValues, storedBytes, effectOf, codeOf}
-use Rattle.machine.specs.Step.{shown, Step, stopped, moved}
+use Rattle.machine.specs.Step.{shown, Step, stopped, moved, touchOf}
 use Rattle.machine.specs.route.Parts.{accessStep}
 use Rattle.arm.specs.Pseudocode.{Arm, Operation, hint, spFault, access}
 use Rattle.arm.specs.Marks.{marksOf}
@@ -91,7 +93,7 @@ tested tainted stray across out guard sp x code n =
     (pick across (stopped Misaligned x)
     (pick out (stopped OutOfWindow x)
     (pick guard (stopped ReadOnly x)
-    (moved n (shown code x))))))
+    (moved n (shown code x 0))))))
 
 planned : (b sp x code : ℕ) (m n : Machine) (tainted stray across out guard test : Bool) → (stray ≡ true → b ≡ sp) → (out ≡ false → guard ≡ test) → (out ≡ false → m ≡ n)
     → tested tainted stray across out guard b x code m ≡ tested tainted stray across out test sp x code n
@@ -104,6 +106,27 @@ planned b sp x code m n false false false false guard test p g f = rw (g refl, f
 same-plan : (F : Bool → Bool → Bool → Bool → ℕ → Step Machine) {p p′ q q′ r r′ s s′ : Bool} {x x′ : ℕ} → p ≡ p′ → q ≡ q′ → r ≡ r′ → s ≡ s′ → x ≡ x′
     → F p q r s x ≡ F p′ q′ r′ s′ x′
 same-plan F e f g k h = rw (e, f, g, k, h)
+
+-- an access that is not exclusive has no test of its own alignment, keeps the monitor and has status 0
+untested : (tainted stray across turned out guard : Bool) (sp x code : ℕ) (n : Machine) (touch : Step Machine) → turned ≡ false → touch ≡ moved n (shown code x 0)
+    → pick tainted (stopped TaintedAddress 0)
+    (pick stray (stopped Misaligned sp)
+    (pick across (stopped Misaligned x)
+    (pick turned (stopped Misaligned x)
+    (pick out (stopped OutOfWindow x)
+    (pick guard (stopped ReadOnly x)
+    touch)))))
+    ≡ tested tainted stray across out guard sp x code n
+untested tainted stray across turned out guard sp x code n touch e f = rw (e, f)
+
+aligned : (t : Transfer) (total x : ℕ) → t .exclusive ≡ false → unaligned (t .exclusive) total x ≡ false
+unfolding unaligned
+aligned t total x e = rw e
+
+touch-plain : (origin : ℕ) (t : Transfer) (written address sum : ℕ) (m : Machine) → t .exclusive ≡ false
+    → touchOf origin t written address sum m ≡ moved (effectOf t written (address - origin) sum (m .monitor) m) (shown (codeOf t) address 0)
+unfolding statusOf monitorAfter writtenBack fails
+touch-plain origin t written address sum m e = rw e
 
 -- the step of a word is that of its page
 abbrev pub Steps : Window → Machine → Row → ℕ → Operation → Type 0
@@ -120,6 +143,7 @@ faulty m stray o = pick stray (spFault (getD (m .values) 31 0)) o
 -- what an access and a page agree on
 pub record Agreed (w : Window) (m : Machine) (l : Row) (word : ℕ) (t : Transfer) (a : Addressing) (stray : Bool) (address size : ℕ) (after : Arm) : Type 0 where
   pub access : wordAccess word ≡ Moves t a
+  pub plain : t .exclusive ≡ false
   pub total : totalOf t ≡ size
   pub mark : operandsOf a m .tainted ≡ marked (pageOf l word) word m
   pub stack : misalignedStack (a .base) (operandsOf a m .base) ≡ stray
@@ -142,7 +166,7 @@ module _ (w : Window) (m : Machine) (top : w .origin + length (m .memory) ≤ 2 
   abbrev left : Machine
   left = afterPage w word m (pageOf l word) (t .store) address size after
 
-  effect : o ≡ false → effectOf t (a .written) (address - w .origin) (sumOf a (operandsOf a m)) m ≡ left
+  effect : o ≡ false → effectOf t (a .written) (address - w .origin) (sumOf a (operandsOf a m)) (m .monitor) m ≡ left
   unfolding effectOf
   effect e =
       let h = inside w m address size top e in
@@ -168,10 +192,14 @@ module _ (w : Window) (m : Machine) (top : w .origin + length (m .memory) ≤ 2 
       ≡ tested (marked (pageOf l word) word m) stray (crosses (pageOf l word) address size) o (shut w (t .store) address) (getD (m .values) 31 0) address (codeOf t) left
   unfolding accessStep admitOf
   step =
-      let next = sumOf a (operandsOf a m) in
+      let p : Operands = operandsOf a m in
+      let x : ℕ = addressOf a p in
+      let next : ℕ = sumOf a p in
       ap (λ x. accessStep (w .origin) (admitOf w (length (m .memory))) x m) (g .access)
-      ∙ same-plan (λ tainted stray across out x. tested tainted stray across out (guarded (t .store) x w) (operandsOf a m .base) x (codeOf t) (effectOf t (a .written) (x - w .origin) next m)) (g .mark) (g .stack) across out (g .first)
-      ∙ planned (operandsOf a m .base) (getD (m .values) 31 0) address (codeOf t) (effectOf t (a .written) (address - w .origin) next m) left (marked (pageOf l word) word m) stray
+      ∙ untested (p .tainted) (misalignedStack (a .base) (p .base)) (misaligned (t .ordered) (totalOf t) x) (unaligned (t .exclusive) (totalOf t) x) (outside (totalOf t) x (w .origin) (length (m .memory))) (guarded (t .store) x w) (p .base) x (codeOf t)
+      (effectOf t (a .written) (x - w .origin) next (m .monitor) m) (touchOf (w .origin) t (a .written) x next m) (aligned t (totalOf t) x (g .plain)) (touch-plain (w .origin) t (a .written) x next m (g .plain))
+      ∙ same-plan (λ tainted stray across out x. tested tainted stray across out (guarded (t .store) x w) (operandsOf a m .base) x (codeOf t) (effectOf t (a .written) (x - w .origin) next (m .monitor) m)) (g .mark) (g .stack) across out (g .first)
+      ∙ planned (operandsOf a m .base) (getD (m .values) 31 0) address (codeOf t) (effectOf t (a .written) (address - w .origin) next (m .monitor) m) left (marked (pageOf l word) word m) stray
       (crosses (pageOf l word) address size) o (guarded (t .store) address w) (shut w (t .store) address) (g .pointer) guard effect
 
   -- with the test of the stack pointer, and what the page then does

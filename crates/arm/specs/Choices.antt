@@ -1,9 +1,9 @@
 -- A step by Arm's pages, with what 01 decides where Arm leaves a choice: "Answer numbers", 1 to 8 in their order and in
 -- 01's words, with 02's CR 1. Where Arm says undefined or unpredictable, 01's tables of words (instruction/specs) decide before the page.
 use Prim.Native.Nat.{ℕ, _+_, _-_, _/_, _%_, _^_}
-use mathlib.Core.Bool.{Bool, false, _&&_, _||_, not}
+use mathlib.Core.Bool.{Bool, _&&_, _||_, not}
 use lib.Dec.{eqb, ltb, leb}
-use lib.ListN.{length, getD}
+use lib.ListN.{length}
 use Rattle.bits.specs.Choice.{pick}
 use Rattle.bits.specs.Fields.{field}
 use Rattle.instruction.specs.declared.answer.Answer.the-variants.{BadWindow, NotInSet, Undefined, Unpredictable, TaintedAddress, Misaligned, OutOfWindow, ReadOnly}
@@ -13,7 +13,7 @@ use Rattle.machine.specs.Machine.{Machine}
 use Rattle.machine.specs.Step.{shown, Step, stopped, moved}
 use Rattle.arm.specs.Pseudocode.{Arm, Operation, hint, spFault, access}
 use Rattle.arm.specs.Pages.{Page, pageOf}
-use Rattle.arm.specs.Marks.{mark, marksOf}
+use Rattle.arm.specs.Marks.{baseMark, mark, marksOf}
 
 -- 1: origin + len above 2^64, r above len, mark length not len, or PC not a multiple of 4
 unfoldable pub badStart : Window → Machine → Bool
@@ -26,7 +26,7 @@ badStart w m =
 -- 5: base or index register marked (not for prefetch or literal)
 abbrev pub marked : Page → ℕ → Machine → Bool
 marked page word m =
-    (page .based && getD (m .taints .registers) (field 9 5 word) false)
+    (page .based && baseMark (field 9 5 word) (m .taints .registers))
     || (page .indexed && mark (field 20 16 word) (m .taints .registers))
 
 -- 6: ordered access not wholly inside one 16-byte aligned block: its first and its last byte are in two
@@ -45,7 +45,7 @@ shut w store address = store && ltb (address - w .origin) (w .readonly)
 abbrev pub after : ℕ → ℕ
 after pc = (pc + 4) % 2 ^ 64
 
--- what a page leaves, with the marks of 01's rule
+-- what a page leaves, with the marks of 01's rule. None of these pages touches the monitor (02, CR 3) or has a status
 abbrev pub afterPage : Window → ℕ → Machine → Page → Bool → ℕ → ℕ → Arm → Machine
 afterPage w word m page store address size s =
     record {
@@ -53,19 +53,20 @@ afterPage w word m page store address size s =
       pc = after (m .pc);
       memory = s .memory;
       taints = marksOf (page .paired) (page .wback) store (w .origin) word address size (m .taints);
+      monitor = m .monitor;
     }
 
 -- a prefetch changes nothing but PC, with code and address 0. An access has 5 to 8 before it, and the fault of SP's alignment is
 -- 6 with SP's address, "after 5 and before the ordered test" (02, CR 1); its code is the bytes touched, plus 64 for a store
 abbrev pub chosen : Window → ℕ → Machine → Page → Operation → Step Machine
-chosen w word m page hint = moved (record { values = m .values; pc = after (m .pc); memory = m .memory; taints = m .taints }) (shown 0 0)
+chosen w word m page hint = moved (record { values = m .values; pc = after (m .pc); memory = m .memory; taints = m .taints; monitor = m .monitor }) (shown 0 0 0)
 chosen w word m page (spFault sp) = pick (marked page word m) (stopped TaintedAddress 0) (stopped Misaligned sp)
 chosen w word m page (access store address size s) =
     pick (marked page word m) (stopped TaintedAddress 0)
     (pick (crosses page address size) (stopped Misaligned address)
     (pick (outOf w m address size) (stopped OutOfWindow address)
     (pick (shut w store address) (stopped ReadOnly address)
-    (moved (afterPage w word m page store address size s) (shown (size + pick store 64 0) address)))))
+    (moved (afterPage w word m page store address size s) (shown (size + pick store 64 0) address 0)))))
 
 abbrev pub armOf : Window → Machine → Arm
 armOf w m = record { registers = m .values; pc = m .pc; origin = w .origin; memory = m .memory }

@@ -8,12 +8,16 @@ use Rattle.bits.specs.Choice.{pick}
 use Rattle.bits.specs.Fields.{field}
 use Rattle.machine.specs.Rule.{Taints}
 
--- the mark of Rt, Rt2 or Rm: 31 is the zero register, which has none
-abbrev pub mark : ℕ → List Bool → Bool
-mark n u = pick (eqb n 31) false (getD u n false)
+-- the mark of a base, where 31 is SP: any byte but 0
+abbrev pub baseMark : ℕ → List ℕ → Bool
+baseMark n u = not (eqb (getD u n 0) 0)
 
-abbrev pub setMark : ℕ → Bool → List Bool → List Bool
-setMark n b u = pick (eqb n 31) u (set u n b)
+-- the mark of Rt, Rt2 or Rm: 31 is the zero register, which has none
+abbrev pub mark : ℕ → List ℕ → Bool
+mark n u = pick (eqb n 31) false (baseMark n u)
+
+abbrev pub setMark : ℕ → Bool → List ℕ → List ℕ
+setMark n b u = pick (eqb n 31) u (set u n (pick b 1 0))
 
 -- whether one of n bytes is marked, and n bytes marked or not
 unfoldable pub anyMarked : ℕ → ℕ → ℕ → List ℕ → Bool
@@ -31,7 +35,7 @@ marksOf paired wback store origin word address size p =
     let t = field 4 0 word in
     let t2 = field 14 10 word in
     let each = pick paired (size / 2) size in
-    let u = pick wback (set (p .registers) (field 9 5 word) false) (p .registers) in
+    let u = pick wback (set (p .registers) (field 9 5 word) 0) (p .registers) in
     let loaded = setMark t (anyMarked origin address each (p .bytes)) u in
     let stored = setMarks origin address each (mark t (p .registers)) (p .bytes) in
     record {

@@ -9,7 +9,7 @@ ghost use Prim.Native.Nat.{ℕ, _<_, _^_};
 ghost use lib.ListN.{getD};
 ghost use Rattle.machine.specs.Machine.{machineOf};
 ghost use Rattle.machine.specs.Step.{outcome, leaves};
-ghost use Rattle.execution.specs.Walk.{runOf};
+ghost use Rattle.execution.specs.Walk.{log, runOf};
 ghost use Rattle.execution.specs.Run.{result};
 ghost use Rattle.arm.specs.Real.{Real};
 ghost use Rattle.arm.specs.Choices.{badStart, armStep};
@@ -30,11 +30,12 @@ pub fn run(
     memory: &mut [u8],
     taint: &mut [u8],
     trace: &mut [u64],
+    statuses: &mut [u8],
 ) -> Ran
-    ensures { λ r. ⌜ result r (now (memory .exit)) (now (taint .exit)) (now (trace .exit)) ≡ runOf (badStart window) (armStep window) (now (words .entry)) (machineOf state (now (memory .entry)) (now (taint .entry))) (now (trace .entry)) ⌝ }
+    ensures { λ r. ⌜ result r (now (memory .exit)) (now (taint .exit)) (now (trace .exit)) (now (statuses .exit)) ≡ runOf (badStart window) (armStep window) (now (words .entry)) (machineOf state (now (memory .entry)) (now (taint .entry))) (log (now (trace .entry)) (now (statuses .entry))) ⌝ }
 {
     real(state, memory, taint);
-    execution::run(words, state, window, memory, taint, trace)
+    execution::run(words, state, window, memory, taint, trace, statuses)
 }
 
 // The theorems are of machines that are `Real`. This says that whatever a step or a run can be handed is one: its types
