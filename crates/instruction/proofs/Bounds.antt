@@ -7,9 +7,9 @@ use Rattle.bits.proofs.Parts.{part-lt}
 use Rattle.bits.proofs.Offsets.{signed-most}
 use Rattle.instruction.specs.Types.{Row, SizedOp, OffsetOperands}
 use Rattle.instruction.specs.Operations.{sizedBytes, pairBytes}
-use Rattle.instruction.specs.Operands.{sizedIn, literalIn, pairOpIn, pairIn, signedIn, indexIn, unsignedIn}
+use Rattle.instruction.specs.Operands.{sizedIn, literalIn, pairOpIn, pairIn, signedIn, indexIn, unsignedIn, exclusiveIn, storeExclusiveIn}
 use Rattle.instruction.specs.Table.{columnsOf}
-use Rattle.instruction.specs.route.Bounds.{LiteralBounds, PairBounds, OffsetBounds, IndexBounds, Bounded}
+use Rattle.instruction.specs.route.Bounds.{LiteralBounds, PairBounds, OffsetBounds, IndexBounds, ExclusiveBounds, StoreExclusiveBounds, Bounded}
 use Rattle.instruction.proofs.Codes.{sized, paired}
 
 -- the bound of imm9 is within that of imm12
@@ -44,6 +44,14 @@ module _ (w : ℕ) where
       let most : field 21 10 w * sizedBytes op ≤ 4095 * 8 = mul-le-mul below (sized op .most) in
       record { target = part-lt 0 5 w; base = part-lt 5 5 w; offset = omega arith }
 
+  pub exclusive-bounds : ExclusiveBounds (exclusiveIn w)
+  unfolding exclusiveIn
+  exclusive-bounds = record { target = part-lt 0 5 w; base = part-lt 5 5 w }
+
+  pub store-exclusive-bounds : StoreExclusiveBounds (storeExclusiveIn w)
+  unfolding storeExclusiveIn
+  store-exclusive-bounds = record { status = part-lt 16 5 w; target = part-lt 0 5 w; base = part-lt 5 5 w }
+
   pub bounded-in : (r : Row) → Bounded (columnsOf r .family w)
   bounded-in Row.NoRow = tt
   bounded-in Row.LiteralRow = literal-bounds
@@ -54,3 +62,6 @@ module _ (w : ℕ) where
   bounded-in Row.PreRow = signed-bounds
   bounded-in Row.RegisterRow = index-bounds
   bounded-in Row.UnsignedRow = unsigned-bounds (sizedIn w)
+  bounded-in Row.LoadExclusiveRow = exclusive-bounds
+  bounded-in Row.StoreExclusiveRow = store-exclusive-bounds
+  bounded-in Row.AcquireReleaseRow = exclusive-bounds

@@ -5,11 +5,11 @@ use mathlib.Core.Bool.{Bool, true, _||_, or-false}
 use native.Mathlib.Nat.{one-le-pow, pow-le-pow-right}
 use native.Mathlib.Omega.{arith}
 use lib.Dec.{eqb, ltb}
-use borrow.Author.Tests.{eqb-true, ne-eqb, ltb-true}
+use borrow.Author.Tests.{eqb-true, ne-eqb, ltb-true, le-ltb}
 use Rattle.bits.specs.Choice.{byCode}
 use Rattle.bits.proofs.Choices.{pick-by, tested, every, each}
-use Rattle.instruction.specs.Types.{SizedOp, PairOp, LiteralOp, PairMode}
-use Rattle.instruction.specs.Operations.{sizedCode, sizeOf, opcOf, scaleOf, sizedBytes, sizedOps, sizedAt, literalOpc, literalOps, literalAt, pairCode, pairOpc, pairLoad, pairBytes, pairOps, pairAt, modeCode, modes, modeAt}
+use Rattle.instruction.specs.Types.{SizedOp, PairOp, LiteralOp, PairMode, AccessSize, ExclusiveOp, StoreExclusiveOp}
+use Rattle.instruction.specs.Operations.{sizedCode, sizeOf, opcOf, scaleOf, sizedBytes, sizedOps, sizedAt, literalOpc, literalOps, literalAt, pairCode, pairOpc, pairLoad, pairBytes, pairOps, pairAt, modeCode, modes, modeAt, exclusiveCode, exclusiveOps, exclusiveAt, storeExclusiveCode, storeExclusiveAt, accessScale, accessSizes, sizeAt, accessBytes}
 
 -- ---- from an operation to its code and back: each is found by its code, so a test that is computed for all shows a fact of each
 
@@ -51,6 +51,25 @@ mode-at PairMode.NoAllocate = refl
 mode-at PairMode.Post = refl
 mode-at PairMode.Offset = refl
 mode-at PairMode.Pre = refl
+
+pub exclusive-at : (op : ExclusiveOp) → exclusiveAt (exclusiveCode op) ≡ op
+unfolding exclusiveAt
+exclusive-at ExclusiveOp.LoadExclusive = refl
+exclusive-at ExclusiveOp.LoadAcquireExclusive = refl
+exclusive-at ExclusiveOp.StoreRelease = refl
+exclusive-at ExclusiveOp.LoadAcquire = refl
+
+pub store-exclusive-at : (op : StoreExclusiveOp) → storeExclusiveAt (storeExclusiveCode op) ≡ op
+unfolding storeExclusiveAt
+store-exclusive-at StoreExclusiveOp.StorePlainExclusive = refl
+store-exclusive-at StoreExclusiveOp.StoreReleaseExclusive = refl
+
+pub size-at : (size : AccessSize) → sizeAt (accessScale size) ≡ size
+unfolding sizeAt
+size-at AccessSize.Byte = refl
+size-at AccessSize.Half = refl
+size-at AccessSize.Word = refl
+size-at AccessSize.Double = refl
 
 -- ---- bounds
 
@@ -108,6 +127,22 @@ unfolding modeAt
 mode-below mode =
     ltb-true (modeCode mode) 4 (each PairMode.Pre (byCode modeCode modes) modeCode mode-at (λ x. ltb (modeCode x) 4) refl mode)
 
+pub exclusive-below : (op : ExclusiveOp) → exclusiveCode op < 8
+unfolding exclusiveAt
+exclusive-below op =
+    ltb-true (exclusiveCode op) 8
+    (each ExclusiveOp.LoadAcquire (byCode exclusiveCode exclusiveOps) exclusiveCode exclusive-at (λ x. ltb (exclusiveCode x) 8) refl op)
+
+pub store-exclusive-below : (op : StoreExclusiveOp) → storeExclusiveCode op < 2
+store-exclusive-below StoreExclusiveOp.StorePlainExclusive = omega arith
+store-exclusive-below StoreExclusiveOp.StoreReleaseExclusive = omega arith
+
+pub scale-below : (size : AccessSize) → accessScale size < 4
+unfolding sizeAt
+scale-below size =
+    ltb-true (accessScale size) 4
+    (each AccessSize.Double (byCode accessScale accessSizes) accessScale size-at (λ x. ltb (accessScale x) 4) refl size)
+
 -- ---- from a code to its operation and back
 
 sizedTest : ℕ → Bool
@@ -137,3 +172,25 @@ modeTest k = eqb (modeCode (modeAt k)) k
 pub mode-code : (k : ℕ) → k < 4 → modeCode (modeAt k) ≡ k
 unfolding modeTest modeAt
 mode-code k h = eqb-true _ _ (tested 4 modeTest refl k h)
+
+exclusiveTest : ℕ → Bool
+exclusiveTest k = eqb (exclusiveCode (exclusiveAt k)) k || (ltb k 0b010 || (eqb k 0b100 || eqb k 0b110))
+
+pub exclusive-code : (k : ℕ) → k < 8 → 0b010 ≤ k → ¬ (k ≡ 0b100) → ¬ (k ≡ 0b110) → exclusiveCode (exclusiveAt k) ≡ k
+unfolding exclusiveTest exclusiveAt
+exclusive-code k h a b c =
+    eqb-true _ _ (simp (le-ltb k 0b010 a, ne-eqb k 0b100 b, ne-eqb k 0b110 c, or-false) at (tested 8 exclusiveTest refl k h))
+
+storeExclusiveTest : ℕ → Bool
+storeExclusiveTest k = eqb (storeExclusiveCode (storeExclusiveAt k)) k
+
+pub store-exclusive-code : (k : ℕ) → k < 2 → storeExclusiveCode (storeExclusiveAt k) ≡ k
+unfolding storeExclusiveTest storeExclusiveAt
+store-exclusive-code k h = eqb-true _ _ (tested 2 storeExclusiveTest refl k h)
+
+scaleTest : ℕ → Bool
+scaleTest k = eqb (accessScale (sizeAt k)) k
+
+pub scale-code : (k : ℕ) → k < 4 → accessScale (sizeAt k) ≡ k
+unfolding scaleTest sizeAt
+scale-code k h = eqb-true _ _ (tested 4 scaleTest refl k h)

@@ -1,16 +1,17 @@
 -- The rows of the table: a word matches at most one, its columns say what the word is, and keys tell which row. Assumes nothing.
 use Prim.Native.Nat.{ℕ, _+_, _*_, _<_}
 use mathlib.Core.Path.{_≡_, refl, sym, ap, _∙_}
-use mathlib.Core.Bool.{Bool, true, false, _||_}
+use mathlib.Core.Bool.{Bool, true, false, _||_, not}
 use mathlib.Core.List.{List, [], _∷_}
 use native.Mathlib.Omega.{arith}
 use lib.Dec.{eqb}
+use borrow.Author.Tests.{eqb-true, not-false}
 use Rattle.bits.specs.Choice.{any}
 use Rattle.bits.specs.Fields.{part, field}
 use Rattle.bits.proofs.Choices.{pick-by, neither}
 use Rattle.bits.proofs.Parts.{part-lt, cut, Has, has-true}
 use Rattle.instruction.specs.Types.{Row}
-use Rattle.instruction.specs.Undefined.{sizeOpc, undefinedSize, undefinedPrefetch, undefinedOption}
+use Rattle.instruction.specs.Undefined.{sizeOpc, undefinedSize, undefinedPrefetch, undefinedOption, undefinedSecond, undefinedUnused}
 use Rattle.instruction.specs.Table.{columnsOf, rows, matches, inSet, firstRow, rowOf, undefined, unpredictable, instructionOf}
 
 -- ---- the row of a word
@@ -34,6 +35,9 @@ row-is w Row.PostRow h = simp (h .0, h .1 .0, h .1 .1 .0, h .1 .1 .1 .0, h .1 .1
 row-is w Row.PreRow h = simp (h .0, h .1 .0, h .1 .1 .0, h .1 .1 .1 .0, h .1 .1 .1 .1 .0)
 row-is w Row.RegisterRow h = simp (h .0, h .1 .0, h .1 .1 .0, h .1 .1 .1 .0, h .1 .1 .1 .1 .0)
 row-is w Row.UnsignedRow h = simp (h .0, h .1 .0, h .1 .1 .0)
+row-is w Row.LoadExclusiveRow h = simp (h .0, h .1 .0, h .1 .1 .0, h .1 .1 .1 .0, h .1 .1 .1 .1 .0, h .1 .1 .1 .1 .1 .0)
+row-is w Row.StoreExclusiveRow h = simp (h .0, h .1 .0, h .1 .1 .0, h .1 .1 .1 .0, h .1 .1 .1 .1 .0, h .1 .1 .1 .1 .1 .0)
+row-is w Row.AcquireReleaseRow h = simp (h .0, h .1 .0, h .1 .1 .0, h .1 .1 .1 .0, h .1 .1 .1 .1 .0, h .1 .1 .1 .1 .1 .0)
 
 -- the rows never overlap
 pub never-overlap : (w : ℕ) (a b : Row) → matches w a ≡ true → matches w b ≡ true → a ≡ b
@@ -97,7 +101,18 @@ pub option-no : (w : ℕ) → undefinedOption w ≡ false → (undefinedSize w �
 unfolding undefinedOption
 option-no w u = neither (undefinedSize w) (eqb (field 14 14 w) 0) u
 
--- ---- the keys of a row: bits 29..25, bit 24, and bits 21 and 11..10 as one number
+-- the unused register fields of the ninth family are all ones
+pub second-no : (w : ℕ) → undefinedSecond w ≡ false → field 14 10 w ≡ 31
+unfolding undefinedSecond
+second-no w u = eqb-true _ _ (not-false _ u)
+
+pub unused-no : (w : ℕ) → undefinedUnused w ≡ false → (field 14 10 w ≡ 31) × (field 20 16 w ≡ 31)
+unfolding undefinedUnused
+unused-no w u =
+    let n = neither (undefinedSecond w) (not (eqb (field 20 16 w) 31)) u in
+    (second-no w (n .0), eqb-true _ _ (not-false _ (n .1)))
+
+-- ---- the keys of a row: bits 29..25, bit 24, and bits 21 and 11..10 as one number; for the ninth family bits 23, 22, 21 and 15
 
 abbrev pub form : ℕ → ℕ
 form w = field 21 21 w * 4 + field 11 10 w
@@ -112,6 +127,12 @@ Keys w Row.PostRow = (field 29 25 w ≡ 0b11100) × (field 24 24 w ≡ 0) × (fo
 Keys w Row.PreRow = (field 29 25 w ≡ 0b11100) × (field 24 24 w ≡ 0) × (form w ≡ 0b011)
 Keys w Row.RegisterRow = (field 29 25 w ≡ 0b11100) × (field 24 24 w ≡ 0) × (form w ≡ 0b110)
 Keys w Row.UnsignedRow = (field 29 25 w ≡ 0b11100) × (field 24 24 w ≡ 1)
+Keys w Row.LoadExclusiveRow =
+    (field 29 25 w ≡ 0b00100) × (field 24 24 w ≡ 0) × (field 21 21 w ≡ 0) × (field 23 23 w ≡ 0) × (field 22 22 w ≡ 1)
+Keys w Row.StoreExclusiveRow =
+    (field 29 25 w ≡ 0b00100) × (field 24 24 w ≡ 0) × (field 21 21 w ≡ 0) × (field 23 23 w ≡ 0) × (field 22 22 w ≡ 0)
+Keys w Row.AcquireReleaseRow =
+    (field 29 25 w ≡ 0b00100) × (field 24 24 w ≡ 0) × (field 21 21 w ≡ 0) × (field 23 23 w ≡ 1) × (field 15 15 w ≡ 1)
 
 module _ (w : ℕ) where
   -- how the keys and the columns of the table cut the same bits
@@ -146,6 +167,9 @@ module _ (w : ℕ) where
   keys-of Row.PreRow h = omega (arith, cuts)
   keys-of Row.RegisterRow h = omega (arith, cuts)
   keys-of Row.UnsignedRow h = omega (arith, cuts)
+  keys-of Row.LoadExclusiveRow h = omega (arith, cuts)
+  keys-of Row.StoreExclusiveRow h = omega (arith, cuts)
+  keys-of Row.AcquireReleaseRow h = omega (arith, cuts)
 
   has-of : (r : Row) → Keys w r → Has w (columnsOf r .fixed)
   has-of Row.NoRow k = absurd k
@@ -157,6 +181,9 @@ module _ (w : ℕ) where
   has-of Row.PreRow k = omega (arith, cuts)
   has-of Row.RegisterRow k = omega (arith, cuts)
   has-of Row.UnsignedRow k = omega (arith, cuts)
+  has-of Row.LoadExclusiveRow k = omega (arith, cuts)
+  has-of Row.StoreExclusiveRow k = omega (arith, cuts)
+  has-of Row.AcquireReleaseRow k = omega (arith, cuts)
 
   pub keyed : (r : Row) → Keys w r → rowOf w ≡ r
   keyed r k = row-is w r (has-of r k)

@@ -1,11 +1,11 @@
--- The operation and the operands of a word: 01, "What a word says" and the column "Fields" of its table.
+-- The operation and the operands of a word: 01, "What a word says" and the column "Fields" of its table; 02, CR 3.
 use Prim.Native.Nat.{ℕ, _+_, _*_}
 use lib.IntN.{pos}
 use Rattle.bits.specs.Fields.{field}
 use Rattle.bits.specs.Signed.{signedOf}
-use Rattle.instruction.specs.Types.{LiteralOperands, PairOperands, OffsetOperands, IndexOperands, SizedOp, PairOp}
+use Rattle.instruction.specs.Types.{LiteralOperands, PairOperands, OffsetOperands, IndexOperands, ExclusiveOperands, StoreExclusiveOperands, SizedOp, PairOp, ExclusiveOp, StoreExclusiveOp}
 use Rattle.instruction.specs.Undefined.{sizeOpc}
-use Rattle.instruction.specs.Operations.{sizedAt, pairAt, modeAt, sizedBytes, pairBytes}
+use Rattle.instruction.specs.Operations.{sizedAt, pairAt, modeAt, exclusiveAt, storeExclusiveAt, sizeAt, sizedBytes, pairBytes}
 
 -- Rt is bits 4..0 and Rn bits 9..5
 unfoldable pub sizedIn : ℕ → SizedOp
@@ -48,3 +48,20 @@ indexIn w =
 -- imm12 without sign, times 2 ^ size
 unfoldable pub unsignedIn : SizedOp → ℕ → OffsetOperands
 unsignedIn op w = record { target = field 4 0 w; base = field 9 5 w; offset = pos (field 21 10 w * sizedBytes op) }
+
+-- bit 23, L and bit 15
+abbrev pub exclusiveBits : ℕ → ℕ
+exclusiveBits w = field 23 23 w * 4 + field 22 22 w * 2 + field 15 15 w
+
+unfoldable pub exclusiveOpIn : ℕ → ExclusiveOp
+exclusiveOpIn w = exclusiveAt (exclusiveBits w)
+
+unfoldable pub storeExclusiveOpIn : ℕ → StoreExclusiveOp
+storeExclusiveOpIn w = storeExclusiveAt (exclusiveBits w)
+
+unfoldable pub exclusiveIn : ℕ → ExclusiveOperands
+exclusiveIn w = record { size = sizeAt (field 31 30 w); target = field 4 0 w; base = field 9 5 w }
+
+-- Rs is the status
+unfoldable pub storeExclusiveIn : ℕ → StoreExclusiveOperands
+storeExclusiveIn w = record { size = sizeAt (field 31 30 w); status = field 20 16 w; target = field 4 0 w; base = field 9 5 w }

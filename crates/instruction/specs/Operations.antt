@@ -1,9 +1,9 @@
--- The operations of the families, by their codes: 01, "What a word says".
+-- The operations of the families, by their codes: 01, "What a word says", and 02, CR 3.
 use Prim.Native.Nat.{ℕ, _/_, _%_, _^_}
 use mathlib.Core.List.{List, [], _∷_}
 use lib.Dec.{eqb}
 use Rattle.bits.specs.Choice.{pick, lookup, byCode}
-use Rattle.instruction.specs.Types.{SizedOp, LiteralOp, PairOp, PairMode}
+use Rattle.instruction.specs.Types.{SizedOp, LiteralOp, PairOp, PairMode, AccessSize, ExclusiveOp, StoreExclusiveOp}
 
 -- size and opc of an operation side by side, as one number of four bits
 abbrev pub sizedCode : SizedOp → ℕ
@@ -96,3 +96,46 @@ modes = PairMode.NoAllocate ∷ PairMode.Post ∷ PairMode.Offset ∷ []
 
 unfoldable pub modeAt : ℕ → PairMode
 modeAt mode = lookup PairMode.Pre (byCode modeCode modes) mode
+
+-- bit 23, L and bit 15 side by side: ldxr, ldaxr, stlr and ldar
+abbrev pub exclusiveCode : ExclusiveOp → ℕ
+exclusiveCode ExclusiveOp.LoadExclusive = 0b0_1_0
+exclusiveCode ExclusiveOp.LoadAcquireExclusive = 0b0_1_1
+exclusiveCode ExclusiveOp.StoreRelease = 0b1_0_1
+exclusiveCode ExclusiveOp.LoadAcquire = 0b1_1_1
+
+abbrev pub exclusiveLoad : ExclusiveOp → ℕ
+exclusiveLoad op = exclusiveCode op / 2 % 2
+
+abbrev pub exclusiveOps : List ExclusiveOp
+exclusiveOps = ExclusiveOp.LoadExclusive ∷ ExclusiveOp.LoadAcquireExclusive ∷ ExclusiveOp.StoreRelease ∷ []
+
+unfoldable pub exclusiveAt : ℕ → ExclusiveOp
+exclusiveAt code = lookup ExclusiveOp.LoadAcquire (byCode exclusiveCode exclusiveOps) code
+
+-- the same bits of stxr and stlxr
+abbrev pub storeExclusiveCode : StoreExclusiveOp → ℕ
+storeExclusiveCode StoreExclusiveOp.StorePlainExclusive = 0b0_0_0
+storeExclusiveCode StoreExclusiveOp.StoreReleaseExclusive = 0b0_0_1
+
+abbrev pub storeExclusiveOps : List StoreExclusiveOp
+storeExclusiveOps = StoreExclusiveOp.StorePlainExclusive ∷ []
+
+unfoldable pub storeExclusiveAt : ℕ → StoreExclusiveOp
+storeExclusiveAt code = lookup StoreExclusiveOp.StoreReleaseExclusive (byCode storeExclusiveCode storeExclusiveOps) code
+
+-- the size field of an access that has its size apart from its operation: 2 ^ scale bytes
+abbrev pub accessScale : AccessSize → ℕ
+accessScale AccessSize.Byte = 0b00
+accessScale AccessSize.Half = 0b01
+accessScale AccessSize.Word = 0b10
+accessScale AccessSize.Double = 0b11
+
+abbrev pub accessBytes : AccessSize → ℕ
+accessBytes size = 2 ^ accessScale size
+
+abbrev pub accessSizes : List AccessSize
+accessSizes = AccessSize.Byte ∷ AccessSize.Half ∷ AccessSize.Word ∷ []
+
+unfoldable pub sizeAt : ℕ → AccessSize
+sizeAt scale = lookup AccessSize.Double (byCode accessScale accessSizes) scale

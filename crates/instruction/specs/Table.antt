@@ -1,5 +1,5 @@
--- The table of 01, "The instructions we take", a row for each of its lines, with what else 01 says of the row's words; and
--- what that says of a word: whether it is of the set, undefined, allocated, unpredictable, and its instruction.
+-- The table of 01, "The instructions we take", a row for each of its lines and three for the ninth family of 02, CR 3, with what
+-- else they say of the row's words; and what that says of a word: whether it is of the set, undefined, allocated, unpredictable, and its instruction.
 use Prim.Native.Nat.{ℕ}
 use mathlib.Core.Bool.{Bool, false, _&&_, not}
 use mathlib.Core.List.{List, [], _∷_}
@@ -7,9 +7,9 @@ use Rattle.bits.specs.Choice.{pick, any}
 use Rattle.bits.specs.Fields.{Bits, bits, field, has}
 use Rattle.instruction.specs.Types.{Row, Family, Instruction}
 use Rattle.instruction.specs.Operations.{literalAt}
-use Rattle.instruction.specs.Operands.{sizedIn, literalIn, pairOpIn, pairIn, signedIn, indexIn, unsignedIn}
-use Rattle.instruction.specs.Undefined.{undefinedSize, undefinedPrefetch, undefinedOption, undefinedPair}
-use Rattle.instruction.specs.Unpredictable.{unpredictableBase, unpredictablePair}
+use Rattle.instruction.specs.Operands.{sizedIn, literalIn, pairOpIn, pairIn, signedIn, indexIn, unsignedIn, exclusiveOpIn, storeExclusiveOpIn, exclusiveIn, storeExclusiveIn}
+use Rattle.instruction.specs.Undefined.{undefinedSize, undefinedPrefetch, undefinedOption, undefinedPair, undefinedSecond, undefinedUnused}
+use Rattle.instruction.specs.Unpredictable.{unpredictableBase, unpredictablePair, unpredictableStatus}
 
 -- the bits that a word of the row has, when it is undefined and when unpredictable, and the family that it stands for
 pub record Columns : Type 0 where
@@ -50,10 +50,20 @@ columnsOf Row.RegisterRow =
     undefinedOption never (λ w. Family.Register (sizedIn w) (indexIn w))
 columnsOf Row.UnsignedRow =
     columns (bits 29 27 0b111 ∷ bits 25 24 0b01 ∷ []) undefinedSize never (λ w. Family.Unsigned (sizedIn w) (unsignedIn (sizedIn w) w))
+columnsOf Row.LoadExclusiveRow =
+    columns (bits 29 27 0b001 ∷ bits 25 24 0b00 ∷ bits 23 23 0 ∷ bits 22 22 1 ∷ bits 21 21 0 ∷ [])
+    undefinedUnused never (λ w. Family.Exclusive (exclusiveOpIn w) (exclusiveIn w))
+columnsOf Row.StoreExclusiveRow =
+    columns (bits 29 27 0b001 ∷ bits 25 24 0b00 ∷ bits 23 23 0 ∷ bits 22 22 0 ∷ bits 21 21 0 ∷ [])
+    undefinedSecond unpredictableStatus (λ w. Family.StoreExclusive (storeExclusiveOpIn w) (storeExclusiveIn w))
+columnsOf Row.AcquireReleaseRow =
+    columns (bits 29 27 0b001 ∷ bits 25 24 0b00 ∷ bits 23 23 1 ∷ bits 21 21 0 ∷ bits 15 15 1 ∷ [])
+    undefinedUnused never (λ w. Family.Exclusive (exclusiveOpIn w) (exclusiveIn w))
 
 abbrev pub rows : List Row
 rows =
-    Row.LiteralRow ∷ Row.PairRow ∷ Row.OrderedRow ∷ Row.UnscaledRow ∷ Row.PostRow ∷ Row.PreRow ∷ Row.RegisterRow ∷ Row.UnsignedRow ∷ []
+    Row.LiteralRow ∷ Row.PairRow ∷ Row.OrderedRow ∷ Row.UnscaledRow ∷ Row.PostRow ∷ Row.PreRow ∷ Row.RegisterRow ∷ Row.UnsignedRow
+    ∷ Row.LoadExclusiveRow ∷ Row.StoreExclusiveRow ∷ Row.AcquireReleaseRow ∷ []
 
 abbrev pub matches : ℕ → Row → Bool
 matches w r = has w (columnsOf r .fixed)

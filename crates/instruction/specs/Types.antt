@@ -7,9 +7,14 @@ pub use Rattle.instruction.specs.declared.operation.SizedOp.{SizedOp}
 pub use Rattle.instruction.specs.declared.operation.LiteralOp.{LiteralOp}
 pub use Rattle.instruction.specs.declared.operation.PairOp.{PairOp}
 pub use Rattle.instruction.specs.declared.operation.PairMode.{PairMode}
+pub use Rattle.instruction.specs.declared.exclusive.AccessSize.{AccessSize}
+pub use Rattle.instruction.specs.declared.exclusive.ExclusiveOp.{ExclusiveOp}
+pub use Rattle.instruction.specs.declared.exclusive.StoreExclusiveOp.{StoreExclusiveOp}
 pub use Rattle.instruction.specs.declared.family.Instruction.{Instruction}
 pub use Rattle.instruction.specs.declared.family.Family.{Family}
 pub use Rattle.instruction.specs.declared.family.LiteralOperands.{LiteralOperands}
 pub use Rattle.instruction.specs.declared.family.PairOperands.{PairOperands}
 pub use Rattle.instruction.specs.declared.family.OffsetOperands.{OffsetOperands}
 pub use Rattle.instruction.specs.declared.family.IndexOperands.{IndexOperands}
+pub use Rattle.instruction.specs.declared.family.ExclusiveOperands.{ExclusiveOperands}
+pub use Rattle.instruction.specs.declared.family.StoreExclusiveOperands.{StoreExclusiveOperands}

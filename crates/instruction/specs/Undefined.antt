@@ -1,4 +1,5 @@
--- When a word of a row is undefined: 01, "Undefined words of the set", in its order. Which of these is a row's stands in the table.
+-- When a word of a row is undefined: 01, "Undefined words of the set", in its order, and 02, CR 3. Which of these is a row's stands
+-- in the table.
 use Prim.Native.Nat.{ℕ, _+_, _*_}
 use mathlib.Core.Bool.{Bool, _&&_, _||_, not}
 use lib.Dec.{eqb}
@@ -25,3 +26,11 @@ unfoldable pub undefinedPair : ℕ → Bool
 undefinedPair w =
     eqb (field 31 30 w) 0b11
     || (eqb (field 31 30 w) 0b01 && not (eqb (field 22 22 w) 1 && not (eqb (field 24 23 w) 0b00)))
+
+-- "unused register fields not all ones": Rt2
+unfoldable pub undefinedSecond : ℕ → Bool
+undefinedSecond w = not (eqb (field 14 10 w) 31)
+
+-- or Rs, which only a store-exclusive uses
+unfoldable pub undefinedUnused : ℕ → Bool
+undefinedUnused w = undefinedSecond w || not (eqb (field 20 16 w) 31)

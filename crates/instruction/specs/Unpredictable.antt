@@ -1,4 +1,4 @@
--- When a word of a row gives answer 4: 01, "Answer numbers". Which of these is a row's stands in the table.
+-- When a word of a row gives answer 4: 01, "Answer numbers", and 02, CR 3. Which of these is a row's stands in the table.
 use Prim.Native.Nat.{ℕ}
 use mathlib.Core.Bool.{Bool, _&&_, _||_, not}
 use lib.Dec.{eqb}
@@ -17,3 +17,7 @@ unfoldable pub unpredictablePair : ℕ → Bool
 unpredictablePair w =
     (eqb (field 23 23 w) 1 && (baseIs (field 4 0 w) w || baseIs (field 14 10 w) w))
     || (eqb (field 22 22 w) 1 && eqb (field 4 0 w) (field 14 10 w))
+
+-- "status register equal to the data register, or to a base other than 31": Rs and Rt, Rs and Rn
+unfoldable pub unpredictableStatus : ℕ → Bool
+unpredictableStatus w = eqb (field 20 16 w) (field 4 0 w) || baseIs (field 20 16 w) w

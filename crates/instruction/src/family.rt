@@ -1,5 +1,8 @@
-// An instruction: 01's record. It holds one of the eight families, and the family its own operands.
+// An instruction: 01's record. It holds one of the nine families, and the family its own operands.
 // Registers are numbers from 0; 31 is SP as a base and the zero register elsewhere. Offsets are in bytes.
+use crate::exclusive::AccessSize;
+use crate::exclusive::ExclusiveOp;
+use crate::exclusive::StoreExclusiveOp;
 use crate::operation::LiteralOp;
 use crate::operation::PairMode;
 use crate::operation::PairOp;
@@ -20,6 +23,9 @@ pub enum Family {
     PreIndex(SizedOp, OffsetOperands),
     Register(SizedOp, IndexOperands),
     Unsigned(SizedOp, OffsetOperands),
+    // 02's ninth family in two cases: only a store-exclusive has a status register.
+    Exclusive(ExclusiveOp, ExclusiveOperands),
+    StoreExclusive(StoreExclusiveOp, StoreExclusiveOperands),
 }
 
 // The target of a prefetch is its hint.
@@ -49,4 +55,17 @@ pub struct IndexOperands {
     pub index: u32,
     pub option: u32,
     pub scaled: u32,
+}
+
+pub struct ExclusiveOperands {
+    pub size: AccessSize,
+    pub target: u32,
+    pub base: u32,
+}
+
+pub struct StoreExclusiveOperands {
+    pub size: AccessSize,
+    pub status: u32,
+    pub target: u32,
+    pub base: u32,
 }

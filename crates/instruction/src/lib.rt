@@ -1,6 +1,7 @@
 // What an instruction is: the types, all by value. What words and instructions say of each other is
 // defined in specs/.
 mod answer;
+mod exclusive;
 mod family;
 mod operation;
 mod row;
@@ -9,12 +10,24 @@ pub use answer::Answer;
 pub use answer::Decoded;
 pub use answer::Encoded;
 pub use answer::answer_number;
+pub use exclusive::AccessSize;
+pub use exclusive::ExclusiveOp;
+pub use exclusive::StoreExclusiveOp;
+pub use exclusive::access_bytes;
+pub use exclusive::access_scale;
+pub use exclusive::exclusive_at;
+pub use exclusive::exclusive_code;
+pub use exclusive::size_at;
+pub use exclusive::store_exclusive_at;
+pub use exclusive::store_exclusive_code;
+pub use family::ExclusiveOperands;
 pub use family::Family;
 pub use family::IndexOperands;
 pub use family::Instruction;
 pub use family::LiteralOperands;
 pub use family::OffsetOperands;
 pub use family::PairOperands;
+pub use family::StoreExclusiveOperands;
 pub use operation::LiteralOp;
 pub use operation::PairMode;
 pub use operation::PairOp;

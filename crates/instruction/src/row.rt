@@ -1,4 +1,4 @@
-// The rows of 01's table of instructions, which it calls lines: which words are of the set.
+// The rows of 01's table of instructions, which it calls lines, and of 02's: which words are of the set.
 
 pub enum Row {
     NoRow,
@@ -10,4 +10,7 @@ pub enum Row {
     PreRow,
     RegisterRow,
     UnsignedRow,
+    LoadExclusiveRow,
+    StoreExclusiveRow,
+    AcquireReleaseRow,
 }

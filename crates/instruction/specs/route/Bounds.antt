@@ -1,7 +1,7 @@
 -- How large the numbers of an instruction are that a word stands for: registers, and the offset of each family.
 use Prim.Native.Nat.{ℕ, _≤_, _<_}
 use lib.IntN.{natAbs}
-use Rattle.instruction.specs.Types.{Family, LiteralOperands, PairOperands, OffsetOperands, IndexOperands}
+use Rattle.instruction.specs.Types.{Family, LiteralOperands, PairOperands, OffsetOperands, IndexOperands, ExclusiveOperands, StoreExclusiveOperands}
 
 -- imm19, times 4
 pub record LiteralBounds (o : LiteralOperands) : Type 0 where
@@ -27,6 +27,15 @@ pub record IndexBounds (o : IndexOperands) : Type 0 where
   pub index : o .index < 32
   pub scaled : o .scaled < 2
 
+pub record ExclusiveBounds (o : ExclusiveOperands) : Type 0 where
+  pub target : o .target < 32
+  pub base : o .base < 32
+
+pub record StoreExclusiveBounds (o : StoreExclusiveOperands) : Type 0 where
+  pub status : o .status < 32
+  pub target : o .target < 32
+  pub base : o .base < 32
+
 abbrev pub Bounded : Family → Type 0
 Bounded Family.Empty = Unit {0}
 Bounded (Family.Literal op o) = LiteralBounds o
@@ -37,3 +46,5 @@ Bounded (Family.PostIndex op o) = OffsetBounds 256 o
 Bounded (Family.PreIndex op o) = OffsetBounds 256 o
 Bounded (Family.Register op o) = IndexBounds o
 Bounded (Family.Unsigned op o) = OffsetBounds 32760 o
+Bounded (Family.Exclusive op o) = ExclusiveBounds o
+Bounded (Family.StoreExclusive op o) = StoreExclusiveBounds o
