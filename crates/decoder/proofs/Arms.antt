@@ -11,13 +11,14 @@ use Rattle.instruction.specs.declared.answer.Answer.{Answer}
 use Rattle.instruction.specs.declared.answer.Decoded.{Decoded}
 use Rattle.instruction.specs.declared.row.Row.{Row}
 use Rattle.instruction.specs.declared.family.Family.{Family}
+use Rattle.instruction.specs.declared.exclusive.AccessSize.{AccessSize}
 use Rattle.instruction.specs.declared.operation.PairMode.{PairMode}
 use Rattle.instruction.specs.declared.operation.PairOp.{PairOp}
 use Rattle.instruction.specs.declared.operation.SizedOp.{SizedOp}
 use Rattle.instruction.specs.Answers.{answerNumber}
-use Rattle.instruction.specs.Operands.{literalIn, pairIn, signedIn, unsignedIn}
+use Rattle.instruction.specs.Operands.{literalIn, pairIn, signedIn, unsignedIn, exclusiveIn, storeExclusiveIn}
 use Rattle.instruction.specs.Table.{columnsOf, matches, inSet, rowOf, undefined, allocated, unpredictable}
-use Rattle.instruction.specs.Operations.{modeAt, pairBytes, sizedBytes}
+use Rattle.instruction.specs.Operations.{modeAt, pairBytes, sizedBytes, sizeAt}
 use Rattle.decoder.specs.Decoding.{decodeOf, decodedFrom, classOf, empty}
 use Rattle.instruction.proofs.Rows.{no-row, set-matches, of-set, rowed}
 
@@ -40,6 +41,15 @@ pub pair-is : (op : PairOp) (w : ℕ) {s : ℕ} {z : ℤ} {m : PairMode} → s �
     → record { first = field 4 0 w; second = field 14 10 w; base = field 9 5 w; mode = m; offset = z } ≡ pairIn op w
 unfolding pairIn
 pair-is op w q e p = cc
+
+pub exclusive-is : (w : ℕ) {s : AccessSize} → s ≡ sizeAt (field 31 30 w) → record { size = s; target = field 4 0 w; base = field 9 5 w } ≡ exclusiveIn w
+unfolding exclusiveIn
+exclusive-is w e = cc
+
+pub store-exclusive-is : (w : ℕ) {s : AccessSize} → s ≡ sizeAt (field 31 30 w)
+    → record { size = s; status = field 20 16 w; target = field 4 0 w; base = field 9 5 w } ≡ storeExclusiveIn w
+unfolding storeExclusiveIn
+store-exclusive-is w e = cc
 
 -- ---- answers
 

@@ -7,16 +7,19 @@ use Rattle.instruction.specs.declared.row.Row.{Row}
 use Rattle.instruction.proofs.Rows.{form, Keys}
 
 module _ (w : ℕ) where
-  pub no-group : ¬ (field 29 25 w ≡ 0b01100) → ¬ (field 29 25 w ≡ 0b10100) → ¬ (field 29 25 w ≡ 0b11100) → (l : Row) → Keys w l → ⊥
-  no-group a b d Row.NoRow k = k
-  no-group a b d Row.LiteralRow k = a (k .0)
-  no-group a b d Row.PairRow k = b k
-  no-group a b d Row.OrderedRow k = a (k .0)
-  no-group a b d Row.UnscaledRow k = d (k .0)
-  no-group a b d Row.PostRow k = d (k .0)
-  no-group a b d Row.PreRow k = d (k .0)
-  no-group a b d Row.RegisterRow k = d (k .0)
-  no-group a b d Row.UnsignedRow k = d (k .0)
+  pub no-group : ¬ (field 29 25 w ≡ 0b00100) → ¬ (field 29 25 w ≡ 0b01100) → ¬ (field 29 25 w ≡ 0b10100) → ¬ (field 29 25 w ≡ 0b11100) → (l : Row) → Keys w l → ⊥
+  no-group e a b d Row.NoRow k = k
+  no-group e a b d Row.LiteralRow k = a (k .0)
+  no-group e a b d Row.PairRow k = b k
+  no-group e a b d Row.OrderedRow k = a (k .0)
+  no-group e a b d Row.UnscaledRow k = d (k .0)
+  no-group e a b d Row.PostRow k = d (k .0)
+  no-group e a b d Row.PreRow k = d (k .0)
+  no-group e a b d Row.RegisterRow k = d (k .0)
+  no-group e a b d Row.UnsignedRow k = d (k .0)
+  no-group e a b d Row.LoadExclusiveRow k = e (k .0)
+  no-group e a b d Row.StoreExclusiveRow k = e (k .0)
+  no-group e a b d Row.AcquireReleaseRow k = e (k .0)
 
   pub no-ordered : field 29 25 w ≡ 0b01100 → ¬ (field 24 24 w ≡ 0) → ¬ (form w ≡ 0b000) → (l : Row) → Keys w l → ⊥
   no-ordered g b f Row.NoRow k = k
@@ -28,6 +31,9 @@ module _ (w : ℕ) where
   no-ordered g b f Row.PreRow k = omega arith
   no-ordered g b f Row.RegisterRow k = omega arith
   no-ordered g b f Row.UnsignedRow k = omega arith
+  no-ordered g b f Row.LoadExclusiveRow k = omega arith
+  no-ordered g b f Row.StoreExclusiveRow k = omega arith
+  no-ordered g b f Row.AcquireReleaseRow k = omega arith
 
   pub no-sized : field 29 25 w ≡ 0b11100 → ¬ (field 24 24 w ≡ 1) → ¬ (form w ≡ 0b000) → ¬ (form w ≡ 0b001) → ¬ (form w ≡ 0b011)
       → ¬ (form w ≡ 0b110) → (l : Row) → Keys w l → ⊥
@@ -40,3 +46,23 @@ module _ (w : ℕ) where
   no-sized g b f0 f1 f3 f6 Row.PreRow k = f3 (k .2)
   no-sized g b f0 f1 f3 f6 Row.RegisterRow k = f6 (k .2)
   no-sized g b f0 f1 f3 f6 Row.UnsignedRow k = b (k .1)
+  no-sized g b f0 f1 f3 f6 Row.LoadExclusiveRow k = omega arith
+  no-sized g b f0 f1 f3 f6 Row.StoreExclusiveRow k = omega arith
+  no-sized g b f0 f1 f3 f6 Row.AcquireReleaseRow k = omega arith
+
+  pub no-exclusive : field 29 25 w ≡ 0b00100
+      → (field 24 24 w ≡ 0 → field 21 21 w ≡ 0 → field 23 23 w ≡ 0 → ⊥)
+      → (field 24 24 w ≡ 0 → field 21 21 w ≡ 0 → field 23 23 w ≡ 1 → field 15 15 w ≡ 1 → ⊥)
+      → (l : Row) → Keys w l → ⊥
+  no-exclusive g x a Row.NoRow k = k
+  no-exclusive g x a Row.LiteralRow k = omega arith
+  no-exclusive g x a Row.PairRow k = omega arith
+  no-exclusive g x a Row.OrderedRow k = omega arith
+  no-exclusive g x a Row.UnscaledRow k = omega arith
+  no-exclusive g x a Row.PostRow k = omega arith
+  no-exclusive g x a Row.PreRow k = omega arith
+  no-exclusive g x a Row.RegisterRow k = omega arith
+  no-exclusive g x a Row.UnsignedRow k = omega arith
+  no-exclusive g x a Row.LoadExclusiveRow k = x (k .1) (k .2) (k .3)
+  no-exclusive g x a Row.StoreExclusiveRow k = x (k .1) (k .2) (k .3)
+  no-exclusive g x a Row.AcquireReleaseRow k = a (k .1) (k .2) (k .3) (k .4)

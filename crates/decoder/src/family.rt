@@ -1,5 +1,7 @@
 // The fields of a word, as operations and operands. A family is made of its operation, wherever that was read, and of the
 // operands in the rest of the word.
+use instruction::ExclusiveOp;
+use instruction::ExclusiveOperands;
 use instruction::Family;
 use instruction::IndexOperands;
 use instruction::LiteralOp;
@@ -8,10 +10,12 @@ use instruction::OffsetOperands;
 use instruction::PairOp;
 use instruction::PairOperands;
 use instruction::SizedOp;
+use instruction::StoreExclusiveOp;
+use instruction::StoreExclusiveOperands;
 ghost use mathlib.Core.Path.{_≡_};
 ghost use Prim.Native.Nat.{_*_, _<_, _≤_};
 ghost use Rattle.bits.specs.Signed.{signedOf};
-ghost use Rattle.instruction.specs.Operands.{sizedIn, literalIn, pairOpIn, pairIn, signedIn, indexIn, unsignedIn};
+ghost use Rattle.instruction.specs.Operands.{sizedIn, literalIn, pairOpIn, pairIn, signedIn, indexIn, unsignedIn, exclusiveOpIn, storeExclusiveOpIn, exclusiveIn, storeExclusiveIn};
 
 pub fn literal(op: LiteralOp, word: u32) -> Family
     ensures { λ r. ⌜ r ≡ Family.Literal op (literalIn word) ⌝ }
@@ -61,6 +65,18 @@ pub fn unsigned(op: SizedOp, word: u32) -> Family
     Family::Unsigned(op, unsigned_operands(op, word))
 }
 
+pub fn exclusive(op: ExclusiveOp, word: u32) -> Family
+    ensures { λ r. ⌜ r ≡ Family.Exclusive op (exclusiveIn word) ⌝ }
+{
+    Family::Exclusive(op, exclusive_operands(word))
+}
+
+pub fn store_exclusive(op: StoreExclusiveOp, word: u32) -> Family
+    ensures { λ r. ⌜ r ≡ Family.StoreExclusive op (storeExclusiveIn word) ⌝ }
+{
+    Family::StoreExclusive(op, store_exclusive_operands(word))
+}
+
 pub fn sized_op_in(word: u32) -> SizedOp
     ensures { λ r. ⌜ r ≡ sizedIn word ⌝ }
 {
@@ -71,6 +87,22 @@ pub fn pair_op_in(word: u32) -> PairOp
     ensures { λ r. ⌜ r ≡ pairOpIn word ⌝ }
 {
     instruction::pair_at(word / 0x4000_0000 % 4 * 2 + word / 0x40_0000 % 2)
+}
+
+pub fn exclusive_op_in(word: u32) -> ExclusiveOp
+    ensures { λ r. ⌜ r ≡ exclusiveOpIn word ⌝ }
+{
+    instruction::exclusive_at(
+        word / 0x80_0000 % 2 * 4 + word / 0x40_0000 % 2 * 2 + word / 0x8000 % 2,
+    )
+}
+
+pub fn store_exclusive_op_in(word: u32) -> StoreExclusiveOp
+    ensures { λ r. ⌜ r ≡ storeExclusiveOpIn word ⌝ }
+{
+    instruction::store_exclusive_at(
+        word / 0x80_0000 % 2 * 4 + word / 0x40_0000 % 2 * 2 + word / 0x8000 % 2,
+    )
 }
 
 // The number that a field in two's complement holds, times scale. Half is how many values each sign has.
@@ -141,5 +173,28 @@ fn unsigned_operands(op: SizedOp, word: u32) -> OffsetOperands
         target: word / 1 % 32,
         base: word / 32 % 32,
         offset,
+    }
+}
+
+fn exclusive_operands(word: u32) -> ExclusiveOperands
+    ensures { λ r. ⌜ r ≡ exclusiveIn word ⌝ }
+{
+    let size = instruction::size_at(word / 0x4000_0000 % 4);
+    ExclusiveOperands {
+        size,
+        target: word / 1 % 32,
+        base: word / 32 % 32,
+    }
+}
+
+fn store_exclusive_operands(word: u32) -> StoreExclusiveOperands
+    ensures { λ r. ⌜ r ≡ storeExclusiveIn word ⌝ }
+{
+    let size = instruction::size_at(word / 0x4000_0000 % 4);
+    StoreExclusiveOperands {
+        size,
+        status: word / 0x1_0000 % 32,
+        target: word / 1 % 32,
+        base: word / 32 % 32,
     }
 }

@@ -1,7 +1,7 @@
 // A word to its instruction. Every word has an answer, and nobody has to check first.
 pub mod family;
 mod row;
-mod undefined;
+pub mod undefined;
 pub mod unpredictable;
 pub mod view;
 

@@ -9,6 +9,7 @@ pub fn row_of(word: u32) -> Row
 {
     let group = word / 0x200_0000 % 32;
     match group {
+        0b00100 => exclusive(word),
         0b01100 => literal_or_ordered(word),
         0b10100 => Row::PairRow,
         0b11100 => with_size(word),
@@ -45,6 +46,28 @@ fn with_size(word: u32) -> Row
         0b001 => Row::PostRow,
         0b011 => Row::PreRow,
         0b110 => Row::RegisterRow,
+        _ => Row::NoRow,
+    }
+}
+
+fn exclusive(word: u32) -> Row
+    requires { ⌜ field 29 25 word ≡ 0b00100 ⌝ }
+    ensures { λ r. ⌜ r ≡ rowOf word ⌝ }
+{
+    let form = word / 0x80_0000 % 2 * 4 + word / 0x40_0000 % 2 * 2 + word / 0x8000 % 2;
+    if word / 0x100_0000 % 2 == 1 {
+        return Row::NoRow;
+    }
+    if word / 0x20_0000 % 2 == 1 {
+        return Row::NoRow;
+    }
+    match form {
+        0b000 => Row::StoreExclusiveRow,
+        0b001 => Row::StoreExclusiveRow,
+        0b010 => Row::LoadExclusiveRow,
+        0b011 => Row::LoadExclusiveRow,
+        0b101 => Row::AcquireReleaseRow,
+        0b111 => Row::AcquireReleaseRow,
         _ => Row::NoRow,
     }
 }

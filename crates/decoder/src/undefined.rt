@@ -1,6 +1,6 @@
 // The undefined words of each row.
 ghost use mathlib.Core.Path.{_≡_};
-ghost use Rattle.instruction.specs.Undefined.{undefinedSize, undefinedPrefetch, undefinedOption, undefinedPair};
+ghost use Rattle.instruction.specs.Undefined.{undefinedSize, undefinedPrefetch, undefinedOption, undefinedPair, undefinedSecond, undefinedUnused};
 
 pub fn in_size(word: u32) -> bool
     ensures { λ r. ⌜ r ≡ undefinedSize word ⌝ }
@@ -28,4 +28,16 @@ pub fn in_pair(word: u32) -> bool
     let loads = word / 0x40_0000 % 2 == 1;
     let allocates = word / 0x80_0000 % 4 != 0b00;
     (opc == 0b11) | ((opc == 0b01) & !(loads & allocates))
+}
+
+pub fn in_store_exclusive(word: u32) -> bool
+    ensures { λ r. ⌜ r ≡ undefinedSecond word ⌝ }
+{
+    word / 0x400 % 32 != 31
+}
+
+pub fn in_exclusive(word: u32) -> bool
+    ensures { λ r. ⌜ r ≡ undefinedUnused word ⌝ }
+{
+    in_store_exclusive(word) | (word / 0x1_0000 % 32 != 31)
 }

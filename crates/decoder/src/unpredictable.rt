@@ -1,6 +1,7 @@
-// The words of answer 4: writeback over a register of the access, and a pair load into one register twice.
+// The words of answer 4: writeback over a register of the access, a pair load into one register twice, and a status over a
+// register of the access.
 ghost use mathlib.Core.Path.{_≡_};
-ghost use Rattle.instruction.specs.Unpredictable.{baseIs, unpredictablePair};
+ghost use Rattle.instruction.specs.Unpredictable.{baseIs, unpredictablePair, unpredictableStatus};
 
 // Rn is a register of the access, and not SP.
 pub fn base_is(register: u32, word: u32) -> bool
@@ -17,4 +18,11 @@ pub fn in_pair(word: u32) -> bool
     let second = base_is(word / 0x400 % 32, word);
     let twice = word / 1 % 32 == word / 0x400 % 32;
     ((word / 0x80_0000 % 2 == 1) & (first | second)) | ((word / 0x40_0000 % 2 == 1) & twice)
+}
+
+pub fn in_store_exclusive(word: u32) -> bool
+    ensures { λ r. ⌜ r ≡ unpredictableStatus word ⌝ }
+{
+    let base = base_is(word / 0x1_0000 % 32, word);
+    (word / 0x1_0000 % 32 == word / 1 % 32) | base
 }

@@ -54,6 +54,19 @@ pub fn examine(word: u32) -> Decoded
             let family = family::unsigned(family::sized_op_in(word), word);
             viewed(undefined::in_size(word), false, family)
         }
+        Row::LoadExclusiveRow => {
+            let family = family::exclusive(family::exclusive_op_in(word), word);
+            viewed(undefined::in_exclusive(word), false, family)
+        }
+        Row::StoreExclusiveRow => {
+            let family = family::store_exclusive(family::store_exclusive_op_in(word), word);
+            let undefined = undefined::in_store_exclusive(word);
+            viewed(undefined, unpredictable::in_store_exclusive(word), family)
+        }
+        Row::AcquireReleaseRow => {
+            let family = family::exclusive(family::exclusive_op_in(word), word);
+            viewed(undefined::in_exclusive(word), false, family)
+        }
     }
 }
 

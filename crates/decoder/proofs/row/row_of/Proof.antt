@@ -13,8 +13,12 @@ row-of-spec =
     tie.close
     (tie.spec
     (λ c κs. c .match .keys1)
-    (λ c κs. c .match .keys3)
+    (λ c κs. c .match .keys2)
+    (λ c κs. c .match .keys4)
+    (λ c. c .exclusive .ensures)
     (λ c. c .literal-or-ordered .ensures)
-    (λ c. sym (keyed _ Row.PairRow (c .match .keys2)))
+    (λ c. sym (keyed _ Row.PairRow (c .match .keys3)))
     (λ c. c .with-size .ensures)
-    (λ c. sym (unkeyed _ (no-group _ (c .match .rest .0 .0 .1) (c .match .rest .0 .1) (c .match .rest .1)))))
+    (λ c.
+    let r = c .match .rest in
+    sym (unkeyed _ (no-group _ (r .0 .0 .0 .1) (r .0 .0 .1) (r .0 .1) (r .1)))))

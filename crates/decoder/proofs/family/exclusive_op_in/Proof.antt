@@ -1,0 +1,18 @@
+-- `decoder::family::exclusive_op_in` meets its contract. Assumes nothing.
+use Rattle.bits.specs.Fields.{part}
+use Rattle.instruction.specs.Operands.{exclusiveOpIn}
+use borrow.Author.Needs.{needs}
+use Rattle.decoder.proofs.family.exclusive_op_in.Statement.{statement}
+use Rattle.decoder.proofs.family.exclusive_op_in.Tie as tie
+
+pub exclusive-op-in-spec : {M : Type 1} → statement M
+unfolding exclusiveOpIn part
+exclusive-op-in-spec =
+    tie.close
+    (tie.spec
+    (λ c. search needs)
+    (λ c. search needs)
+    (λ c. search needs)
+    (λ c. search needs)
+    (λ c κs. search needs)
+    (λ c. c .exclusive-at .ensures))
