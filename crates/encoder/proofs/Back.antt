@@ -1,5 +1,5 @@
 -- From an instruction to its word and back to the instruction. Assumes nothing.
-use Prim.Native.Nat.{ℕ, _+_, _*_, _^_, _<_}
+use Prim.Native.Nat.{ℕ, _+_, _*_, _/_, _%_, _^_, _<_}
 use mathlib.Core.Path.{_≡_, refl, ap, _∙_}
 use mathlib.Core.List.{List, [], _∷_}
 use native.Mathlib.Omega.{arith}
@@ -15,15 +15,20 @@ use Rattle.instruction.specs.declared.family.LiteralOperands.{LiteralOperands}
 use Rattle.instruction.specs.declared.family.PairOperands.{PairOperands}
 use Rattle.instruction.specs.declared.family.OffsetOperands.{OffsetOperands}
 use Rattle.instruction.specs.declared.family.IndexOperands.{IndexOperands}
+use Rattle.instruction.specs.declared.family.ExclusiveOperands.{ExclusiveOperands}
+use Rattle.instruction.specs.declared.family.StoreExclusiveOperands.{StoreExclusiveOperands}
+use Rattle.instruction.specs.declared.exclusive.AccessSize.{AccessSize}
+use Rattle.instruction.specs.declared.exclusive.ExclusiveOp.{ExclusiveOp}
+use Rattle.instruction.specs.declared.exclusive.StoreExclusiveOp.{StoreExclusiveOp}
 use Rattle.instruction.specs.declared.operation.LiteralOp.{LiteralOp}
 use Rattle.instruction.specs.declared.operation.PairOp.{PairOp}
 use Rattle.instruction.specs.declared.operation.SizedOp.{SizedOp}
-use Rattle.instruction.specs.Operands.{sizedIn, literalIn, pairOpIn, pairIn, signedIn, indexIn, unsignedIn}
+use Rattle.instruction.specs.Operands.{sizedIn, literalIn, pairOpIn, pairIn, signedIn, indexIn, unsignedIn, exclusiveOpIn, storeExclusiveOpIn, exclusiveIn, storeExclusiveIn}
 use Rattle.instruction.specs.Table.{columnsOf, rowOf}
-use Rattle.instruction.specs.Operations.{sizeOf, opcOf, sizedBytes, literalOpc, pairOpc, pairLoad, pairBytes, modeCode}
-use Rattle.encoder.specs.Encoding.{fixed, wordWith, withBits, literalFields, literalWord, pairFields, pairWord, sizedFields, signedWord, indexFields, indexWord, unsignedWord, wordOf}
+use Rattle.instruction.specs.Operations.{sizeOf, opcOf, sizedBytes, literalOpc, pairOpc, pairLoad, pairBytes, modeCode, exclusiveCode, exclusiveAt, storeExclusiveCode, storeExclusiveAt, accessScale, sizeAt}
+use Rattle.encoder.specs.Encoding.{fixed, wordWith, withBits, literalFields, literalWord, pairFields, pairWord, sizedFields, signedWord, indexFields, indexWord, unsignedWord, exclusiveFields, exclusiveWord, wordOf}
 use Rattle.instruction.proofs.Rows.{row-is}
-use Rattle.instruction.proofs.Codes.{sized-at, literal-at, pair-at, mode-at}
+use Rattle.instruction.proofs.Codes.{sized-at, literal-at, pair-at, mode-at, exclusive-at, store-exclusive-at, store-exclusive-below, size-at}
 
 -- ---- what a word that was found says
 
@@ -141,6 +146,96 @@ unsigned-back op o w h =
       omega (arith, q .1, size, opc, base, target, imm12),
     )
 
+-- the ninth family: what its three rows share, over the operation and the status
+module _ (code : ℕ) (size : AccessSize) (status target base w : ℕ) where
+  record Exclusives : Type 0 where
+    group : part 27 3 w ≡ 1
+    b26 : part 26 1 w ≡ 0
+    b24 : part 24 2 w ≡ 0
+    b23 : part 23 1 w ≡ code / 4
+    b22 : part 22 1 w ≡ code / 2 % 2
+    b21 : part 21 1 w ≡ 0
+    b15 : part 15 1 w ≡ code % 2
+    size= : sizeAt (part 30 2 w) ≡ size
+    status= : part 16 5 w ≡ status
+    target= : part 0 5 w ≡ target
+    base= : part 5 5 w ≡ base
+    word : w < 2 ^ 32
+
+  exclusives : exclusiveWord code size status target base ≡ Field.Holds w → Exclusives
+  unfolding exclusiveWord
+  exclusives h =
+      let q = word-back (fixed Row.StoreExclusiveRow) (exclusiveFields code size status target base) w h in
+      let (scale, (high, (load, (rs, (low, (rt2, (rn, (rt, t)))))))) = q .0 in
+      let u = unpack
+      ((target, 5) ∷ (base, 5) ∷ (31, 5) ∷ (code % 2, 1) ∷ (status, 5) ∷ (0, 1) ∷ (code / 2 % 2, 1) ∷ (code / 4, 1) ∷ (0, 2) ∷ (0, 1) ∷ (1, 3) ∷ (accessScale size, 2) ∷ [])
+      w (omega (arith, q .1)) (rt, (rn, (rt2, (low, (rs, (omega arith, (load, (high, (omega arith, (omega arith, (omega arith, (scale, tt)))))))))))) in
+      let (target=, (base=, (rt2=, (b15, (status=, (b21, (b22, (b23, (b24, (b26, (group, (scale=, _)))))))))))) = u in
+      record {
+        group = group;
+        b26 = b26;
+        b24 = b24;
+        b23 = b23;
+        b22 = b22;
+        b21 = b21;
+        b15 = b15;
+        size= = ap sizeAt scale= ∙ size-at size;
+        status= = status=;
+        target= = target=;
+        base= = base=;
+        word = omega (arith, q .1, scale, high, load, rs, low, rt2, rn, rt);
+      }
+
+-- the row of an operation
+abbrev exclusiveRow : ExclusiveOp → Row
+exclusiveRow ExclusiveOp.LoadExclusive = Row.LoadExclusiveRow
+exclusiveRow ExclusiveOp.LoadAcquireExclusive = Row.LoadExclusiveRow
+exclusiveRow ExclusiveOp.StoreRelease = Row.AcquireReleaseRow
+exclusiveRow ExclusiveOp.LoadAcquire = Row.AcquireReleaseRow
+
+exclusive-row : (op : ExclusiveOp) (size : AccessSize) (status target base w : ℕ) → Exclusives (exclusiveCode op) size status target base w
+    → rowOf w ≡ exclusiveRow op
+exclusive-row ExclusiveOp.LoadExclusive size status target base w x =
+    row-is w Row.LoadExclusiveRow (x .b26, (x .group, (x .b24, (x .b23, (x .b22, (x .b21, tt))))))
+exclusive-row ExclusiveOp.LoadAcquireExclusive size status target base w x =
+    row-is w Row.LoadExclusiveRow (x .b26, (x .group, (x .b24, (x .b23, (x .b22, (x .b21, tt))))))
+exclusive-row ExclusiveOp.StoreRelease size status target base w x =
+    row-is w Row.AcquireReleaseRow (x .b26, (x .group, (x .b24, (x .b23, (x .b21, (x .b15, tt))))))
+exclusive-row ExclusiveOp.LoadAcquire size status target base w x =
+    row-is w Row.AcquireReleaseRow (x .b26, (x .group, (x .b24, (x .b23, (x .b21, (x .b15, tt))))))
+
+exclusive-family : (op : ExclusiveOp) (w : ℕ) → columnsOf (exclusiveRow op) .family w ≡ Family.Exclusive (exclusiveOpIn w) (exclusiveIn w)
+exclusive-family ExclusiveOp.LoadExclusive w = refl
+exclusive-family ExclusiveOp.LoadAcquireExclusive w = refl
+exclusive-family ExclusiveOp.StoreRelease w = refl
+exclusive-family ExclusiveOp.LoadAcquire w = refl
+
+-- the bits of a code make it
+code-back : {a b d : ℕ} (code : ℕ) → a ≡ code / 4 → b ≡ code / 2 % 2 → d ≡ code % 2 → a * 4 + b * 2 + d ≡ code
+code-back code p q r = omega (arith, p, q, r)
+
+exclusive-back : (op : ExclusiveOp) (o : ExclusiveOperands) (w : ℕ) → wordOf (Family.Exclusive op o) ≡ Field.Holds w
+    → Back w (exclusiveRow op) (Family.Exclusive op o)
+unfolding exclusiveOpIn exclusiveIn
+exclusive-back op o w h =
+    let x = exclusives (exclusiveCode op) (o .size) 31 (o .target) (o .base) w h in
+    let c = ap exclusiveAt (code-back (exclusiveCode op) (x .b23) (x .b22) (x .b15)) ∙ exclusive-at op in
+    (exclusive-row op (o .size) 31 (o .target) (o .base) w x, exclusive-family op w ∙ simp (c, x .size=, x .target=, x .base=), x .word)
+
+store-exclusive-row : (op : StoreExclusiveOp) (size : AccessSize) (status target base w : ℕ) → Exclusives (storeExclusiveCode op) size status target base w
+    → rowOf w ≡ Row.StoreExclusiveRow
+store-exclusive-row op size status target base w x =
+    let k = store-exclusive-below op in
+    row-is w Row.StoreExclusiveRow (x .b26, (x .group, (x .b24, (omega (arith, x .b23), (omega (arith, x .b22), (x .b21, tt))))))
+
+store-exclusive-back : (op : StoreExclusiveOp) (o : StoreExclusiveOperands) (w : ℕ) → wordOf (Family.StoreExclusive op o) ≡ Field.Holds w
+    → Back w Row.StoreExclusiveRow (Family.StoreExclusive op o)
+unfolding storeExclusiveOpIn storeExclusiveIn
+store-exclusive-back op o w h =
+    let x = exclusives (storeExclusiveCode op) (o .size) (o .status) (o .target) (o .base) w h in
+    let c = ap storeExclusiveAt (code-back (storeExclusiveCode op) (x .b23) (x .b22) (x .b15)) ∙ store-exclusive-at op in
+    (store-exclusive-row op (o .size) (o .status) (o .target) (o .base) w x, simp (c, x .size=, x .status=, x .target=, x .base=), x .word)
+
 pub back : (F : Family) (w : ℕ) → wordOf F ≡ Field.Holds w → (r : Row) × Back w r F
 back Family.Empty w h = absurd (unfit h)
 back (Family.Literal op o) w h = (Row.LiteralRow, literal-back op o w h)
@@ -155,3 +250,5 @@ back (Family.PreIndex op o) w h =
     (Row.PreRow, signed-family op o w 7 0 3 (omega arith) (omega arith) (omega arith) Row.PreRow Family.PreIndex refl h (row-is w Row.PreRow) refl)
 back (Family.Register op o) w h = (Row.RegisterRow, index-back op o w h)
 back (Family.Unsigned op o) w h = (Row.UnsignedRow, unsigned-back op o w h)
+back (Family.Exclusive op o) w h = (exclusiveRow op, exclusive-back op o w h)
+back (Family.StoreExclusive op o) w h = (Row.StoreExclusiveRow, store-exclusive-back op o w h)

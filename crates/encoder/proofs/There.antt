@@ -1,5 +1,5 @@
 -- From a word to its instruction and back to the word. Assumes nothing.
-use Prim.Native.Nat.{ℕ, _+_, _*_, _^_, _<_}
+use Prim.Native.Nat.{ℕ, _+_, _*_, _/_, _%_, _^_, _<_}
 use mathlib.Core.Path.{_≡_, refl, sym}
 use mathlib.Core.Bool.{Bool, true, false, _&&_, _||_, not}
 use mathlib.Core.List.{[], _∷_}
@@ -12,13 +12,14 @@ use Rattle.bits.proofs.Choices.{neither}
 use Rattle.bits.proofs.Parts.{part-lt, top, split, Has}
 use Rattle.bits.proofs.Offsets.{bits-back, plain-back}
 use Rattle.instruction.specs.declared.row.Row.{Row}
-use Rattle.instruction.specs.Undefined.{sizeOpc, undefinedSize, undefinedPair}
-use Rattle.instruction.specs.Operands.{sizedIn, literalIn, pairOpIn, pairIn, signedIn, indexIn, unsignedIn}
+use Rattle.instruction.specs.declared.family.Family.{Family}
+use Rattle.instruction.specs.Undefined.{sizeOpc, undefinedSize, undefinedPair, undefinedSecond, undefinedUnused}
+use Rattle.instruction.specs.Operands.{sizedIn, literalIn, pairOpIn, pairIn, signedIn, indexIn, unsignedIn, exclusiveBits, exclusiveOpIn, storeExclusiveOpIn, exclusiveIn, storeExclusiveIn}
 use Rattle.instruction.specs.Table.{columnsOf}
-use Rattle.instruction.specs.Operations.{sizeOf, opcOf, sizedAt, literalAt, pairOpc, pairLoad, pairAt}
-use Rattle.encoder.specs.Encoding.{literalWord, pairWord, signedWord, indexWord, unsignedWord, wordOf}
-use Rattle.instruction.proofs.Rows.{prefetch-no, option-no}
-use Rattle.instruction.proofs.Codes.{sized, paired, sized-code, literal-code, pair-code, mode-code}
+use Rattle.instruction.specs.Operations.{sizeOf, opcOf, sizedAt, literalAt, pairOpc, pairLoad, pairAt, sizeAt}
+use Rattle.encoder.specs.Encoding.{literalWord, pairWord, signedWord, indexWord, unsignedWord, exclusiveWord, wordOf}
+use Rattle.instruction.proofs.Rows.{prefetch-no, option-no, second-no, unused-no}
+use Rattle.instruction.proofs.Codes.{sized, paired, sized-code, literal-code, pair-code, mode-code, exclusive-code, store-exclusive-code, scale-code}
 use Rattle.encoder.proofs.Words.{word-is}
 
 -- ---- the codes of a word that is not undefined
@@ -148,6 +149,61 @@ module _ (w : ℕ) (h : w < 2 ^ 32) where
       ))
       (omega (arith, split (5 ∷ 5 ∷ 12 ∷ 2 ∷ 2 ∷ 1 ∷ 3 ∷ 2 ∷ []) w, top w 32 h))))
 
+  -- what the three rows of the ninth family share, over their operation and status
+  exclusive-there : Has w (bits 26 26 0 ∷ bits 29 27 0b001 ∷ bits 25 24 0b00 ∷ bits 21 21 0 ∷ bits 14 10 31 ∷ []) → (code status : ℕ)
+      → code ≡ exclusiveBits w → status ≡ field 20 16 w → exclusiveWord code (sizeAt (field 31 30 w)) status (field 4 0 w) (field 9 5 w) ≡ Field.Holds w
+  unfolding exclusiveWord
+  exclusive-there g code status c s =
+      let b23 = part-lt 23 1 w in
+      let b22 = part-lt 22 1 w in
+      let b15 = part-lt 15 1 w in
+      let high : code / 4 ≡ part 23 1 w = omega (arith, c) in
+      let load : code / 2 % 2 ≡ part 22 1 w = omega (arith, c) in
+      let low : code % 2 ≡ part 15 1 w = omega (arith, c) in
+      sym (word-is _ _
+      (simp (
+        scale-code (part 30 2 w) (part-lt 30 2 w),
+        high,
+        load,
+        low,
+        s,
+        lt-ltb _ _ (part-lt 30 2 w),
+        lt-ltb _ _ b23,
+        lt-ltb _ _ b22,
+        lt-ltb _ _ (part-lt 16 5 w),
+        lt-ltb _ _ b15,
+        lt-ltb _ _ (part-lt 5 5 w),
+        lt-ltb _ _ (part-lt 0 5 w),
+      ))
+      (rw (scale-code (part 30 2 w) (part-lt 30 2 w), high, load, low, s)
+      (omega (arith, split (5 ∷ 5 ∷ 5 ∷ 1 ∷ 5 ∷ 1 ∷ 1 ∷ 1 ∷ 2 ∷ 1 ∷ 3 ∷ 2 ∷ []) w, top w 32 h, g))))
+
+  load-exclusive-there : Has w (columnsOf Row.LoadExclusiveRow .fixed) → undefinedUnused w ≡ false
+      → wordOf (Family.Exclusive (exclusiveOpIn w) (exclusiveIn w)) ≡ Field.Holds w
+  unfolding exclusiveOpIn exclusiveIn
+  load-exclusive-there g u =
+      let n = unused-no w u in
+      let b15 = part-lt 15 1 w in
+      let c = exclusive-code (exclusiveBits w) (omega arith) (omega arith) (λ e. omega arith) (λ e. omega arith) in
+      exclusive-there (g .0, (g .1 .0, (g .1 .1 .0, (g .1 .1 .1 .1 .1 .0, (n .0, tt))))) _ 31 c (sym (n .1))
+
+  store-exclusive-there : Has w (columnsOf Row.StoreExclusiveRow .fixed) → undefinedSecond w ≡ false
+      → wordOf (Family.StoreExclusive (storeExclusiveOpIn w) (storeExclusiveIn w)) ≡ Field.Holds w
+  unfolding storeExclusiveOpIn storeExclusiveIn
+  store-exclusive-there g u =
+      let b15 = part-lt 15 1 w in
+      let c = store-exclusive-code (exclusiveBits w) (omega arith) in
+      exclusive-there (g .0, (g .1 .0, (g .1 .1 .0, (g .1 .1 .1 .1 .1 .0, (second-no w u, tt))))) _ (field 20 16 w) c refl
+
+  acquire-release-there : Has w (columnsOf Row.AcquireReleaseRow .fixed) → undefinedUnused w ≡ false
+      → wordOf (Family.Exclusive (exclusiveOpIn w) (exclusiveIn w)) ≡ Field.Holds w
+  unfolding exclusiveOpIn exclusiveIn
+  acquire-release-there g u =
+      let n = unused-no w u in
+      let b22 = part-lt 22 1 w in
+      let c = exclusive-code (exclusiveBits w) (omega arith) (omega arith) (λ e. omega arith) (λ e. omega arith) in
+      exclusive-there (g .0, (g .1 .0, (g .1 .1 .0, (g .1 .1 .1 .1 .0, (n .0, tt))))) _ 31 c (sym (n .1))
+
   pub there : (r : Row) → Has w (columnsOf r .fixed) → columnsOf r .undefined w ≡ false → wordOf (columnsOf r .family w) ≡ Field.Holds w
   there Row.NoRow g u = absurd (omega arith)
   there Row.LiteralRow g u = literal-there g
@@ -158,3 +214,6 @@ module _ (w : ℕ) (h : w < 2 ^ 32) where
   there Row.PreRow g u = signed-there 7 0 3 g refl (prefetch-no w u .0)
   there Row.RegisterRow g u = index-there g (option-no w u .0)
   there Row.UnsignedRow g u = unsigned-there g u
+  there Row.LoadExclusiveRow g u = load-exclusive-there g u
+  there Row.StoreExclusiveRow g u = store-exclusive-there g u
+  there Row.AcquireReleaseRow g u = acquire-release-there g u

@@ -1,5 +1,5 @@
 -- What each return of the encoder shows, over plain values. Assumes nothing.
-use Prim.Native.Nat.{ℕ, _+_}
+use Prim.Native.Nat.{ℕ, _+_, _/_, _%_, _<_}
 use mathlib.Core.Path.{_≡_, sym, ap, _∙_}
 use mathlib.Core.Bool.{Bool, true, false, _&&_, and-true, and-false}
 use mathlib.Core.List.{List}
@@ -15,10 +15,11 @@ use Rattle.instruction.specs.declared.family.Family.{Family}
 use Rattle.instruction.specs.declared.family.IndexOperands.{IndexOperands}
 use Rattle.instruction.specs.declared.family.Instruction.{Instruction}
 use Rattle.instruction.specs.declared.row.Row.{Row}
+use Rattle.instruction.specs.declared.exclusive.AccessSize.{AccessSize}
 use Rattle.instruction.specs.declared.operation.SizedOp.{SizedOp}
 use Rattle.instruction.specs.Table.{allocated}
-use Rattle.encoder.specs.Encoding.{fixed, wordWith, withBits, sizedFields, indexFields, indexWord, wordOf, encodedAs, encodeOf}
-use Rattle.instruction.proofs.Codes.{sized}
+use Rattle.encoder.specs.Encoding.{fixed, wordWith, withBits, sizedFields, indexFields, indexWord, exclusiveFields, exclusiveWord, wordOf, encodedAs, encodeOf}
+use Rattle.instruction.proofs.Codes.{sized, scale-below}
 use Rattle.encoder.specs.route.Sized.{sizedWord}
 
 -- ---- with an offset's bits or without
@@ -60,6 +61,27 @@ module _ (op : SizedOp) (o : IndexOperands) where
   pub index-not : fit (indexFields o) ≡ false → Field.Unfit ≡ indexWord op o
   unfolding indexWord
   index-not t = sized-not (fixed Row.RegisterRow) op (o .base) (o .target) (indexFields o) t
+
+-- the fields of the ninth family
+module _ (code : ℕ) (size : AccessSize) (status target base : ℕ) (k : code < 8) where
+  exclusive-fit : fit (exclusiveFields code size status target base) ≡ (ltb status 32 && (ltb base 32 && ltb target 32))
+  exclusive-fit =
+      simp (
+        lt-ltb _ _ (scale-below size),
+        lt-ltb (code / 4) 2 (omega (arith, k)),
+        lt-ltb (code / 2 % 2) 2 (omega arith),
+        lt-ltb (code % 2) 2 (omega arith),
+        and-true,
+      )
+
+  pub exclusive-is : {w : ℕ} → status < 32 → base < 32 → target < 32
+      → w ≡ fixed Row.StoreExclusiveRow + placed (exclusiveFields code size status target base) → Field.Holds w ≡ exclusiveWord code size status target base
+  unfolding exclusiveWord
+  exclusive-is s b t e = word-is _ _ (exclusive-fit ∙ simp (lt-ltb _ _ s, lt-ltb _ _ b, lt-ltb _ _ t)) e
+
+  pub exclusive-not : (ltb status 32 && (ltb base 32 && ltb target 32)) ≡ false → Field.Unfit ≡ exclusiveWord code size status target base
+  unfolding exclusiveWord
+  exclusive-not n = word-not _ _ (exclusive-fit ∙ n)
 
 -- ---- an instruction
 

@@ -1,5 +1,5 @@
--- The word of an instruction, and what encoding answers: 01, "What a word says", answer 11.
-use Prim.Native.Nat.{ℕ, _+_}
+-- The word of an instruction, and what encoding answers: 01, "What a word says", answer 11; 02, CR 3.
+use Prim.Native.Nat.{ℕ, _+_, _/_, _%_}
 use mathlib.Core.List.{List, [], _∷_}
 use Rattle.bits.specs.Choice.{pick}
 use Rattle.bits.specs.Fields.{Bits, bits, fit, placed}
@@ -8,6 +8,7 @@ use Rattle.bits.specs.declared.Field.{Field}
 use Rattle.instruction.specs.declared.answer.Answer.{Answer}
 use Rattle.instruction.specs.declared.answer.Encoded.{Encoded}
 use Rattle.instruction.specs.declared.row.Row.{Row}
+use Rattle.instruction.specs.declared.exclusive.AccessSize.{AccessSize}
 use Rattle.instruction.specs.declared.operation.LiteralOp.{LiteralOp}
 use Rattle.instruction.specs.declared.operation.PairOp.{PairOp}
 use Rattle.instruction.specs.declared.operation.SizedOp.{SizedOp}
@@ -18,7 +19,7 @@ use Rattle.instruction.specs.declared.family.PairOperands.{PairOperands}
 use Rattle.instruction.specs.declared.family.OffsetOperands.{OffsetOperands}
 use Rattle.instruction.specs.declared.family.IndexOperands.{IndexOperands}
 use Rattle.instruction.specs.Table.{columnsOf, allocated}
-use Rattle.instruction.specs.Operations.{sizeOf, opcOf, sizedBytes, literalOpc, pairOpc, pairLoad, modeCode, pairBytes}
+use Rattle.instruction.specs.Operations.{sizeOf, opcOf, sizedBytes, literalOpc, pairOpc, pairLoad, modeCode, pairBytes, exclusiveCode, storeExclusiveCode, accessScale}
 
 -- the fixed bits of a row
 abbrev pub fixed : Row → ℕ
@@ -72,6 +73,16 @@ unsignedWord op o =
     withBits (plainBitsOf 4096 (sizedBytes op) (o .offset))
     (λ b. wordWith (fixed Row.UnsignedRow) (sizedFields op (o .base) (o .target) (bits 21 10 b ∷ [])))
 
+-- the ninth family: bit 23, L and bit 15 by the operation, Rs, and Rt2, which is unused; of the bits that its rows fix, those
+-- that are the same in all stand in that of the store-exclusives
+abbrev pub exclusiveFields : ℕ → AccessSize → ℕ → ℕ → ℕ → List Bits
+exclusiveFields code size status target base =
+    bits 31 30 (accessScale size) ∷ bits 23 23 (code / 4) ∷ bits 22 22 (code / 2 % 2) ∷ bits 20 16 status ∷ bits 15 15 (code % 2)
+    ∷ bits 14 10 31 ∷ bits 9 5 base ∷ bits 4 0 target ∷ []
+
+unfoldable pub exclusiveWord : ℕ → AccessSize → ℕ → ℕ → ℕ → Field
+exclusiveWord code size status target base = wordWith (fixed Row.StoreExclusiveRow) (exclusiveFields code size status target base)
+
 -- the word with the fields of a family, if they are in range
 abbrev pub wordOf : Family → Field
 wordOf Family.Empty = Field.Unfit
@@ -83,6 +94,8 @@ wordOf (Family.PostIndex op o) = signedWord (fixed Row.PostRow) op o
 wordOf (Family.PreIndex op o) = signedWord (fixed Row.PreRow) op o
 wordOf (Family.Register op o) = indexWord op o
 wordOf (Family.Unsigned op o) = unsignedWord op o
+wordOf (Family.Exclusive op o) = exclusiveWord (exclusiveCode op) (o .size) 31 (o .target) (o .base)
+wordOf (Family.StoreExclusive op o) = exclusiveWord (storeExclusiveCode op) (o .size) (o .status) (o .target) (o .base)
 
 -- an undefined combination has no word
 abbrev pub encodedAs : Field → Encoded

@@ -2,6 +2,7 @@
 // fixed bits of each row.
 use crate::offset;
 use bits::Field;
+use instruction::AccessSize;
 use instruction::Family;
 use instruction::IndexOperands;
 use instruction::LiteralOp;
@@ -13,7 +14,7 @@ use instruction::Row;
 use instruction::SizedOp;
 ghost use mathlib.Core.Path.{_≡_};
 ghost use Prim.Native.Nat.{_<_, _≤_};
-ghost use Rattle.encoder.specs.Encoding.{fixed, wordWith, literalFields, literalWord, pairFields, pairWord, signedWord, indexWord, unsignedWord, wordOf};
+ghost use Rattle.encoder.specs.Encoding.{fixed, wordWith, literalFields, literalWord, pairFields, pairWord, signedWord, indexWord, unsignedWord, exclusiveWord, wordOf};
 ghost use Rattle.encoder.specs.route.Sized.{sizedWord};
 
 pub fn word_of(family: Family) -> Field
@@ -29,6 +30,15 @@ pub fn word_of(family: Family) -> Field
         Family::PreIndex(op, o) => signed_word(0x3800_0c00, op, o),
         Family::Register(op, o) => index_word(op, o),
         Family::Unsigned(op, o) => unsigned_word(op, o),
+        Family::Exclusive(op, o) => {
+            let size = o.size;
+            exclusive_word(instruction::exclusive_code(op), size, 31, o.target, o.base)
+        }
+        Family::StoreExclusive(op, o) => {
+            let size = o.size;
+            let code = instruction::store_exclusive_code(op);
+            exclusive_word(code, size, o.status, o.target, o.base)
+        }
     }
 }
 
@@ -145,4 +155,25 @@ fn unsigned_word(op: SizedOp, o: OffsetOperands) -> Field
         Field::Holds(imm12) => sized_word(op, base, target, 0x3900_0000 + imm12 * 0x400),
         Field::Unfit => Field::Unfit,
     }
+}
+
+// A code has bit 23, L and bit 15.
+fn exclusive_word(code: u32, size: AccessSize, status: u32, target: u32, base: u32) -> Field
+    requires { ⌜ code < 8 ⌝ }
+    ensures { λ r. ⌜ r ≡ exclusiveWord code size status target base ⌝ }
+{
+    if 32 <= status {
+        return Field::Unfit;
+    }
+    if 32 <= base {
+        return Field::Unfit;
+    }
+    if 32 <= target {
+        return Field::Unfit;
+    }
+    let registers = status * 0x1_0000 + base * 32 + target;
+    let operation = code / 4 * 0x80_0000 + code / 2 % 2 * 0x40_0000 + code % 2 * 0x8000;
+    Field::Holds(
+        0x0800_7c00 + instruction::access_scale(size) * 0x4000_0000 + operation + registers,
+    )
 }
