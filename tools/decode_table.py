@@ -1,5 +1,6 @@
 #!/usr/bin/env python3
-"""Writes the table of the second decoder into crates/lookup/src/constant.rt, from the rows of 01's table.
+"""Writes the table of the second decoder into crates/lookup/src/constant.rt, from the rows of 01's table and of
+02's ninth family.
 
     python3 tools/decode_table.py            writes the file
     python3 tools/decode_table.py --check    only says whether the file is what would be written
@@ -33,6 +34,10 @@ def pair(word):
     return UNDEFINED if opc == 0b11 or opc == 0b01 and not (load and mode) else opc * 2 + load
 
 
+def exclusive(word):
+    return field(word, 31, 30) * 4 + field(word, 23, 22)
+
+
 # family code, fixed bits among 31..22 beside bit 26 = 0 as (high, low, value), operation code
 ROWS = [
     (1, [(29, 27, 0b011), (25, 24, 0b00)], literal),
@@ -40,6 +45,9 @@ ROWS = [
     (3, [(29, 27, 0b011), (25, 24, 0b01)], sized),
     (4, [(29, 27, 0b111), (25, 24, 0b00)], sized),
     (5, [(29, 27, 0b111), (25, 24, 0b01)], sized),
+    (6, [(29, 27, 0b001), (25, 24, 0b00), (23, 22, 0b01)], exclusive),
+    (7, [(29, 27, 0b001), (25, 24, 0b00), (23, 22, 0b00)], exclusive),
+    (8, [(29, 27, 0b001), (25, 24, 0b00), (23, 23, 0b1)], exclusive),
 ]
 
 

@@ -8,11 +8,14 @@ use Rattle.instruction.specs.declared.row.Row.{Row}
 use Rattle.lookup.specs.Entries.{familiesIn, codeIn}
 use Rattle.lookup.specs.Lookup.{rowIn, examineAs, examineBy}
 
-whole : (r : Decoded) (a : Answer) (i : Instruction) → (r .answer ≡ a) × (r .instruction ≡ i) → r ≡ record { answer = a; instruction = i }
+pub whole : (r : Decoded) (a : Answer) (i : Instruction) → (r .answer ≡ a) × (r .instruction ≡ i) → r ≡ record { answer = a; instruction = i }
 whole r a i p = rw (← (p .0), ← (p .1))
 
 -- an arm of the match on the row
 module _ (e w : ℕ) {l : Row} {r : Decoded} (h : l ≡ rowIn (familiesIn e) w) (k : Row) (g : l ≡ k) where
-  pub arm : {a : Answer} {i : Instruction} → (r .answer ≡ a) × (r .instruction ≡ i) → record { answer = a; instruction = i } ≡ examineAs k (codeIn e) w → r ≡ examineBy e w
+  pub arm-of : r ≡ examineAs k (codeIn e) w → r ≡ examineBy e w
   unfolding examineBy
-  arm {a} {i} p z = whole r a i p ∙ z ∙ ap (λ (x : Row). examineAs x (codeIn e) w) (sym g ∙ h)
+  arm-of z = z ∙ ap (λ (x : Row). examineAs x (codeIn e) w) (sym g ∙ h)
+
+  pub arm : {a : Answer} {i : Instruction} → (r .answer ≡ a) × (r .instruction ≡ i) → record { answer = a; instruction = i } ≡ examineAs k (codeIn e) w → r ≡ examineBy e w
+  arm {a} {i} p z = arm-of (whole r a i p ∙ z)

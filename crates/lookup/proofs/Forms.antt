@@ -1,7 +1,7 @@
--- The row that a family code and the bits below 22 give, by bit 21 and bits 11..10 as one number. Assumes nothing.
+-- The row that a family code and the bits below 22 give, by bit 21 and bits 11..10 as one number, or by bits 21 and 15. Assumes nothing.
 use Prim.Native.Nat.{ℕ, _+_, _*_, _<_}
 use mathlib.Core.Path.{_≡_, refl, sym, ap, _∙_}
-use mathlib.Core.Bool.{Bool, true, false, _&&_}
+use mathlib.Core.Bool.{Bool, true, false, _&&_, and-true}
 use native.Mathlib.Omega.{arith}
 use lib.Dec.{eqb}
 use borrow.Author.Tests.{eqb-true, ne-eqb}
@@ -15,9 +15,11 @@ use Rattle.lookup.specs.Lookup.{rowIn}
 pub named-at : (w : ℕ) {k n : ℕ} → k ≡ n → rowIn n w ≡ rowIn k w
 named-at w e = ap (λ (k : ℕ). rowIn k w) (sym e)
 
-pub none-named : (w : ℕ) {k : ℕ} → ¬ (k ≡ 1) → ¬ (k ≡ 2) → ¬ (k ≡ 3) → ¬ (k ≡ 4) → ¬ (k ≡ 5) → Row.NoRow ≡ rowIn k w
+pub none-named : (w : ℕ) {k : ℕ} → ¬ (k ≡ 1) → ¬ (k ≡ 2) → ¬ (k ≡ 3) → ¬ (k ≡ 4) → ¬ (k ≡ 5) → ¬ (k ≡ 6) → ¬ (k ≡ 7) → ¬ (k ≡ 8)
+    → Row.NoRow ≡ rowIn k w
 unfolding rowIn
-none-named w {k} a b c d f = simp (ne-eqb k 1 a, ne-eqb k 2 b, ne-eqb k 3 c, ne-eqb k 4 d, ne-eqb k 5 f)
+none-named w {k} a b c d f x y z =
+    simp (ne-eqb k 1 a, ne-eqb k 2 b, ne-eqb k 3 c, ne-eqb k 4 d, ne-eqb k 5 f, ne-eqb k 6 x, ne-eqb k 7 y, ne-eqb k 8 z)
 
 record Below (w : ℕ) : Type 0 where
   one : part 21 1 w < 2
@@ -69,3 +71,15 @@ module _ (w : ℕ) where
   no-sized a b c d =
       sym (sized-by w (part 21 1 w) (part 10 2 w) refl refl
       ∙ rw (other (part 21 1 w) (part 10 2 w) 0 0 a, other (part 21 1 w) (part 10 2 w) 0 1 b, other (part 21 1 w) (part 10 2 w) 0 3 c, other (part 21 1 w) (part 10 2 w) 1 2 d))
+
+  pub load-exclusive-form : pick (eqb (part 21 1 w) 0) Row.LoadExclusiveRow Row.NoRow ≡ rowIn 6 w
+  unfolding rowIn
+  load-exclusive-form = simp (and-true)
+
+  pub store-exclusive-form : pick (eqb (part 21 1 w) 0) Row.StoreExclusiveRow Row.NoRow ≡ rowIn 7 w
+  unfolding rowIn
+  store-exclusive-form = simp (and-true)
+
+  pub acquire-release-form : pick (eqb (part 21 1 w) 0 && eqb (part 15 1 w) 1) Row.AcquireReleaseRow Row.NoRow ≡ rowIn 8 w
+  unfolding rowIn
+  acquire-release-form = simp (and-true)

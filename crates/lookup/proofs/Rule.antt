@@ -39,6 +39,9 @@ of-row p h Row.PostRow n = h .1 .1 .1 .1 .0
 of-row p h Row.PreRow n = h .1 .1 .1 .1 .1 .0
 of-row p h Row.RegisterRow n = h .1 .1 .1 .1 .1 .1 .0
 of-row p h Row.UnsignedRow n = h .1 .1 .1 .1 .1 .1 .1 .0
+of-row p h Row.LoadExclusiveRow n = h .1 .1 .1 .1 .1 .1 .1 .1 .0
+of-row p h Row.StoreExclusiveRow n = h .1 .1 .1 .1 .1 .1 .1 .1 .1 .0
+of-row p h Row.AcquireReleaseRow n = h .1 .1 .1 .1 .1 .1 .1 .1 .1 .1 .0
 
 -- ---- the rule
 

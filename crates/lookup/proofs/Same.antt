@@ -11,20 +11,20 @@ use borrow.Author.Tests.{leb-true, eqb-false, ne-eqb}
 use Rattle.bits.specs.Choice.{pick}
 use Rattle.bits.specs.Fields.{Bits, part, field, has}
 use Rattle.bits.proofs.Choices.{both, neither, tested}
-use Rattle.bits.proofs.Parts.{part-lt}
+use Rattle.bits.proofs.Parts.{part-lt, cut}
 use Rattle.instruction.specs.declared.answer.Decoded.{Decoded}
 use Rattle.instruction.specs.declared.family.Family.{Family}
 use Rattle.instruction.specs.declared.row.Row.{Row}
-use Rattle.instruction.specs.Undefined.{sizeOpc, undefinedSize, undefinedPrefetch, undefinedOption, undefinedPair}
-use Rattle.instruction.specs.Operations.{literalAt, sizedAt, pairAt}
-use Rattle.instruction.specs.Operands.{sizedIn, literalIn, pairOpIn, pairIn, signedIn, indexIn, unsignedIn}
-use Rattle.instruction.specs.Unpredictable.{unpredictableBase, unpredictablePair}
+use Rattle.instruction.specs.Undefined.{sizeOpc, undefinedSize, undefinedPrefetch, undefinedOption, undefinedPair, undefinedSecond, undefinedUnused}
+use Rattle.instruction.specs.Operations.{literalAt, sizedAt, pairAt, exclusiveAt, storeExclusiveAt}
+use Rattle.instruction.specs.Operands.{sizedIn, literalIn, pairOpIn, pairIn, signedIn, indexIn, unsignedIn, exclusiveBits, exclusiveOpIn, storeExclusiveOpIn, exclusiveIn, storeExclusiveIn}
+use Rattle.instruction.specs.Unpredictable.{unpredictableBase, unpredictablePair, unpredictableStatus}
 use Rattle.instruction.specs.Table.{columnsOf, rows, matches, firstRow, rowOf}
 use Rattle.instruction.proofs.Rows.{set-matches, of-set}
 use Rattle.decoder.specs.Decoding.{decodeOf}
 use Rattle.decoder.proofs.Arms.{Examined, outside, viewed-is, decoded-is}
 use Rattle.lookup.specs.Entries.{upper, lower, allows, familiesIn, codeIn, names, operationCode, entryOf, entries}
-use Rattle.lookup.specs.Lookup.{rowIn, seen, examineAs, examineBy, examineIn, decodeIn}
+use Rattle.lookup.specs.Lookup.{rowIn, seen, withBit15, examineAs, examineBy, examineIn, decodeIn}
 use Rattle.lookup.proofs.Rule.{alike, alike-true, names-allowed, code-allowed, entry-is}
 
 -- ---- a part of bits 31..22 is a part of the ten bits
@@ -63,6 +63,9 @@ within Row.PostRow = refl
 within Row.PreRow = refl
 within Row.RegisterRow = refl
 within Row.UnsignedRow = refl
+within Row.LoadExclusiveRow = refl
+within Row.StoreExclusiveRow = refl
+within Row.AcquireReleaseRow = refl
 
 swapped : (a b c : Bool) → (a && (b && c)) ≡ (b && (a && c))
 swapped true b c = refl
@@ -100,7 +103,7 @@ never h = let z : _≡_ {A = ℕ} 0 1 = cc in omega arith
 
 proper : Proper rows
 proper =
-    ((λ e. never cc), ((λ e. never cc), ((λ e. never cc), ((λ e. never cc), ((λ e. never cc), ((λ e. never cc), ((λ e. never cc), ((λ e. never cc), tt))))))))
+    ((λ e. never cc), ((λ e. never cc), ((λ e. never cc), ((λ e. never cc), ((λ e. never cc), ((λ e. never cc), ((λ e. never cc), ((λ e. never cc), ((λ e. never cc), ((λ e. never cc), ((λ e. never cc), tt)))))))))))
 
 module _ (w : ℕ) where
   agree : (r : Row) → ¬ (r ≡ Row.NoRow) → (names (familiesIn (entryOf (part 22 10 w))) r && has w (lower (columnsOf r .fixed))) ≡ matches w r
@@ -133,6 +136,9 @@ module _ (v w : ℕ) (top : part 30 2 v ≡ part 30 2 w) (opc : part 22 2 v ≡ 
   code-by Row.PreRow = rw (top, opc)
   code-by Row.RegisterRow = rw (top, opc)
   code-by Row.UnsignedRow = rw (top, opc)
+  code-by Row.LoadExclusiveRow = rw (top, opc)
+  code-by Row.StoreExclusiveRow = rw (top, opc)
+  code-by Row.AcquireReleaseRow = rw (top, opc)
 
 module _ (w : ℕ) where
   field-same : (low n : ℕ) → 22 ≤ low → low + n ≤ 32 → part low n (part 22 10 w * 2 ^ 22) ≡ part low n w
@@ -173,11 +179,17 @@ defined w u = eqb-false (sizeOpc w) 15 (neither (eqb (sizeOpc w) 0b10_11) (eqb (
 defined-below : (w : ℕ) → undefinedSize w ≡ false → sizeOpc w < 15
 defined-below w u = let d = defined w u in omega (arith, part-lt 30 2 w, part-lt 22 2 w, d)
 
+-- bit 23 and L of an operation code are those of the word
+bits-of : (w c : ℕ) → c ≡ sizeOpc w → withBit15 c w ≡ exclusiveBits w
+bits-of w c h =
+    let p : part 22 2 w ≡ part 22 1 w + part 23 1 w * 2 = omega (arith, cut (2 ∷ []) 22 w, cut (1 ∷ 1 ∷ []) 22 w) in
+    omega (arith, part-lt 22 2 w)
+
 abbrev plain : Row → ℕ → Decoded
 plain r w = seen (columnsOf r .undefined w) (columnsOf r .unpredictable w) (columnsOf r .family w)
 
 by-code : (w c : ℕ) (r : Row) → ¬ (r ≡ Row.NoRow) → c ≡ operationCode r w → examineAs r c w ≡ plain r w
-unfolding undefinedPrefetch undefinedOption sizedIn pairOpIn
+unfolding undefinedPrefetch undefinedOption sizedIn pairOpIn exclusiveOpIn storeExclusiveOpIn
 by-code w c Row.NoRow n h = absurd (n refl)
 by-code w c Row.LiteralRow n h = ap (λ (k : ℕ). seen false false (Family.Literal (literalAt k) (literalIn w))) h
 by-code w c Row.PairRow n h =
@@ -191,6 +203,10 @@ by-code w c Row.PreRow n h = prefetch-at (λ k. Family.PreIndex (sizedAt k) (sig
 by-code w c Row.RegisterRow n h =
     option-at (λ k. Family.Register (sizedAt k) (indexIn w)) false c (sizeOpc w) (undefinedSize w) (eqb (field 14 14 w) 0) h (defined w)
 by-code w c Row.UnsignedRow n h = plain-at (λ k. Family.Unsigned (sizedAt k) (unsignedIn (sizedAt k) w)) false c (sizeOpc w) (undefinedSize w) h (defined w)
+by-code w c Row.LoadExclusiveRow n h = ap (λ (k : ℕ). seen (undefinedUnused w) false (Family.Exclusive (exclusiveAt k) (exclusiveIn w))) (bits-of w c h)
+by-code w c Row.StoreExclusiveRow n h =
+    ap (λ (k : ℕ). seen (undefinedSecond w) (unpredictableStatus w) (Family.StoreExclusive (storeExclusiveAt k) (storeExclusiveIn w))) (bits-of w c h)
+by-code w c Row.AcquireReleaseRow n h = ap (λ (k : ℕ). seen (undefinedUnused w) false (Family.Exclusive (exclusiveAt k) (exclusiveIn w))) (bits-of w c h)
 
 -- ---- every word
 
@@ -208,6 +224,9 @@ module _ (w : ℕ) where
   by-row c Row.PreRow e h = some-row c Row.PreRow e (λ q. never cc) (h (λ q. never cc))
   by-row c Row.RegisterRow e h = some-row c Row.RegisterRow e (λ q. never cc) (h (λ q. never cc))
   by-row c Row.UnsignedRow e h = some-row c Row.UnsignedRow e (λ q. never cc) (h (λ q. never cc))
+  by-row c Row.LoadExclusiveRow e h = some-row c Row.LoadExclusiveRow e (λ q. never cc) (h (λ q. never cc))
+  by-row c Row.StoreExclusiveRow e h = some-row c Row.StoreExclusiveRow e (λ q. never cc) (h (λ q. never cc))
+  by-row c Row.AcquireReleaseRow e h = some-row c Row.AcquireReleaseRow e (λ q. never cc) (h (λ q. never cc))
 
   looked-up : examineIn entries w ≡ examineAs (rowOf w) (codeIn (entryOf (part 22 10 w))) w
   unfolding examineIn examineBy

@@ -34,8 +34,12 @@ familyCode Row.PostRow = 4
 familyCode Row.PreRow = 4
 familyCode Row.RegisterRow = 4
 familyCode Row.UnsignedRow = 5
+familyCode Row.LoadExclusiveRow = 6
+familyCode Row.StoreExclusiveRow = 7
+familyCode Row.AcquireReleaseRow = 8
 
--- the operation code of a word of a row: what its operation goes by, or 15 where the ten bits make it undefined
+-- the operation code of a word of a row: what its operation goes by, or 15 where the ten bits make it undefined; in the ninth
+-- family, of which they leave nothing undefined, its size, bit 23 and L
 abbrev pub operationCode : Row → ℕ → ℕ
 operationCode Row.NoRow w = 0
 operationCode Row.LiteralRow w = field 31 30 w
@@ -46,6 +50,9 @@ operationCode Row.PostRow w = pick (undefinedSize w) 15 (sizeOpc w)
 operationCode Row.PreRow w = pick (undefinedSize w) 15 (sizeOpc w)
 operationCode Row.RegisterRow w = pick (undefinedSize w) 15 (sizeOpc w)
 operationCode Row.UnsignedRow w = pick (undefinedSize w) 15 (sizeOpc w)
+operationCode Row.LoadExclusiveRow w = sizeOpc w
+operationCode Row.StoreExclusiveRow w = sizeOpc w
+operationCode Row.AcquireReleaseRow w = sizeOpc w
 
 -- an entry: 16 times the family code, and the operation code
 abbrev pub entryFor : Row → ℕ → ℕ

@@ -1,12 +1,14 @@
 // What an entry and the bits of a word below 22 say.
 use decoder::family;
+use decoder::undefined;
 use decoder::unpredictable;
 use decoder::view;
 use instruction::Answer;
 use instruction::Decoded;
 use instruction::Row;
 ghost use mathlib.Core.Path.{_≡_};
-ghost use Rattle.lookup.specs.Lookup.{rowIn, examineBy};
+ghost use Rattle.bits.specs.Choice.{pick};
+ghost use Rattle.lookup.specs.Lookup.{rowIn, examineAs, examineBy};
 
 pub fn finish(entry: u32, word: u32) -> Decoded
     ensures { λ r. ⌜ r ≡ examineBy entry word ⌝ }
@@ -39,7 +41,30 @@ pub fn finish(entry: u32, word: u32) -> Decoded
             view::viewed(undefined, false, family::register(op, word))
         }
         Row::UnsignedRow => view::viewed(code == 15, false, family::unsigned(op, word)),
+        Row::LoadExclusiveRow => exclusive(code, word),
+        Row::StoreExclusiveRow => store_exclusive(code, word),
+        Row::AcquireReleaseRow => exclusive(code, word),
     }
+}
+
+fn exclusive(code: u32, word: u32) -> Decoded
+    ensures { λ r. ⌜ r ≡ examineAs Row.LoadExclusiveRow code word ⌝ }
+{
+    let op = instruction::exclusive_at(code % 4 * 2 + word / 0x8000 % 2);
+    view::viewed(
+        undefined::in_exclusive(word),
+        false,
+        family::exclusive(op, word),
+    )
+}
+
+fn store_exclusive(code: u32, word: u32) -> Decoded
+    ensures { λ r. ⌜ r ≡ examineAs Row.StoreExclusiveRow code word ⌝ }
+{
+    let op = instruction::store_exclusive_at(code % 4 * 2 + word / 0x8000 % 2);
+    let undefined = undefined::in_store_exclusive(word);
+    let unpredictable = unpredictable::in_store_exclusive(word);
+    view::viewed(undefined, unpredictable, family::store_exclusive(op, word))
 }
 
 // The row that the family code of an entry and the bits below 22 give.
@@ -52,6 +77,12 @@ fn row_in(families: u32, word: u32) -> Row
         3 => ordered_row(word),
         4 => sized_row(word),
         5 => Row::UnsignedRow,
+        6 => row_where(word / 0x20_0000 % 2 == 0, Row::LoadExclusiveRow),
+        7 => row_where(word / 0x20_0000 % 2 == 0, Row::StoreExclusiveRow),
+        8 => row_where(
+            (word / 0x20_0000 % 2 == 0) & (word / 0x8000 % 2 == 1),
+            Row::AcquireReleaseRow,
+        ),
         _ => Row::NoRow,
     }
 }
@@ -77,4 +108,13 @@ fn sized_row(word: u32) -> Row
         0b110 => Row::RegisterRow,
         _ => Row::NoRow,
     }
+}
+
+fn row_where(kept: bool, row: Row) -> Row
+    ensures { λ r. ⌜ r ≡ pick kept row Row.NoRow ⌝ }
+{
+    if kept {
+        return row;
+    }
+    Row::NoRow
 }
