@@ -1,5 +1,5 @@
 -- Every name has a number, and a mnemonic is the number that its letters make. Assumes nothing.
-use Prim.Native.Nat.{ℕ, zero, suc, _+_, _*_, _/_, _%_, _^_, _<_}
+use Prim.Native.Nat.{ℕ, zero, suc, _+_, _*_, _/_, _%_, _^_, _≤_, _<_}
 use mathlib.Core.Path.{_≡_, refl, sym, ap, _∙_}
 use mathlib.Core.List.{List}
 use native.Mathlib.Nat.{pow-suc}
@@ -10,15 +10,16 @@ use lib.ListN.{length}
 use Rattle.bits.specs.Bytes.{bytesOf}
 use Rattle.bits.proofs.Choices.{both}
 use Rattle.bits.proofs.Bytes.{length-bytes}
-use Rattle.instruction.specs.Operations.{sizeOf, opcOf, pairOpc, pairLoad}
-use Rattle.instruction.proofs.Codes.{sized, sized-at, paired, pair-at}
+use Rattle.instruction.specs.Operations.{sizeOf, opcOf, pairOpc, pairLoad, exclusiveCode, storeExclusiveCode, accessScale}
+use Rattle.instruction.proofs.Codes.{sized, sized-at, paired, pair-at, exclusive-at, exclusive-below, store-exclusive-at, store-exclusive-below, size-at, scale-below}
+use Rattle.instruction.specs.declared.exclusive.ExclusiveOp.{ExclusiveOp}
 use Rattle.mnemonic.specs.Operands.{Operand, letterOf}
 use Rattle.mnemonic.specs.declared.Stem.{Stem}
 use Rattle.mnemonic.specs.declared.Mnemonic.{Mnemonic}
 use Rattle.mnemonic.specs.declared.names.Name.{Name}
 use Rattle.mnemonic.specs.route.Named.{Known, known, told}
 use Rattle.mnemonic.specs.route.Parts.{packed}
-use Rattle.mnemonic.specs.route.Names.{stemAt, nameAt, stemNumber, numberOf}
+use Rattle.mnemonic.specs.route.Names.{stemAt, nameAt, stemNumber, numberOf, nameCount}
 
 -- ---- names by number
 
@@ -28,34 +29,56 @@ stem-at Stem.Plain = refl
 stem-at Stem.Unscale = refl
 stem-at Stem.Order = refl
 
-stem-below : (stem : Stem) → stemNumber stem < 3
-stem-below Stem.Plain = omega arith
-stem-below Stem.Unscale = omega arith
-stem-below Stem.Order = omega arith
+stem-within : (stem : Stem) → (2 ≤ stemNumber stem) × (stemNumber stem < 5)
+stem-within Stem.Plain = (omega arith, omega arith)
+stem-within Stem.Unscale = (omega arith, omega arith)
+stem-within Stem.Order = (omega arith, omega arith)
 
-pub number-below : (x : Name) → numberOf x < 64
-number-below (Name.Sized stem op) = omega (arith, stem-below stem, sized op .size, sized op .opc)
+exclusive-after : (op : ExclusiveOp) → 2 ≤ exclusiveCode op
+exclusive-after ExclusiveOp.LoadExclusive = omega arith
+exclusive-after ExclusiveOp.LoadAcquireExclusive = omega arith
+exclusive-after ExclusiveOp.StoreRelease = omega arith
+exclusive-after ExclusiveOp.LoadAcquire = omega arith
+
+pub number-below : (x : Name) → numberOf x < nameCount
+number-below (Name.Sized stem op) = omega (arith, stem-within stem, sized op .size, sized op .opc)
 number-below (Name.NoAllocatePair op) = omega (arith, paired op .opc, paired op .load)
 number-below (Name.AllocatePair op) = omega (arith, paired op .opc, paired op .load)
+number-below (Name.Exclusive op size) = omega (arith, exclusive-below op, scale-below size)
+number-below (Name.StoreExclusive op size) = omega (arith, store-exclusive-below op, scale-below size)
 
 pub name-back : (x : Name) → nameAt (numberOf x) ≡ x
 unfolding nameAt
 name-back (Name.Sized stem op) =
     let k = sizeOf op * 4 + opcOf op in
+    let n = stemNumber stem * 16 + k in
     let h : k < 16 = omega (arith, sized op .size, sized op .opc) in
-    let d : (stemNumber stem * 16 + k) / 16 ≡ stemNumber stem = omega arith in
-    let m : (stemNumber stem * 16 + k) % 16 ≡ k = omega arith in
-    rw (lt-ltb (stemNumber stem * 16 + k) 48 (omega (arith, stem-below stem)), d, m, stem-at stem, sized-at op)
+    let s = stem-within stem in
+    let d : n / 16 ≡ stemNumber stem = omega arith in
+    let m : n % 16 ≡ k = omega arith in
+    rw (le-ltb n 8 (omega arith), le-ltb n 32 (omega arith), lt-ltb n 80 (omega arith), d, m, stem-at stem, sized-at op)
 name-back (Name.NoAllocatePair op) =
     let k = pairOpc op * 2 + pairLoad op in
     let h : k < 8 = omega (arith, paired op .opc, paired op .load) in
-    let m : (48 + k) % 8 ≡ k = omega arith in
-    rw (le-ltb (48 + k) 48 (omega arith), lt-ltb (48 + k) 56 (omega arith), m, pair-at op)
+    let m : (80 + k) % 8 ≡ k = omega arith in
+    rw (le-ltb (80 + k) 8 (omega arith), le-ltb (80 + k) 32 (omega arith), le-ltb (80 + k) 80 (omega arith), lt-ltb (80 + k) 88 (omega arith), m, pair-at op)
 name-back (Name.AllocatePair op) =
     let k = pairOpc op * 2 + pairLoad op in
     let h : k < 8 = omega (arith, paired op .opc, paired op .load) in
-    let m : (56 + k) % 8 ≡ k = omega arith in
-    rw (le-ltb (56 + k) 48 (omega arith), le-ltb (56 + k) 56 (omega arith), m, pair-at op)
+    let m : (88 + k) % 8 ≡ k = omega arith in
+    rw (le-ltb (88 + k) 8 (omega arith), le-ltb (88 + k) 32 (omega arith), le-ltb (88 + k) 80 (omega arith), le-ltb (88 + k) 88 (omega arith), m, pair-at op)
+name-back (Name.Exclusive op size) =
+    let n = exclusiveCode op * 4 + accessScale size in
+    let s = scale-below size in
+    let d : n / 4 ≡ exclusiveCode op = omega arith in
+    let m : n % 4 ≡ accessScale size = omega arith in
+    rw (le-ltb n 8 (omega (arith, exclusive-after op)), lt-ltb n 32 (omega (arith, exclusive-below op)), d, m, exclusive-at op, size-at size)
+name-back (Name.StoreExclusive op size) =
+    let n = storeExclusiveCode op * 4 + accessScale size in
+    let s = scale-below size in
+    let d : n / 4 ≡ storeExclusiveCode op = omega arith in
+    let m : n % 4 ≡ accessScale size = omega arith in
+    rw (lt-ltb n 8 (omega (arith, store-exclusive-below op)), d, m, store-exclusive-at op, size-at size)
 
 -- ---- letters in a number
 

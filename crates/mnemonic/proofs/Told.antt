@@ -1,6 +1,6 @@
 -- The two parts of a mnemonic make its name: one computed test for each stem over the codes of all operations. Assumes nothing.
-use Prim.Native.Nat.{ℕ, _+_, _*_, _<_}
-use mathlib.Core.Path.{_≡_, refl, _∙_}
+use Prim.Native.Nat.{ℕ, _+_, _*_, _/_, _%_, _<_}
+use mathlib.Core.Path.{_≡_, refl, ap, _∙_}
 use mathlib.Core.Bool.{Bool, true, false, _&&_, false≢true}
 use mathlib.Core.List.{List, [], _∷_}
 use native.Mathlib.Omega.{arith}
@@ -8,18 +8,19 @@ use lib.Dec.{eqb}
 use borrow.Author.Tests.{eqb-true}
 use Rattle.bits.specs.Bytes.{bytesOf}
 use Rattle.bits.proofs.Choices.{both, upTo, tested}
-use Rattle.instruction.specs.Operations.{sizeOf, opcOf, sizedAt, pairOpc, pairLoad, pairAt}
+use Rattle.instruction.specs.Operations.{sizeOf, opcOf, sizedAt, pairOpc, pairLoad, pairAt, accessScale, sizeAt}
+use Rattle.instruction.specs.declared.exclusive.AccessSize.{AccessSize}
 use Rattle.instruction.specs.declared.operation.SizedOp.{SizedOp}
 use Rattle.instruction.specs.declared.operation.PairOp.{PairOp}
 use Rattle.instruction.specs.declared.operation.PairMode.{PairMode}
-use Rattle.instruction.proofs.Codes.{sized, sized-at, paired, pair-at}
-use Rattle.mnemonic.specs.Mnemonics.{sizedName, pairName}
-use Rattle.mnemonic.specs.Operands.{Operand, letterOf, sizedOperand, pairOperand}
+use Rattle.instruction.proofs.Codes.{sized, sized-at, paired, pair-at, size-at}
+use Rattle.mnemonic.specs.Mnemonics.{sizedName, pairName, exclusiveName}
+use Rattle.mnemonic.specs.Operands.{Operand, Narrow, letterOf, sizedOperand, pairOperand, accessOperand}
 use Rattle.mnemonic.specs.declared.Stem.{Stem}
 use Rattle.mnemonic.specs.declared.Mnemonic.{Mnemonic}
 use Rattle.mnemonic.specs.declared.table.Entry.{Entry}
 use Rattle.mnemonic.specs.route.Named.{Known, known, told}
-use Rattle.mnemonic.specs.route.Parts.{sizedStem, pairStem, sizedEntry, pairEntry, behindStem}
+use Rattle.mnemonic.specs.route.Parts.{sizedStem, pairStem, exclusiveStem, sizedEntry, pairEntry, behindStem}
 
 -- ---- a test of what a mnemonic tells
 
@@ -101,3 +102,40 @@ pair-is mode op e t m =
 pub pair-by : (mode : PairMode) (op : PairOp) {opc load : ℕ} {k : Known} → opc ≡ pairOpc op → load ≡ pairLoad op
     → k ≡ told (pairName mode (pairAt (opc * 2 + load))) (pairOperand (pairAt (opc * 2 + load))) → k ≡ told (pairName mode op) (pairOperand op)
 pair-by mode op s l e = e ∙ rw (s, l, pair-at op)
+
+-- ---- the ninth family
+
+exclusiveMade : ℕ → Entry → Mnemonic
+exclusiveMade code e = behindStem (exclusiveStem code) (e .letters) (e .shape)
+
+exclusiveTest : ℕ → Bool
+exclusiveTest k =
+    tells (exclusiveMade (k / 4) (sizedEntry (sizedAt (k % 4 * 4)))) (exclusiveName (k / 4) (sizeAt (k % 4))) (accessOperand (sizeAt (k % 4)))
+
+all-exclusive : upTo 32 exclusiveTest ≡ true
+unfolding exclusiveTest exclusiveMade tells same sizedAt sizeAt bytesOf
+all-exclusive = refl
+
+pub exclusive-is : (code scale : ℕ) {t : ℕ} {e : Entry} {m : Mnemonic} → code < 8 → scale < 4 → e ≡ sizedEntry (sizedAt (scale * 4))
+    → t ≡ exclusiveStem code → m ≡ behindStem t (e .letters) (e .shape) → known m ≡ told (exclusiveName code (sizeAt scale)) (accessOperand (sizeAt scale))
+unfolding exclusiveTest exclusiveMade
+exclusive-is code scale h g e t m =
+    let k = code * 4 + scale in
+    let d : k / 4 ≡ code = omega arith in
+    let r : k % 4 ≡ scale = omega arith in
+    rw (m, t, e) (tells-is _ _ (accessOperand (sizeAt scale)) (rw (d, r) at (tested 32 exclusiveTest all-exclusive k (omega arith))))
+
+-- by an operation and a size
+pub exclusive-by : (size : AccessSize) {code scale : ℕ} (c : ℕ) {k : Known} → code ≡ c → scale ≡ accessScale size
+    → k ≡ told (exclusiveName code (sizeAt scale)) (accessOperand (sizeAt scale)) → k ≡ told (exclusiveName c size) (accessOperand size)
+exclusive-by size c p s e = e ∙ rw (p, s, size-at size)
+
+-- with a w for the first operand
+pub with-status : (m : Mnemonic) (name : List ℕ) (o : Operand) → known m ≡ told name o
+    → known (record { letters = m .letters; shape = m .shape % 256 + 0x7700 }) ≡ told name Narrow
+with-status m name o e =
+    let low : (m .shape % 256 + 0x7700) % 256 ≡ m .shape % 256 = omega arith in
+    let high : (m .shape % 256 + 0x7700) / 256 ≡ 119 = omega arith in
+    let a = ap (λ (k : Known). k .letters) e in
+    let b = ap (λ (k : Known). k .fits) e in
+    rw (low, high) (λ i. record { letters = a i; letter = 119; fits = b i })

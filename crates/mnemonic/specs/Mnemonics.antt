@@ -1,12 +1,13 @@
--- Mnemonics: 01, "Lines of text".
+-- Mnemonics: 01, "Lines of text", and 02, CR 3.
 use Prim.Native.Nat.{ℕ}
-use mathlib.Core.Bool.{Bool}
+use mathlib.Core.Bool.{Bool, false}
 use mathlib.Core.List.{List, [], _∷_, _++_}
 use lib.Dec.{eqb, ltb}
 use Rattle.bits.specs.Choice.{pick, lookup}
-use Rattle.instruction.specs.Operations.{sizedCode, sizeOf, opcOf, pairOpc, pairLoad, modeCode}
+use Rattle.instruction.specs.Operations.{sizedCode, sizeOf, opcOf, pairOpc, pairLoad, modeCode, accessScale}
 use Rattle.ascii.specs.Ascii.{asc}
 use Rattle.mnemonic.specs.declared.Stem.{Stem}
+use Rattle.instruction.specs.declared.exclusive.AccessSize.{AccessSize}
 use Rattle.instruction.specs.declared.operation.SizedOp.{SizedOp}
 use Rattle.instruction.specs.declared.operation.LiteralOp.{LiteralOp}
 use Rattle.instruction.specs.declared.operation.PairOp.{PairOp}
@@ -56,3 +57,12 @@ abbrev pub pairName : PairMode → PairOp → List ℕ
 pairName mode op =
     pick (eqb (pairLoad op) 0) (asc "st") (asc "ld") ++ pick (eqb (modeCode mode) 0b00) (asc "n") []
     ++ asc "p" ++ pick (eqb (pairOpc op) 0b01) (asc "sw") []
+
+-- the ninth family, by bit 23, L and bit 15; an l releases and an a acquires
+abbrev pub exclusiveStems : List (ℕ × List ℕ)
+exclusiveStems =
+    (0b0_0_0, asc "stxr") ∷ (0b0_0_1, asc "stlxr") ∷ (0b0_1_0, asc "ldxr") ∷ (0b0_1_1, asc "ldaxr") ∷ (0b1_0_1, asc "stlr")
+    ∷ (0b1_1_1, asc "ldar") ∷ []
+
+abbrev pub exclusiveName : ℕ → AccessSize → List ℕ
+exclusiveName code size = lookup [] exclusiveStems code ++ sizeLetter (accessScale size) false

@@ -1,9 +1,10 @@
--- The first operand of an operation: a register of 32 bits (w), of 64 bits (x), or the hint of a prefetch.
+-- The operands of an operation that aren't a place: a register of 32 bits (w), of 64 bits (x), or the hint of a prefetch.
 use Prim.Native.Nat.{ℕ}
 use mathlib.Core.Bool.{_||_}
 use lib.Dec.{eqb}
 use Rattle.bits.specs.Choice.{pick}
-use Rattle.instruction.specs.Operations.{sizedCode, sizeOf, opcOf, pairOpc}
+use Rattle.instruction.specs.Operations.{sizedCode, sizeOf, opcOf, pairOpc, accessScale}
+use Rattle.instruction.specs.declared.exclusive.AccessSize.{AccessSize}
 use Rattle.instruction.specs.declared.operation.SizedOp.{SizedOp}
 use Rattle.instruction.specs.declared.operation.LiteralOp.{LiteralOp}
 use Rattle.instruction.specs.declared.operation.PairOp.{PairOp}
@@ -30,3 +31,7 @@ literalOperand op = sizedOperand (literalSized op)
 -- two words
 abbrev pub pairOperand : PairOp → Operand
 pairOperand op = pick (eqb (pairOpc op) 0b00) Narrow Wide
+
+-- the data of the ninth family: x only at 8 bytes
+abbrev pub accessOperand : AccessSize → Operand
+accessOperand size = pick (eqb (accessScale size) 0b11) Wide Narrow

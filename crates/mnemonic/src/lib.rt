@@ -3,16 +3,21 @@ mod names;
 mod stems;
 mod table;
 
+use instruction::AccessSize;
+use instruction::ExclusiveOp;
 use instruction::LiteralOp;
 use instruction::PairMode;
 use instruction::PairOp;
 use instruction::SizedOp;
+use instruction::StoreExclusiveOp;
+pub use names::NAMES;
 pub use names::Name;
 pub use names::name_at;
 ghost use mathlib.Core.Path.{_≡_};
-ghost use Rattle.instruction.specs.Operations.{sizedAt, pairAt};
-ghost use Rattle.mnemonic.specs.Mnemonics.{sizedName, literalSized, literalName, pairName};
-ghost use Rattle.mnemonic.specs.Operands.{sizedOperand, literalOperand, pairOperand};
+ghost use Prim.Native.Nat.{_<_};
+ghost use Rattle.instruction.specs.Operations.{sizedAt, pairAt, exclusiveCode, storeExclusiveCode, sizeAt};
+ghost use Rattle.mnemonic.specs.Mnemonics.{sizedName, literalSized, literalName, pairName, exclusiveName};
+ghost use Rattle.mnemonic.specs.Operands.{Narrow, sizedOperand, literalOperand, pairOperand, accessOperand};
 ghost use Rattle.mnemonic.specs.route.Named.{known, told};
 ghost use Rattle.mnemonic.specs.route.Names.{nameAt, nameText, nameOperand};
 
@@ -87,14 +92,50 @@ fn pair_at(mode: PairMode, code: u32) -> Mnemonic
     )
 }
 
+pub fn exclusive_name(op: ExclusiveOp, size: AccessSize) -> Mnemonic
+    ensures { λ r. ⌜ known r ≡ told (exclusiveName (exclusiveCode op) size) (accessOperand size) ⌝ }
+{
+    let scale = instruction::access_scale(size);
+    exclusive_at(instruction::exclusive_code(op), scale)
+}
+
+// What stands behind the stem, and the letter of the data, is as in a store of the size.
+fn exclusive_at(code: u32, scale: u32) -> Mnemonic
+    requires { ⌜ (code < 8) × (scale < 4) ⌝ }
+    ensures { λ r. ⌜ known r ≡ told (exclusiveName code (sizeAt scale)) (accessOperand (sizeAt scale)) ⌝ }
+{
+    let entry = table::sized_entry(scale * 4);
+    stems::behind_stem(stems::exclusive_stem(code), entry.letters, entry.shape)
+}
+
+// The first operand is the status, a w whatever the data are.
+pub fn store_exclusive_name(op: StoreExclusiveOp, size: AccessSize) -> Mnemonic
+    ensures { λ r. ⌜ known r ≡ told (exclusiveName (storeExclusiveCode op) size) Narrow ⌝ }
+{
+    let scale = instruction::access_scale(size);
+    let m = exclusive_at(instruction::store_exclusive_code(op), scale);
+    Mnemonic {
+        letters: m.letters,
+        shape: m.shape % 256 + 0x7700,
+    }
+}
+
 // The mnemonic of a name, by its number.
 pub fn mnemonic_at(number: u32) -> Mnemonic
     ensures { λ r. ⌜ known r ≡ told (nameText (nameAt number)) (nameOperand (nameAt number)) ⌝ }
 {
-    if number < 48 {
+    if number < 8 {
+        let op = instruction::store_exclusive_at(number / 4);
+        return store_exclusive_name(op, instruction::size_at(number % 4));
+    }
+    if number < 32 {
+        let op = instruction::exclusive_at(number / 4);
+        return exclusive_name(op, instruction::size_at(number % 4));
+    }
+    if number < 80 {
         return sized_at(names::stem_at(number / 16), number % 16);
     }
-    if number < 56 {
+    if number < 88 {
         return pair_at(PairMode::NoAllocate, number % 8);
     }
     pair_at(PairMode::Offset, number % 8)

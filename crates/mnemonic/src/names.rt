@@ -1,7 +1,11 @@
-// The names by number: 16 for each stem, by the code of the operation, and 8 for each kind of pair.
+// The names by number: 32 of the ninth family by the code of the operation and the size, 16 for each stem by the code of the
+// operation, and 8 for each kind of pair. The rarer ones come first, since a search goes from the end.
 use crate::Stem;
+use instruction::AccessSize;
+use instruction::ExclusiveOp;
 use instruction::PairOp;
 use instruction::SizedOp;
+use instruction::StoreExclusiveOp;
 ghost use mathlib.Core.Path.{_≡_};
 ghost use Rattle.mnemonic.specs.route.Names.{stemAt, nameAt};
 
@@ -9,16 +13,33 @@ pub enum Name {
     Sized(Stem, SizedOp),
     NoAllocatePair(PairOp),
     AllocatePair(PairOp),
+    Exclusive(ExclusiveOp, AccessSize),
+    StoreExclusive(StoreExclusiveOp, AccessSize),
 }
+
+// How many numbers there are (`nameCount`).
+pub const NAMES: u32 = 96;
 
 pub fn name_at(number: u32) -> Name
     ensures { λ r. ⌜ r ≡ nameAt number ⌝ }
 {
-    if number < 48 {
+    if number < 8 {
+        return Name::StoreExclusive(
+            instruction::store_exclusive_at(number / 4),
+            instruction::size_at(number % 4),
+        );
+    }
+    if number < 32 {
+        return Name::Exclusive(
+            instruction::exclusive_at(number / 4),
+            instruction::size_at(number % 4),
+        );
+    }
+    if number < 80 {
         return Name::Sized(stem_at(number / 16), instruction::sized_at(number % 16));
     }
     let op = instruction::pair_at(number % 8);
-    if number < 56 {
+    if number < 88 {
         return Name::NoAllocatePair(op);
     }
     Name::AllocatePair(op)
@@ -30,8 +51,8 @@ pub fn stem_at(number: u32) -> Stem
     ensures { λ r. ⌜ r ≡ stemAt number ⌝ }
 {
     match number {
-        0 => Stem::Order,
-        1 => Stem::Unscale,
+        2 => Stem::Order,
+        3 => Stem::Unscale,
         _ => Stem::Plain,
     }
 }

@@ -4,7 +4,7 @@ use crate::Stem;
 use instruction::PairMode;
 ghost use mathlib.Core.Path.{_≡_};
 ghost use Rattle.bits.specs.Choice.{lookup};
-ghost use Rattle.mnemonic.specs.route.Parts.{kinds, sizedStem, allocateStem, pairStem, behindStem};
+ghost use Rattle.mnemonic.specs.route.Parts.{kinds, sizedStem, allocateStem, pairStem, exclusiveStem, behindStem};
 
 // The kinds of operations.
 pub const STORE: u32 = 0;
@@ -73,6 +73,21 @@ fn by_kind(kind: u32, store: u64, load: u64, hint: u64) -> u64
         0 => store,
         1 => load,
         2 => hint,
+        _ => 0,
+    }
+}
+
+// By bit 23, L and bit 15.
+pub fn exclusive_stem(code: u32) -> u64
+    ensures { λ r. ⌜ r ≡ exclusiveStem code ⌝ }
+{
+    match code {
+        0b000 => 0x400_0000_7278_7473, // stxr
+        0b001 => 0x500_0072_786c_7473, // stlxr
+        0b010 => 0x400_0000_7278_646c, // ldxr
+        0b011 => 0x500_0072_7861_646c, // ldaxr
+        0b101 => 0x400_0000_726c_7473, // stlr
+        0b111 => 0x400_0000_7261_646c, // ldar
         _ => 0,
     }
 }

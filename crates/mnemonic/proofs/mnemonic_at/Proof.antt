@@ -12,8 +12,34 @@ mnemonic-at-spec =
     (tie.spec
     (λ c κs. search needs)
     (λ c κs. search needs)
-    (λ c. rw (lt-ltb _ _ (c .before .before .if1 .taken)) (rw (c .before .stem-at .ensures) at (c .sized-at .ensures)))
     (λ c κs. search needs)
-    (λ c. rw (le-ltb _ _ (c .before .before .if1 .left), lt-ltb _ _ (c .before .if2 .taken)) (c .pair-at .ensures))
+    (λ c.
+    rw (lt-ltb _ _ (c .before .before .before .if1 .taken))
+    (rw (c .before .before .store-exclusive-at .ensures, c .before .size-at .ensures) at (c .store-exclusive-name .ensures)))
     (λ c κs. search needs)
-    (λ c. rw (le-ltb _ _ (c .before .before .if1 .left), le-ltb _ _ (c .before .if2 .left)) (c .pair-at2 .ensures)))
+    (λ c κs. search needs)
+    (λ c κs. search needs)
+    (λ c.
+    rw (le-ltb _ _ (c .before .before .before .before .if1 .left), lt-ltb _ _ (c .before .before .before .if2 .taken))
+    (rw (c .before .before .exclusive-at .ensures, c .before .size-at2 .ensures) at (c .exclusive-name .ensures)))
+    (λ c κs. search needs)
+    (λ c κs. search needs)
+    (λ c.
+    rw (le-ltb _ _ (c .before .before .before .before .if1 .left), le-ltb _ _ (c .before .before .before .if2 .left), lt-ltb _ _ (c .before .before .if3 .taken))
+    (rw (c .before .stem-at .ensures) at (c .sized-at .ensures)))
+    (λ c κs. search needs)
+    (λ c.
+    rw (
+      le-ltb _ _ (c .before .before .before .before .if1 .left),
+      le-ltb _ _ (c .before .before .before .if2 .left),
+      le-ltb _ _ (c .before .before .if3 .left),
+      lt-ltb _ _ (c .before .if4 .taken),
+    ) (c .pair-at .ensures))
+    (λ c κs. search needs)
+    (λ c.
+    rw (
+      le-ltb _ _ (c .before .before .before .before .if1 .left),
+      le-ltb _ _ (c .before .before .before .if2 .left),
+      le-ltb _ _ (c .before .before .if3 .left),
+      le-ltb _ _ (c .before .if4 .left),
+    ) (c .pair-at2 .ensures)))

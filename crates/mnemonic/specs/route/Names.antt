@@ -3,41 +3,54 @@ use Prim.Native.Nat.{ℕ, _+_, _*_, _/_, _%_}
 use mathlib.Core.List.{List, [], _∷_}
 use lib.Dec.{ltb}
 use Rattle.bits.specs.Choice.{pick, lookup}
-use Rattle.instruction.specs.Operations.{sizeOf, opcOf, sizedAt, pairAt, pairOpc, pairLoad}
+use Rattle.instruction.specs.Operations.{sizeOf, opcOf, sizedAt, pairAt, pairOpc, pairLoad, exclusiveCode, exclusiveAt, storeExclusiveCode, storeExclusiveAt, accessScale, sizeAt}
 use Rattle.instruction.specs.declared.operation.PairMode.{PairMode}
-use Rattle.mnemonic.specs.Mnemonics.{sizedName, pairName}
-use Rattle.mnemonic.specs.Operands.{Operand, sizedOperand, pairOperand}
+use Rattle.mnemonic.specs.Mnemonics.{sizedName, pairName, exclusiveName}
+use Rattle.mnemonic.specs.Operands.{Operand, Narrow, sizedOperand, pairOperand, accessOperand}
 use Rattle.mnemonic.specs.declared.Stem.{Stem}
 use Rattle.mnemonic.specs.declared.names.Name.{Name}
 
 abbrev pub stemTable : List (ℕ × Stem)
-stemTable = (0, Stem.Order) ∷ (1, Stem.Unscale) ∷ []
+stemTable = (2, Stem.Order) ∷ (3, Stem.Unscale) ∷ []
 
 unfoldable pub stemAt : ℕ → Stem
 stemAt n = lookup Stem.Plain stemTable n
 
 unfoldable pub nameAt : ℕ → Name
 nameAt n =
-    pick (ltb n 48) (Name.Sized (stemAt (n / 16)) (sizedAt (n % 16)))
-    (pick (ltb n 56) (Name.NoAllocatePair (pairAt (n % 8))) (Name.AllocatePair (pairAt (n % 8))))
+    pick (ltb n 8) (Name.StoreExclusive (storeExclusiveAt (n / 4)) (sizeAt (n % 4)))
+    (pick (ltb n 32) (Name.Exclusive (exclusiveAt (n / 4)) (sizeAt (n % 4)))
+    (pick (ltb n 80) (Name.Sized (stemAt (n / 16)) (sizedAt (n % 16)))
+    (pick (ltb n 88) (Name.NoAllocatePair (pairAt (n % 8))) (Name.AllocatePair (pairAt (n % 8))))))
 
 abbrev pub nameText : Name → List ℕ
 nameText (Name.Sized stem op) = sizedName stem op
 nameText (Name.NoAllocatePair op) = pairName PairMode.NoAllocate op
 nameText (Name.AllocatePair op) = pairName PairMode.Offset op
+nameText (Name.Exclusive op size) = exclusiveName (exclusiveCode op) size
+nameText (Name.StoreExclusive op size) = exclusiveName (storeExclusiveCode op) size
 
+-- the first operand; a store-exclusive has its status there
 abbrev pub nameOperand : Name → Operand
 nameOperand (Name.Sized stem op) = sizedOperand op
 nameOperand (Name.NoAllocatePair op) = pairOperand op
 nameOperand (Name.AllocatePair op) = pairOperand op
+nameOperand (Name.Exclusive op size) = accessOperand size
+nameOperand (Name.StoreExclusive op size) = Narrow
 
 -- the number of a name
 abbrev pub stemNumber : Stem → ℕ
-stemNumber Stem.Order = 0
-stemNumber Stem.Unscale = 1
-stemNumber Stem.Plain = 2
+stemNumber Stem.Order = 2
+stemNumber Stem.Unscale = 3
+stemNumber Stem.Plain = 4
 
 abbrev pub numberOf : Name → ℕ
 numberOf (Name.Sized stem op) = stemNumber stem * 16 + (sizeOf op * 4 + opcOf op)
-numberOf (Name.NoAllocatePair op) = 48 + (pairOpc op * 2 + pairLoad op)
-numberOf (Name.AllocatePair op) = 56 + (pairOpc op * 2 + pairLoad op)
+numberOf (Name.NoAllocatePair op) = 80 + (pairOpc op * 2 + pairLoad op)
+numberOf (Name.AllocatePair op) = 88 + (pairOpc op * 2 + pairLoad op)
+numberOf (Name.Exclusive op size) = exclusiveCode op * 4 + accessScale size
+numberOf (Name.StoreExclusive op size) = storeExclusiveCode op * 4 + accessScale size
+
+-- how many numbers there are
+abbrev pub nameCount : ℕ
+nameCount = 96

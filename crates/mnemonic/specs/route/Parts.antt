@@ -9,7 +9,7 @@ use Rattle.instruction.specs.declared.operation.SizedOp.{SizedOp}
 use Rattle.instruction.specs.declared.operation.PairOp.{PairOp}
 use Rattle.instruction.specs.declared.operation.PairMode.{PairMode}
 use Rattle.ascii.specs.Ascii.{asc}
-use Rattle.mnemonic.specs.Mnemonics.{suffix}
+use Rattle.mnemonic.specs.Mnemonics.{suffix, exclusiveStems}
 use Rattle.mnemonic.specs.Operands.{Operand, letterOf, sizedOperand, pairOperand}
 use Rattle.mnemonic.specs.declared.Stem.{Stem}
 use Rattle.mnemonic.specs.declared.Mnemonic.{Mnemonic}
@@ -45,6 +45,9 @@ pairStem PairMode.NoAllocate kind = stemBy (asc "stn") (asc "ldn") (asc "ldn") k
 pairStem PairMode.Post kind = allocateStem kind
 pairStem PairMode.Offset kind = allocateStem kind
 pairStem PairMode.Pre kind = allocateStem kind
+
+abbrev pub exclusiveStem : ℕ → ℕ
+exclusiveStem code = stemIn (lookup [] exclusiveStems code)
 
 -- how many letters stand behind the stem, and the letter of the operand
 abbrev pub shapeIn : List ℕ → Operand → ℕ

@@ -12,7 +12,35 @@ name-at-spec =
     (tie.spec
     (λ c κs. search needs)
     (λ c κs. search needs)
-    (λ c. rw (lt-ltb _ _ (c .before .before .if1 .taken), c .before .stem-at .ensures, c .sized-at .ensures))
+    (λ c. rw (lt-ltb _ _ (c .before .before .if1 .taken), c .before .store-exclusive-at .ensures, c .size-at .ensures))
     (λ c κs. search needs)
-    (λ c. rw (le-ltb _ _ (c .before .before .if1 .left), lt-ltb _ _ (c .if2 .taken), c .before .pair-at .ensures))
-    (λ c. rw (le-ltb _ _ (c .before .before .if1 .left), le-ltb _ _ (c .if2 .left), c .before .pair-at .ensures)))
+    (λ c κs. search needs)
+    (λ c.
+    rw (le-ltb _ _ (c .before .before .before .if1 .left), lt-ltb _ _ (c .before .before .if2 .taken), c .before .exclusive-at .ensures, c .size-at2 .ensures))
+    (λ c κs. search needs)
+    (λ c κs. search needs)
+    (λ c.
+    rw (
+      le-ltb _ _ (c .before .before .before .before .if1 .left),
+      le-ltb _ _ (c .before .before .before .if2 .left),
+      lt-ltb _ _ (c .before .before .if3 .taken),
+      c .before .stem-at .ensures,
+      c .sized-at .ensures,
+    ))
+    (λ c κs. search needs)
+    (λ c.
+    rw (
+      le-ltb _ _ (c .before .before .before .before .if1 .left),
+      le-ltb _ _ (c .before .before .before .if2 .left),
+      le-ltb _ _ (c .before .before .if3 .left),
+      lt-ltb _ _ (c .if4 .taken),
+      c .before .pair-at .ensures,
+    ))
+    (λ c.
+    rw (
+      le-ltb _ _ (c .before .before .before .before .if1 .left),
+      le-ltb _ _ (c .before .before .before .if2 .left),
+      le-ltb _ _ (c .before .before .if3 .left),
+      le-ltb _ _ (c .if4 .left),
+      c .before .pair-at .ensures,
+    )))
