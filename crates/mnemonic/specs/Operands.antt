@@ -1,7 +1,7 @@
 -- The operands of an operation that aren't a place: a register of 32 bits (w), of 64 bits (x), or the hint of a prefetch.
 use Prim.Native.Nat.{ℕ}
 use mathlib.Core.Bool.{_||_}
-use lib.Dec.{eqb}
+use lib.Dec.{eqb, ltb}
 use Rattle.bits.specs.Choice.{pick}
 use Rattle.instruction.specs.Operations.{sizedCode, sizeOf, opcOf, pairOpc, accessScale}
 use Rattle.instruction.specs.declared.exclusive.AccessSize.{AccessSize}
@@ -34,4 +34,4 @@ pairOperand op = pick (eqb (pairOpc op) 0b00) Narrow Wide
 
 -- the data of the ninth family: x only at 8 bytes
 abbrev pub accessOperand : AccessSize → Operand
-accessOperand size = pick (eqb (accessScale size) 0b11) Wide Narrow
+accessOperand size = pick (ltb (accessScale size) 0b11) Narrow Wide

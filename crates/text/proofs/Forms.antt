@@ -6,15 +6,13 @@ use mathlib.Core.List.{List, [], _++_, append-assoc, append-nil}
 use native.Mathlib.Omega.{arith}
 use borrow.Author.Tests.{ne-eqb, leb-true, ltb-true}
 use lib.Dec.{eqb, leb, ltb, lit<}
-use lib.IntN.{ℤ, natAbs}
+use lib.IntN.{ℤ, pos, natAbs}
 use lib.ListN.{length}
 use Rattle.bits.specs.Choice.{pick}
 use Rattle.bits.specs.Bytes.{bytesOf}
 use Rattle.ascii.specs.Ascii.{asc, dec, signedDec}
 use Rattle.mnemonic.specs.declared.Mnemonic.{Mnemonic}
-use Rattle.mnemonic.specs.Operands.{Operand, Narrow, Wide, Hint, letterOf, pairOperand}
-use Rattle.instruction.specs.Operations.{pairOpc}
-use Rattle.instruction.specs.declared.operation.PairOp.{PairOp}
+use Rattle.mnemonic.specs.Operands.{Operand, Narrow, Wide, Hint, letterOf}
 use Rattle.mnemonic.specs.route.Named.{Known, known, told}
 use Rattle.text.specs.declared.piece.Piece.{Piece}
 use Rattle.text.specs.declared.store.Pieces.{Pieces}
@@ -55,8 +53,8 @@ front-is m name o r e =
     (append-assoc (name ++ asc " ") (firstPart (letterOf o) r) (restPart (letterOf o) r) ∙ ap (λ (l : List ℕ). name ++ asc " " ++ l) (first-rest o r)
     ∙ sym (append-assoc (name ++ asc " ") (operandText o r) (asc ", ")))
 
--- the operands of a pair are registers
-register-is : (b : Bool) (r : ℕ) → registerText (letterOf (pick b Narrow Wide)) r ≡ operandText (pick b Narrow Wide) r
+-- an operand that is a register
+pub register-is : (b : Bool) (r : ℕ) → registerText (letterOf (pick b Narrow Wide)) r ≡ operandText (pick b Narrow Wide) r
 register-is true r = refl
 register-is false r = refl
 
@@ -65,15 +63,16 @@ unfolding firstPart
 first-is true r = refl
 first-is false r = refl
 
-module _ (m : Mnemonic) (name : List ℕ) (op : PairOp) (r : ℕ) (e : known m ≡ told name (pairOperand op)) where
-  pub pair-operand : registerText (m .shape / 256) r ≡ operandText (pairOperand op) r
-  pair-operand = rw (ap (λ (k : Known). k .letter) e) (register-is (eqb (pairOpc op) 0) r)
+-- by a test whether it is a w
+module _ (m : Mnemonic) (name : List ℕ) (b : Bool) (r : ℕ) (e : known m ≡ told name (pick b Narrow Wide)) where
+  pub register-operand : registerText (m .shape / 256) r ≡ operandText (pick b Narrow Wide) r
+  register-operand = rw (ap (λ (k : Known). k .letter) e) (register-is b r)
 
-  pub pair-front : frontIn m r ≡ frontText name (pairOperand op) r
+  pub register-front : frontIn m r ≡ frontText name (pick b Narrow Wide) r
   unfolding frontIn frontText
-  pair-front =
-      rw (ap (λ (k : Known). k .letters) e, ap (λ (k : Known). k .letter) e, first-is (eqb (pairOpc op) 0) r)
-      (sym (append-assoc (name ++ asc " ") (operandText (pairOperand op) r) (asc ", ")))
+  register-front =
+      rw (ap (λ (k : Known). k .letters) e, ap (λ (k : Known). k .letter) e, first-is b r)
+      (sym (append-assoc (name ++ asc " ") (operandText (pick b Narrow Wide) r) (asc ", ")))
 
 pub fits : (m : Mnemonic) (name : List ℕ) (o : Operand) → known m ≡ told name o → known m .fits ≡ true
 fits m name o e = ap (λ (k : Known). k .fits) e
@@ -103,6 +102,11 @@ hidden-or-shown d false = refl
 pub offset-parts : {y z : ℤ} {far : ℕ} → y ≡ z → far ≡ natAbs y → pick (eqb far 0) [] (asc ", #") ++ pick (eqb far 0) [] (signedDec z) ++ asc "]" ≡ offsetTail z
 unfolding offsetTail
 offset-parts {y} {z} e f = rw (f, e) (hidden-or-shown (signedDec z) (eqb (natAbs z) 0))
+
+-- no offset
+pub no-offset : offsetTail (pos 0) ≡ asc "]"
+unfolding offsetTail
+no-offset = refl
 
 grouped : (f a base sign number close : List ℕ) → f ++ (a ++ base ++ sign) ++ number ++ close ≡ f ++ a ++ base ++ (sign ++ number ++ close)
 grouped f a base sign number close = simp append-assoc

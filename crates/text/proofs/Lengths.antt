@@ -10,14 +10,15 @@ use lib.IntN.{ℤ, pos, negsuc, natAbs}
 use lib.ListN.{length, length-append}
 use Rattle.bits.specs.Choice.{pick, lookup}
 use Rattle.bits.specs.Fields.{part, field}
+use Rattle.instruction.specs.declared.exclusive.AccessSize.{AccessSize}
 use Rattle.instruction.specs.declared.operation.SizedOp.{SizedOp}
 use Rattle.instruction.specs.declared.operation.PairOp.{PairOp}
 use Rattle.instruction.specs.declared.operation.PairMode.{PairMode}
 use Rattle.instruction.specs.declared.operation.PairMode.the-variants.{NoAllocate, Post, Offset, Pre}
 use Rattle.instruction.specs.declared.family.Family.{Family}
-use Rattle.instruction.specs.declared.family.Family.the-variants.{Empty, Literal, Pair, Ordered, Unscaled, PostIndex, PreIndex, Register, Unsigned}
+use Rattle.instruction.specs.declared.family.Family.the-variants.{Empty, Literal, Pair, Ordered, Unscaled, PostIndex, PreIndex, Register, Unsigned, Exclusive, StoreExclusive}
 use Rattle.instruction.specs.declared.family.IndexOperands.{IndexOperands}
-use Rattle.instruction.specs.Operations.{sizedCode, sizedAt, sizeOf, opcOf, pairOpc, pairLoad, modeCode}
+use Rattle.instruction.specs.Operations.{sizedCode, sizedAt, sizeOf, opcOf, pairOpc, pairLoad, modeCode, exclusiveCode, storeExclusiveCode, accessScale}
 use Rattle.instruction.specs.Undefined.{undefinedSize, undefinedOption}
 use Rattle.instruction.specs.Operands.{sizedIn, indexIn}
 use Rattle.instruction.specs.Table.{inSet, rowOf, undefined, allocated, instructionOf}
@@ -26,10 +27,10 @@ use Rattle.instruction.specs.route.Bounds.{Bounded}
 use Rattle.instruction.proofs.Codes.{sized}
 use Rattle.decoder.proofs.Decodes.{decoded-bounded}
 use Rattle.ascii.specs.Ascii.{asc, dec, signedDec}
-use Rattle.mnemonic.specs.Operands.{Operand, Narrow, Wide, Hint, sizedOperand, pairOperand}
-use Rattle.mnemonic.specs.Mnemonics.{sizeLetter, suffix, stemmed, plainName, unscaledName, orderedName, literalSized, pairName}
+use Rattle.mnemonic.specs.Operands.{Operand, Narrow, Wide, Hint, sizedOperand, pairOperand, accessOperand}
+use Rattle.mnemonic.specs.Mnemonics.{sizeLetter, suffix, stemmed, plainName, unscaledName, orderedName, literalSized, pairName, exclusiveName}
 use Rattle.text.specs.Hints.{unnamed, hintText}
-use Rattle.text.specs.Texts.{registerText, baseText, operandText, offsetTail, preTail, postTail, pairTail, extendName, amountText, extendText, indexTail, frontText, literalText, pairText, sizedText, familyText, textOf, textMost}
+use Rattle.text.specs.Texts.{registerText, baseText, operandText, offsetTail, preTail, postTail, pairTail, extendName, amountText, extendText, indexTail, frontText, literalText, pairText, sizedText, exclusiveText, storeExclusiveText, familyText, textOf, textMost}
 use Rattle.text.specs.Writing.{wordText}
 use Rattle.ascii.proofs.Decimals.{dec-short}
 
@@ -86,6 +87,7 @@ hint {r} h =
     (one-of 2 (asc "l1") (asc "l2") (asc "l3") (omega arith) (omega arith) (omega arith) (field 2 1 r)))
     (either (eqb (field 0 0 r) 0) (within (asc "keep") (omega arith)) (within (asc "strm") (omega arith))))
 
+-- a register of a pair, or the data of the ninth family
 pair-register : (b : Bool) {r : ℕ} → r < 32 → Short 3 (operandText (pick b Narrow Wide) r)
 pair-register true h = register 119 h
 pair-register false h = register 120 h
@@ -172,6 +174,16 @@ pair m op =
     (either (eqb (modeCode m) 0) (within (asc "n") (omega arith)) (within [] (omega arith)))))
     (either (eqb (pairOpc op) 1) (within (asc "sw") (omega arith)) (within [] (omega arith)))
 
+exclusive : (code : ℕ) (size : AccessSize) → Short 6 (exclusiveName code size)
+exclusive code size =
+    joined {m = 5}
+    (either (eqb code 0) (within (asc "stxr") (omega arith))
+    (either (eqb code 1) (within (asc "stlxr") (omega arith))
+    (either (eqb code 2) (within (asc "ldxr") (omega arith))
+    (either (eqb code 3) (within (asc "ldaxr") (omega arith))
+    (either (eqb code 5) (within (asc "stlr") (omega arith)) (either (eqb code 7) (within (asc "ldar") (omega arith)) (within [] (omega arith))))))))
+    (letter (accessScale size) false)
+
 -- ---- lines
 
 front : (n : ℕ) (name : List ℕ) (o : Operand) (r : ℕ) → Short n (name ++ asc " " ++ operandText o r) → Short (n + 2) (frontText name o r)
@@ -185,7 +197,7 @@ unfolding sizedText
 line n k name op t h s q m = wider (joined (joined (trail 1 (asc "[") (omega arith) (front n name (sizedOperand op) t s)) (base h)) q) (omega arith)
 
 family : (f : Family) → Bounded f → Short textMost (familyText f)
-unfolding literalText pairText
+unfolding literalText pairText exclusiveText storeExclusiveText
 family Empty b = within [] (omega arith)
 family (Literal op o) b =
     wider (joined (trail 1 (asc "#") (omega arith) (front 14 (plainName (literalSized op)) _ (o .target) (plain (literalSized op) (b .target)))) (signed 6 (o .offset) (omega (arith, b .offset)))) (omega arith)
@@ -201,6 +213,15 @@ family (PostIndex op o) b = line 14 9 (plainName op) op (o .target) (b .base) (p
 family (PreIndex op o) b = line 14 9 (plainName op) op (o .target) (b .base) (plain op (b .target)) (pre 2 (o .offset) (omega (arith, b .offset))) (omega arith)
 family (Register op o) b = line 14 15 (plainName op) op (o .target) (b .base) (plain op (b .target)) (index op o (b .index)) (omega arith)
 family (Unsigned op o) b = line 14 11 (plainName op) op (o .target) (b .base) (plain op (b .target)) (offset 4 (o .offset) (omega (arith, b .offset))) (omega arith)
+family (Exclusive op o) b =
+    let name = joined (trail 1 (asc " ") (omega arith) (exclusive (exclusiveCode op) (o .size))) (pair-register (ltb (accessScale (o .size)) 3) (b .target)) in
+    wider (trail 1 (asc "]") (omega arith) (joined (trail 1 (asc "[") (omega arith) (front 10 (exclusiveName (exclusiveCode op) (o .size)) (accessOperand (o .size)) (o .target) name)) (base (b .base)))) (omega arith)
+family (StoreExclusive op o) b =
+    let name = joined (trail 1 (asc " ") (omega arith) (exclusive (storeExclusiveCode op) (o .size))) (register 119 (b .status)) in
+    wider
+    (trail 1 (asc "]") (omega arith)
+    (joined (trail 3 (asc ", [") (omega arith) (joined (front 10 (exclusiveName (storeExclusiveCode op) (o .size)) Narrow (o .status) name) (pair-register (ltb (accessScale (o .size)) 3) (b .target)))) (base (b .base))))
+    (omega arith)
 
 allocated-bounded : (w : ℕ) → allocated w ≡ true → Bounded (instructionOf w .family)
 unfolding decodeOf

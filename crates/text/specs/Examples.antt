@@ -1,4 +1,4 @@
--- 01's starred examples as one list: "Examples, starred ones proved".
+-- 01's starred examples as one list: "Examples, starred ones proved"; and examples of 02, CR 3.
 use Prim.Native.Nat.{ℕ}
 use Prim.Native.String.{String}
 use mathlib.Core.Path.{_≡_}
@@ -30,7 +30,19 @@ examples =
     ∷ line 0x198000c5 "ldapursb x5, [x6]"
     ∷ line 0x58ffffe7 "ldr x7, #-4"
     ∷ line 0xf8800020 "prfum pldl1keep, [x1]"
+    ∷ line 0xc85f7c20 "ldxr x0, [x1]"
+    ∷ line 0x085fffe0 "ldaxrb w0, [sp]"
+    ∷ line 0xc8dffc20 "ldar x0, [x1]"
+    ∷ line 0x089ffc20 "stlrb w0, [x1]"
+    ∷ line 0xc8027c20 "stxr w2, x0, [x1]"
+    ∷ line 0x4802fc20 "stlxrh w2, w0, [x1]"
+    ∷ line 0x881f7fe0 "stxr wzr, w0, [sp]"
     ∷ answer 0xb8c00020 3
     ∷ answer 0x38e00862 3
     ∷ answer 0xa9400020 4
+    ∷ answer 0xc85f0020 3
+    ∷ answer 0xc85e7c20 3
+    ∷ answer 0xc8017c20 4
+    ∷ answer 0xc8027c22 4
+    ∷ answer 0xc8827c20 2
     ∷ []

@@ -1,4 +1,4 @@
--- The line of text of an instruction: 01, "Lines of text".
+-- The line of text of an instruction: 01, "Lines of text", and 02, CR 3.
 use Prim.Native.Nat.{ℕ, _+_, _%_}
 use mathlib.Core.List.{List, [], _∷_, _++_}
 use lib.Dec.{eqb}
@@ -6,8 +6,10 @@ use lib.IntN.{ℤ, natAbs}
 use Rattle.bits.specs.Choice.{pick}
 use Rattle.ascii.specs.Ascii.{asc, dec, signedDec}
 use Rattle.text.specs.Hints.{hintText}
-use Rattle.mnemonic.specs.Operands.{Operand, Narrow, Wide, Hint, sizedOperand, literalOperand, pairOperand}
-use Rattle.mnemonic.specs.Mnemonics.{plainName, unscaledName, orderedName, literalName, pairName}
+use Rattle.mnemonic.specs.Operands.{Operand, Narrow, Wide, Hint, sizedOperand, literalOperand, pairOperand, accessOperand}
+use Rattle.mnemonic.specs.Mnemonics.{plainName, unscaledName, orderedName, literalName, pairName, exclusiveName}
+use Rattle.instruction.specs.declared.exclusive.ExclusiveOp.{ExclusiveOp}
+use Rattle.instruction.specs.declared.exclusive.StoreExclusiveOp.{StoreExclusiveOp}
 use Rattle.instruction.specs.declared.operation.SizedOp.{SizedOp}
 use Rattle.instruction.specs.declared.operation.LiteralOp.{LiteralOp}
 use Rattle.instruction.specs.declared.operation.PairOp.{PairOp}
@@ -17,9 +19,11 @@ use Rattle.instruction.specs.declared.family.Instruction.{Instruction}
 use Rattle.instruction.specs.declared.family.LiteralOperands.{LiteralOperands}
 use Rattle.instruction.specs.declared.family.PairOperands.{PairOperands}
 use Rattle.instruction.specs.declared.family.IndexOperands.{IndexOperands}
+use Rattle.instruction.specs.declared.family.ExclusiveOperands.{ExclusiveOperands}
+use Rattle.instruction.specs.declared.family.StoreExclusiveOperands.{StoreExclusiveOperands}
 use Rattle.instruction.specs.declared.family.Family.{Family}
-use Rattle.instruction.specs.declared.family.Family.the-variants.{Empty, Literal, Pair, Ordered, Unscaled, PostIndex, PreIndex, Register, Unsigned}
-use Rattle.instruction.specs.Operations.{scaleOf}
+use Rattle.instruction.specs.declared.family.Family.the-variants.{Empty, Literal, Pair, Ordered, Unscaled, PostIndex, PreIndex, Register, Unsigned, Exclusive, StoreExclusive}
+use Rattle.instruction.specs.Operations.{scaleOf, exclusiveCode, storeExclusiveCode}
 
 -- ---- registers
 
@@ -90,6 +94,16 @@ pairText op o =
 unfoldable pub sizedText : List ℕ → SizedOp → ℕ → ℕ → List ℕ → List ℕ
 sizedText name op target base tail = frontText name (sizedOperand op) target ++ asc "[" ++ baseText base ++ tail
 
+unfoldable pub exclusiveText : ExclusiveOp → ExclusiveOperands → List ℕ
+exclusiveText op o =
+    frontText (exclusiveName (exclusiveCode op) (o .size)) (accessOperand (o .size)) (o .target) ++ asc "[" ++ baseText (o .base) ++ asc "]"
+
+-- the status, always a w, and the data
+unfoldable pub storeExclusiveText : StoreExclusiveOp → StoreExclusiveOperands → List ℕ
+storeExclusiveText op o =
+    frontText (exclusiveName (storeExclusiveCode op) (o .size)) Narrow (o .status) ++ operandText (accessOperand (o .size)) (o .target)
+    ++ asc ", [" ++ baseText (o .base) ++ asc "]"
+
 abbrev pub familyText : Family → List ℕ
 familyText Empty = []
 familyText (Literal op o) = literalText op o
@@ -100,6 +114,8 @@ familyText (PostIndex op o) = sizedText (plainName op) op (o .target) (o .base) 
 familyText (PreIndex op o) = sizedText (plainName op) op (o .target) (o .base) (preTail (o .offset))
 familyText (Register op o) = sizedText (plainName op) op (o .target) (o .base) (indexTail op o)
 familyText (Unsigned op o) = sizedText (plainName op) op (o .target) (o .base) (offsetTail (o .offset))
+familyText (Exclusive op o) = exclusiveText op o
+familyText (StoreExclusive op o) = storeExclusiveText op o
 
 unfoldable pub textOf : Instruction → List ℕ
 textOf i = familyText (i .family)

@@ -4,6 +4,9 @@ use crate::index;
 use crate::piece::Piece;
 use crate::register;
 use crate::store::Pieces;
+use instruction::AccessSize;
+use instruction::ExclusiveOp;
+use instruction::ExclusiveOperands;
 use instruction::Family;
 use instruction::IndexOperands;
 use instruction::LiteralOp;
@@ -13,6 +16,8 @@ use instruction::PairMode;
 use instruction::PairOp;
 use instruction::PairOperands;
 use instruction::SizedOp;
+use instruction::StoreExclusiveOp;
+use instruction::StoreExclusiveOperands;
 use mnemonic::Mnemonic;
 use mnemonic::Stem;
 ghost use mathlib.Core.Path.{_≡_};
@@ -20,11 +25,12 @@ ghost use mathlib.Core.Bool.{true};
 ghost use mathlib.Core.List.{_++_};
 ghost use Prim.Native.Nat.{_<_};
 ghost use lib.IntN.{natAbs};
-ghost use Rattle.instruction.specs.route.Bounds.{LiteralBounds, PairBounds, OffsetBounds, IndexBounds, Bounded};
+ghost use Rattle.instruction.specs.route.Bounds.{LiteralBounds, PairBounds, OffsetBounds, IndexBounds, ExclusiveBounds, StoreExclusiveBounds, Bounded};
 ghost use Rattle.ascii.specs.Ascii.{asc};
 ghost use Rattle.mnemonic.specs.Mnemonics.{plainName, sizedName};
+ghost use Rattle.mnemonic.specs.Operands.{letterOf, accessOperand};
 ghost use Rattle.mnemonic.specs.route.Named.{known};
-ghost use Rattle.text.specs.Texts.{baseText, offsetTail, preTail, postTail, pairTail, indexTail, literalText, pairText, sizedText, familyText};
+ghost use Rattle.text.specs.Texts.{baseText, offsetTail, preTail, postTail, pairTail, indexTail, literalText, pairText, sizedText, exclusiveText, storeExclusiveText, familyText};
 ghost use Rattle.text.specs.route.Pieces.{textIn, Fit};
 ghost use Rattle.text.specs.route.Lines.{Made, frontIn};
 
@@ -42,6 +48,8 @@ pub fn pieces_of(family: Family) -> Pieces
         Family::PreIndex(op, o) => pre(op, o),
         Family::Register(op, o) => indexed(op, o),
         Family::Unsigned(op, o) => offset(Stem::Plain, op, o),
+        Family::Exclusive(op, o) => exclusive(op, o),
+        Family::StoreExclusive(op, o) => store_exclusive(op, o),
     }
 }
 
@@ -122,4 +130,34 @@ fn indexed(op: SizedOp, o: IndexOperands) -> Pieces
 {
     let m = mnemonic::sized_name(Stem::Plain, op);
     index::indexed(m, o, instruction::scale(op))
+}
+
+fn exclusive(op: ExclusiveOp, o: ExclusiveOperands) -> Pieces
+    requires { ⌜ ExclusiveBounds o ⌝ }
+    ensures { λ r. ⌜ Made (exclusiveText op o) r ⌝ }
+{
+    let size = o.size;
+    let m = mnemonic::exclusive_name(op, size);
+    form::plain(m, o.target, form::none(), o.base, 0)
+}
+
+fn store_exclusive(op: StoreExclusiveOp, o: StoreExclusiveOperands) -> Pieces
+    requires { ⌜ StoreExclusiveBounds o ⌝ }
+    ensures { λ r. ⌜ Made (storeExclusiveText op o) r ⌝ }
+{
+    let size = o.size;
+    let m = mnemonic::store_exclusive_name(op, size);
+    let data = register::operand(data_letter(size), o.target);
+    form::plain(m, o.status, data, o.base, 0)
+}
+
+fn data_letter(size: AccessSize) -> u8
+    ensures { λ r. ⌜ r ≡ letterOf (accessOperand size) ⌝ }
+{
+    match size {
+        AccessSize::Byte => b'w',
+        AccessSize::Half => b'w',
+        AccessSize::Word => b'w',
+        AccessSize::Double => b'x',
+    }
 }
