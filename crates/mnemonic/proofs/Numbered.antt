@@ -34,7 +34,7 @@ stem-within Stem.Plain = (omega arith, omega arith)
 stem-within Stem.Unscale = (omega arith, omega arith)
 stem-within Stem.Order = (omega arith, omega arith)
 
-exclusive-after : (op : ExclusiveOp) → 2 ≤ exclusiveCode op
+pub exclusive-after : (op : ExclusiveOp) → 2 ≤ exclusiveCode op
 exclusive-after ExclusiveOp.LoadExclusive = omega arith
 exclusive-after ExclusiveOp.LoadAcquireExclusive = omega arith
 exclusive-after ExclusiveOp.StoreRelease = omega arith

@@ -5,11 +5,11 @@ use lib.IntN.{ℤ}
 use borrow.Author.Tests.{ne-eqb}
 use Rattle.bits.specs.Choice.{lookup}
 use Rattle.instruction.specs.Operations.{sizeOf, opcOf}
-use Rattle.reader.specs.Types.{Scan, Name, Tail, SizedOp, LiteralOp, LiteralWord, PairOp, PairMode, Family, Literal, Pair, LiteralOperands, PairOperands}
-use Rattle.reader.specs.route.Names.{nameFor}
+use Rattle.reader.specs.Types.{Scan, Name, Tail, SizedOp, LiteralOp, LiteralWord, PairOp, PairMode, Family, Literal, Pair, AccessSize, LiteralOperands, PairOperands}
+use Rattle.reader.specs.route.Names.{letterFor, nameFor}
 use Rattle.reader.specs.route.Targets.{targetAt}
 use Rattle.reader.specs.route.Tails.{tailAt, offsetAt, optionAt, scaledAt}
-use Rattle.reader.specs.route.Build.{keyIn, numIn, registerOf, literalTable, literalFor, literalFrom, offsetFrom, indexFrom, pairFrom, modeFor, bracketedFor, plainFor, familyFor, buildOf}
+use Rattle.reader.specs.route.Build.{keyIn, numIn, registerOf, literalTable, literalFor, literalFrom, offsetFrom, indexFrom, pairFrom, modeFor, bracketedFor, plainFor, exclusiveFrom, sizeFor, storeExclusiveFrom, familyFor, buildOf}
 
 -- an arm of a match
 pub by-case : {A B : Type 0} (f : A → B) {a b : A} {r : B} → a ≡ b → r ≡ f b → r ≡ f a
@@ -38,6 +38,16 @@ module _ (s : Scan) where
       → z ≡ offsetAt (keyIn s 5) (numIn s 5) → record { first = t; second = u; base = n; mode = mode; offset = z } ≡ pairFrom mode s
   unfolding pairFrom
   pair-is mode a b d e = cc
+
+  pub exclusive-is : (size : AccessSize) {t n : ℕ} → t ≡ registerOf (numIn s 1) → n ≡ registerOf (numIn s 4)
+      → record { size = size; target = t; base = n } ≡ exclusiveFrom size s
+  unfolding exclusiveFrom
+  exclusive-is size a b = cc
+
+  pub store-exclusive-is : (size : AccessSize) {z : AccessSize} {l a t n : ℕ} → l ≡ letterFor (keyIn s 2) → z ≡ sizeFor size l → a ≡ registerOf (numIn s 1)
+      → t ≡ registerOf (numIn s 2) → n ≡ registerOf (numIn s 4) → record { size = z; status = a; target = t; base = n } ≡ storeExclusiveFrom size s
+  unfolding storeExclusiveFrom
+  store-exclusive-is size p q a b d = cc
 
   pub bracket-is : (op : SizedOp) {x : Tail} {r : Family} → keyIn s 2 ≡ 0 → x ≡ tailAt (keyIn s 5) → r ≡ bracketedFor x op s → r ≡ plainFor op s
   unfolding plainFor

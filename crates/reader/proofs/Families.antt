@@ -3,21 +3,23 @@ use Prim.Native.Nat.{ℕ, _<_}
 use mathlib.Core.Path.{_≡_, refl, ap, _∙_}
 use mathlib.Core.Bool.{Bool, true, false}
 use mathlib.Core.List.{List, _++_, foldl}
-use lib.Dec.{eqb}
-use lib.IntN.{natAbs}
+use native.Mathlib.Omega.{arith}
+use lib.Dec.{eqb, ltb}
+use lib.IntN.{pos, natAbs}
 use Rattle.bits.specs.Choice.{pick}
-use Rattle.instruction.specs.Operations.{pairOpc}
+use Rattle.instruction.specs.Operations.{pairOpc, accessScale}
+use Rattle.instruction.specs.route.Bounds.{ExclusiveBounds, StoreExclusiveBounds}
 use Rattle.ascii.specs.Ascii.{asc}
 use Rattle.mnemonic.specs.Mnemonics.{literalSized, pairName}
-use Rattle.mnemonic.specs.Operands.{Narrow, Wide, sizedOperand, pairOperand}
-use Rattle.text.specs.Texts.{operandText, baseText, frontText, offsetTail, preTail, postTail, indexTail, literalText, pairText, sizedText, familyText}
-use Rattle.reader.specs.Types.{Scan, Tail, SizedOp, Prefetch, LiteralOp, PairOp, PairMode, NoAllocate, Post, Offset, Pre, Family, Empty, Literal, Pair, Ordered, Unscaled, PostIndex, PreIndex, Register, Unsigned, LiteralOperands, PairOperands, OffsetOperands, IndexOperands}
+use Rattle.mnemonic.specs.Operands.{Narrow, Wide, sizedOperand, pairOperand, accessOperand}
+use Rattle.text.specs.Texts.{operandText, baseText, frontText, offsetTail, preTail, postTail, indexTail, literalText, pairText, sizedText, exclusiveText, storeExclusiveText, familyText}
+use Rattle.reader.specs.Types.{Scan, Tail, SizedOp, Prefetch, LiteralOp, PairOp, PairMode, NoAllocate, Post, Offset, Pre, Family, Empty, Literal, Pair, Ordered, Unscaled, PostIndex, PreIndex, Register, Unsigned, Exclusive, StoreExclusive, ExclusiveOp, StoreExclusiveOp, AccessSize, LiteralOperands, PairOperands, OffsetOperands, IndexOperands, ExclusiveOperands, StoreExclusiveOperands}
 use Rattle.reader.specs.route.Scan.{stepOf, scanStart}
-use Rattle.reader.specs.route.Build.{modeFor, pairFrom, buildOf}
-use Rattle.reader.proofs.Named.{plain-named, unscaled-named, ordered-named, pair-named, noallocate-named, literal-for, target-is}
+use Rattle.reader.specs.route.Build.{modeFor, pairFrom, sizeFor, buildOf}
+use Rattle.reader.proofs.Named.{plain-named, unscaled-named, ordered-named, pair-named, noallocate-named, exclusive-named, widest, store-exclusive-named, size-for, literal-for, letter-is, target-is}
 use Rattle.reader.proofs.Scans.{operandNum}
 use Rattle.reader.proofs.Tails.{Words, here, OffsetEnd, offset-end, pre-end, post-end, index-end}
-use Rattle.reader.proofs.Fronts.{single, double, single-goes, double-goes, literal-goes, made, built-named, built-plain, offset-from, pair-from, index-from, literal-built}
+use Rattle.reader.proofs.Fronts.{single, double, single-goes, double-goes, literal-goes, made, built-named, built-plain, offset-from, pair-from, index-from, exclusive-from, store-exclusive-from, literal-built}
 
 -- ---- in range
 
@@ -53,6 +55,8 @@ InRange (PostIndex op o) = OffsetRange o
 InRange (PreIndex op o) = OffsetRange o
 InRange (Register op o) = IndexRange o
 InRange (Unsigned op o) = OffsetRange o
+InRange (Exclusive op o) = ExclusiveBounds o
+InRange (StoreExclusive op o) = StoreExclusiveBounds o
 
 -- ---- each family
 
@@ -130,14 +134,14 @@ module _ (op : PairOp) (o : PairOperands) (v : PairRange o) where
   unfolding scanned pairText
   noallocate-comes m =
       let N = noallocate-named op in
-      let e = offset-end (double N (o .first) (v .first) (o .second) (o .base)) (o .offset) (v .offset) in
+      let e = offset-end (double N (o .first) (v .first) (pairOperand op) (o .second) (o .base)) (o .offset) (v .offset) in
       rw m
-      (ap buildOf (double-goes N (o .first) (v .first) (o .second) (o .base) (v .second) (v .base) (offsetTail (o .offset)))
+      (ap buildOf (double-goes N (o .first) (v .first) (pairOperand op) (o .second) (o .base) (v .second) (v .base) (offsetTail (o .offset)))
       ∙ built-named (e .kept) (N .reads (o .first) (v .first)) ∙ ap (λ (x : PairOperands). made (Pair op x)) (pair-from NoAllocate (pair-num op (o .first)) (pair-num op (o .second)) (v .first) (v .second) (v .base) e))
 
   -- the words before the tail of a pair with allocation
   words : Words
-  words = double (pair-named op) (o .first) (v .first) (o .second) (o .base)
+  words = double (pair-named op) (o .first) (v .first) (pairOperand op) (o .second) (o .base)
 
   -- the mode is told by the tail
   allocate-comes : {x : Tail} (tail : List ℕ) → OffsetEnd words x (o .offset) (foldl stepOf (here words) tail)
@@ -146,7 +150,7 @@ module _ (op : PairOp) (o : PairOperands) (v : PairRange o) where
   unfolding words
   allocate-comes {x} tail e =
       let N = pair-named op in
-      ap buildOf (double-goes N (o .first) (v .first) (o .second) (o .base) (v .second) (v .base) tail) ∙ built-named (e .kept) (N .reads (o .first) (v .first))
+      ap buildOf (double-goes N (o .first) (v .first) (pairOperand op) (o .second) (o .base) (v .second) (v .base) tail) ∙ built-named (e .kept) (N .reads (o .first) (v .first))
       ∙ ap (λ (k : Tail). made (Pair op (pairFrom (modeFor k) (foldl stepOf (here words) tail)))) (e .tail)
       ∙ ap (λ (p : PairOperands). made (Pair op p)) (pair-from (modeFor x) (pair-num op (o .first)) (pair-num op (o .second)) (v .first) (v .second) (v .base) e)
 
@@ -156,6 +160,28 @@ module _ (op : PairOp) (o : PairOperands) (v : PairRange o) where
   by-mode Post m = rw m (allocate-comes (postTail (o .offset)) (post-end words (o .offset) (v .offset)))
   by-mode Offset m = rw m (allocate-comes (offsetTail (o .offset)) (offset-end words (o .offset) (v .offset)))
   by-mode Pre m = rw m (allocate-comes (preTail (o .offset)) (pre-end words (o .offset) (v .offset)))
+
+data-num : (size : AccessSize) (r : ℕ) → operandNum (accessOperand size) r ≡ r
+data-num size r = register-num (ltb (accessScale size) 3) r
+
+exclusive-comes : (op : ExclusiveOp) (o : ExclusiveOperands) → ExclusiveBounds o → Comes (Exclusive op o)
+unfolding scanned exclusiveText offsetTail
+exclusive-comes op o v =
+    let N = exclusive-named op (o .size) in
+    let e = offset-end (single N (o .target) (v .target) (o .base)) (pos 0) (omega arith) in
+    ap buildOf (single-goes N (o .target) (v .target) (o .base) (v .base) (asc "]")) ∙ built-named (e .kept) (N .reads (o .target) (v .target))
+    ∙ ap (λ (x : ExclusiveOperands). made (Exclusive op x)) (exclusive-from (o .size) (e .kept) (data-num (o .size) (o .target)) (v .target) (v .base))
+
+store-exclusive-comes : (op : StoreExclusiveOp) (o : StoreExclusiveOperands) → StoreExclusiveBounds o → Comes (StoreExclusive op o)
+unfolding scanned storeExclusiveText offsetTail
+store-exclusive-comes op o v =
+    let N = store-exclusive-named op (o .size) in
+    let stored = accessOperand (o .size) in
+    let e = offset-end (double N (o .status) (v .status) stored (o .target) (o .base)) (pos 0) (omega arith) in
+    let told = ap (sizeFor (widest (o .size))) (letter-is stored (o .target) (v .target)) ∙ size-for (o .size) in
+    ap buildOf (double-goes N (o .status) (v .status) stored (o .target) (o .base) (v .target) (v .base) (asc "]")) ∙ built-named (e .kept) (N .reads (o .status) (v .status))
+    ∙ ap (λ (x : StoreExclusiveOperands). made (StoreExclusive op x))
+    (store-exclusive-from (widest (o .size)) (o .size) (e .kept) told refl (data-num (o .size) (o .target)) (v .status) (v .target) (v .base))
 
 pub family-comes : (F : Family) → InRange F → buildOf (foldl stepOf scanStart (familyText F)) ≡ made F
 unfolding scanned
@@ -168,3 +194,5 @@ family-comes (PostIndex op o) v = post-comes op o v
 family-comes (PreIndex op o) v = pre-comes op o v
 family-comes (Register op o) v = index-comes op o v
 family-comes (Unsigned op o) v = unsigned-comes op o v
+family-comes (Exclusive op o) v = exclusive-comes op o v
+family-comes (StoreExclusive op o) v = store-exclusive-comes op o v

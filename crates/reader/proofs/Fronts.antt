@@ -8,12 +8,12 @@ use lib.IntN.{ℤ, pos, negsuc, natAbs}
 use Rattle.ascii.specs.Ascii.{asc, signedDec}
 use Rattle.text.specs.Texts.{operandText, baseText, frontText}
 use Rattle.mnemonic.specs.Operands.{Operand}
-use Rattle.reader.specs.Types.{Scan, Name, Stem, Tail, SizedOp, PairMode, Family, Literal, Instruction}
+use Rattle.reader.specs.Types.{Scan, Name, Stem, Tail, SizedOp, PairMode, AccessSize, Family, Literal, Instruction}
 use Rattle.reader.specs.route.Scan.{packed, plainOf, stepOf, scanStart}
-use Rattle.reader.specs.route.Names.{nameFor}
+use Rattle.reader.specs.route.Names.{letterFor, nameFor}
 use Rattle.reader.specs.route.Targets.{targetAt}
 use Rattle.reader.specs.route.Tails.{tailAt, offsetAt}
-use Rattle.reader.specs.route.Build.{keyIn, literalFor, literalFrom, offsetFrom, indexFrom, pairFrom, bracketedFor, plainFor, familyFor, buildOf}
+use Rattle.reader.specs.route.Build.{keyIn, literalFor, literalFrom, offsetFrom, indexFrom, pairFrom, bracketedFor, plainFor, exclusiveFrom, sizeFor, storeExclusiveFrom, familyFor, buildOf}
 use Rattle.reader.proofs.Scans.{Scans, then, piece, word, operandKey, operandNum, baseKey, signKey, operand-scan, base-scan, signed-scan}
 use Rattle.reader.proofs.Named.{Named, named, target-is}
 use Rattle.reader.proofs.Tails.{Words, here, Kept, OffsetEnd, IndexEnd, plus-back, minus-back}
@@ -43,15 +43,15 @@ module _ {name : List ℕ} {o : Operand} {m : Name} (N : Named name o m) (t : �
         num4 = n;
       }
 
-  abbrev pub double : ℕ → ℕ → Words
-  double u n =
+  abbrev pub double : Operand → ℕ → ℕ → Words
+  double p u n =
       record {
         key0 = N .key;
         num0 = N .num;
         key1 = packed (operandKey o t) 44;
         num1 = operandNum o t;
-        key2 = packed (operandKey o u) 44;
-        num2 = operandNum o u;
+        key2 = packed (operandKey p u) 44;
+        num2 = operandNum p u;
         key4 = baseKey (packed 0 91) n;
         num4 = n;
       }
@@ -69,14 +69,14 @@ module _ {name : List ℕ} {o : Operand} {m : Name} (N : Named name o m) (t : �
   single-goes n hn tail =
       then (then (then front (piece (asc "[") refl)) (base-scan (opened 0 0) (lit< tt) (lit< tt) (packed 0 91) n hn)) (piece tail refl) .goes
 
-  pub double-goes : (u n : ℕ) → u < 32 → n < 32 → (tail : List ℕ)
-      → foldl stepOf scanStart (frontText name o t ++ operandText o u ++ asc ", [" ++ baseText n ++ tail) ≡ foldl stepOf (here (double u n)) tail
+  pub double-goes : (p : Operand) (u n : ℕ) → u < 32 → n < 32 → (tail : List ℕ)
+      → foldl stepOf scanStart (frontText name o t ++ operandText p u ++ asc ", [" ++ baseText n ++ tail) ≡ foldl stepOf (here (double p u n)) tail
   unfolding plainOf stepOf
-  double-goes u n hu hn tail =
+  double-goes p u n hu hn tail =
       then (then (then (then front
-      (operand-scan (second (N .key) (N .num) (packed (operandKey o t) 44) (operandNum o t)) (lit< tt) (lit< tt) o u hu))
+      (operand-scan (second (N .key) (N .num) (packed (operandKey o t) 44) (operandNum o t)) (lit< tt) (lit< tt) p u hu))
       (piece (asc ", [") refl))
-      (base-scan (opened (packed (operandKey o u) 44) (operandNum o u)) (lit< tt) (lit< tt) (packed 0 91) n hn))
+      (base-scan (opened (packed (operandKey p u) 44) (operandNum p u)) (lit< tt) (lit< tt) (packed 0 91) n hn))
       (piece tail refl) .goes
 
   pub literal-goes : (z : ℤ) → natAbs z < 0x20_0000
@@ -118,6 +118,18 @@ module _ {w : Words} {s : Scan} where
   unfolding pairFrom
   pair-from mode p q h1 h2 h4 e =
       rw (e .kept .num1, e .kept .num2, e .kept .num4, e .offset, p, q, mod-eq-of-lt h1, mod-eq-of-lt h2, mod-eq-of-lt h4)
+
+  -- registers and nothing behind the base
+  pub exclusive-from : {t : ℕ} (size : AccessSize) → Kept w s → w .num1 ≡ t → t < 32 → w .num4 < 32
+      → exclusiveFrom size s ≡ record { size = size; target = t; base = w .num4 }
+  unfolding exclusiveFrom
+  exclusive-from size k p h1 h4 = rw (k .num1, k .num4, p, mod-eq-of-lt h1, mod-eq-of-lt h4)
+
+  pub store-exclusive-from : {a b : ℕ} (found size : AccessSize) → Kept w s → sizeFor found (letterFor (w .key2)) ≡ size → w .num1 ≡ a → w .num2 ≡ b → a < 32
+      → b < 32 → w .num4 < 32 → storeExclusiveFrom found s ≡ record { size = size; status = a; target = b; base = w .num4 }
+  unfolding storeExclusiveFrom
+  store-exclusive-from found size k e p q h1 h2 h4 =
+      rw (k .key2, k .num1, k .num2, k .num4, e, p, q, mod-eq-of-lt h1, mod-eq-of-lt h2, mod-eq-of-lt h4)
 
 -- the one line without a base
 pub literal-built : {name : List ℕ} {o : Operand} (op : SizedOp) (N : Named name o (Name.Sized Stem.Plain op)) (t : ℕ) → t < 32 → (z : ℤ) → natAbs z < 0x20_0000

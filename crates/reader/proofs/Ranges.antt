@@ -11,13 +11,13 @@ use Rattle.bits.specs.Fields.{part}
 use Rattle.bits.proofs.Choices.{neither}
 use Rattle.bits.proofs.Parts.{part-lt, cut, Has}
 use Rattle.instruction.specs.declared.row.Row.{Row}
-use Rattle.instruction.specs.declared.row.Row.the-variants.{NoRow, LiteralRow, PairRow, OrderedRow, UnscaledRow, PostRow, PreRow, RegisterRow, UnsignedRow}
+use Rattle.instruction.specs.declared.row.Row.the-variants.{NoRow, LiteralRow, PairRow, OrderedRow, UnscaledRow, PostRow, PreRow, RegisterRow, UnsignedRow, LoadExclusiveRow, StoreExclusiveRow, AcquireReleaseRow}
 use Rattle.instruction.specs.Undefined.{sizeOpc, undefinedSize, undefinedPrefetch, undefinedOption}
 use Rattle.instruction.specs.Operands.{sizedIn, literalIn, pairOpIn, pairIn, signedIn, indexIn, unsignedIn}
 use Rattle.instruction.specs.Table.{columnsOf}
 use Rattle.instruction.proofs.Rows.{prefetch-no, option-no}
 use Rattle.instruction.proofs.Codes.{sized-code}
-use Rattle.instruction.proofs.Bounds.{literal-bounds, pair-bounds, signed-bounds, index-bounds, unsigned-bounds}
+use Rattle.instruction.proofs.Bounds.{literal-bounds, pair-bounds, signed-bounds, index-bounds, unsigned-bounds, exclusive-bounds, store-exclusive-bounds}
 use Rattle.reader.specs.Types.{Prefetch}
 use Rattle.reader.proofs.Families.{OffsetRange, IndexRange, LiteralRange, PairRange, InRange}
 
@@ -80,3 +80,6 @@ module _ (w : ℕ) where
   in-range PreRow h u = signed-range
   in-range RegisterRow h u = index-range u
   in-range UnsignedRow h u = unsigned-range
+  in-range LoadExclusiveRow h u = exclusive-bounds w
+  in-range StoreExclusiveRow h u = store-exclusive-bounds w
+  in-range AcquireReleaseRow h u = exclusive-bounds w

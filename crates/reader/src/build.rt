@@ -1,5 +1,6 @@
 // The one instruction whose line a scanned text can be.
 use crate::first::target_at;
+use crate::name::letter_for;
 use crate::name::name_for;
 use crate::scan::Scan;
 use crate::tail::Tail;
@@ -7,6 +8,8 @@ use crate::tail::offset_at;
 use crate::tail::option_at;
 use crate::tail::scaled_at;
 use crate::tail::tail_at;
+use instruction::AccessSize;
+use instruction::ExclusiveOperands;
 use instruction::Family;
 use instruction::IndexOperands;
 use instruction::Instruction;
@@ -16,10 +19,11 @@ use instruction::OffsetOperands;
 use instruction::PairMode;
 use instruction::PairOperands;
 use instruction::SizedOp;
+use instruction::StoreExclusiveOperands;
 use mnemonic::Name;
 use mnemonic::Stem;
 ghost use mathlib.Core.Path.{_≡_};
-ghost use Rattle.reader.specs.route.Build.{registerOf, literalFor, literalFrom, offsetFrom, indexFrom, pairFrom, modeFor, bracketedFor, plainFor, sizedFor, familyFor, buildOf};
+ghost use Rattle.reader.specs.route.Build.{registerOf, literalFor, literalFrom, offsetFrom, indexFrom, pairFrom, modeFor, bracketedFor, plainFor, sizedFor, exclusiveFrom, sizeFor, storeExclusiveFrom, familyFor, buildOf};
 
 fn register(number: u64) -> u32
     ensures { λ r. ⌜ r ≡ registerOf number ⌝ }
@@ -125,6 +129,38 @@ fn sized_for(stem: Stem, op: SizedOp, s: Scan) -> Family
     }
 }
 
+fn exclusive_from(size: AccessSize, s: Scan) -> ExclusiveOperands
+    ensures { λ r. ⌜ r ≡ exclusiveFrom size s ⌝ }
+{
+    ExclusiveOperands {
+        size,
+        target: register(s.nums[1]),
+        base: register(s.nums[4]),
+    }
+}
+
+// The names of store-exclusives of a word and of a doubleword are the same: the letter of the data tells.
+fn size_for(size: AccessSize, letter: u16) -> AccessSize
+    ensures { λ r. ⌜ r ≡ sizeFor size letter ⌝ }
+{
+    if (instruction::access_scale(size) == 3) & (letter == 0x77) {
+        return AccessSize::Word;
+    }
+    size
+}
+
+fn store_exclusive_from(size: AccessSize, s: Scan) -> StoreExclusiveOperands
+    ensures { λ r. ⌜ r ≡ storeExclusiveFrom size s ⌝ }
+{
+    let told = size_for(size, letter_for(s.keys[2]));
+    StoreExclusiveOperands {
+        size: told,
+        status: register(s.nums[1]),
+        target: register(s.nums[2]),
+        base: register(s.nums[4]),
+    }
+}
+
 fn family_for(name: Name, s: Scan) -> Family
     ensures { λ r. ⌜ r ≡ familyFor name s ⌝ }
 {
@@ -132,6 +168,10 @@ fn family_for(name: Name, s: Scan) -> Family
         Name::Sized(stem, op) => sized_for(stem, op, s),
         Name::NoAllocatePair(op) => Family::Pair(op, pair_from(PairMode::NoAllocate, s)),
         Name::AllocatePair(op) => Family::Pair(op, pair_from(mode_for(tail_at(s.keys[5])), s)),
+        Name::Exclusive(op, size) => Family::Exclusive(op, exclusive_from(size, s)),
+        Name::StoreExclusive(op, size) => {
+            Family::StoreExclusive(op, store_exclusive_from(size, s))
+        }
     }
 }
 

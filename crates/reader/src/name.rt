@@ -11,7 +11,7 @@ pub fn name_for(operand: u64, name: u64) -> Name
     ensures { λ r. ⌜ r ≡ nameFor operand name ⌝ }
 {
     let letter = letter_for(operand);
-    let mut number = 64;
+    let mut number = mnemonic::NAMES;
     while number > 0 {
         number -= 1;
         if is_name(number, name, letter) {
@@ -21,8 +21,8 @@ pub fn name_for(operand: u64, name: u64) -> Name
     mnemonic::name_at(0)
 }
 
-// The letter that mnemonics have for a first operand: w, x, or # for all others.
-fn letter_for(operand: u64) -> u16
+// The letter of an operand by its key: w, x, or # for all others.
+pub fn letter_for(operand: u64) -> u16
     ensures { λ r. ⌜ r ≡ letterFor operand ⌝ }
 {
     match operand {

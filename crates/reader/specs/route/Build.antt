@@ -1,14 +1,15 @@
 -- The one instruction whose line a scanned text can be. It is a guess: whether the text is its line is seen by writing it.
 use Prim.Native.Nat.{ℕ, _+_, _*_, _%_}
+use mathlib.Core.Bool.{_&&_}
 use mathlib.Core.List.{List, [], _∷_}
 use lib.Dec.{eqb}
 use lib.ListN.{getD}
 use Rattle.bits.specs.Choice.{pick, lookup}
-use Rattle.instruction.specs.Operations.{sizeOf, opcOf}
-use Rattle.reader.specs.route.Names.{nameFor}
+use Rattle.instruction.specs.Operations.{sizeOf, opcOf, accessScale}
+use Rattle.reader.specs.route.Names.{letterFor, nameFor}
 use Rattle.reader.specs.route.Targets.{targetAt}
 use Rattle.reader.specs.route.Tails.{tailAt, offsetAt, optionAt, scaledAt}
-use Rattle.reader.specs.Types.{Scan, Name, Stem, Tail, AtOffset, Before, After, Indexed, SizedOp, LiteralOp, LiteralWord, LiteralDouble, LiteralSignedWord, LiteralPrefetch, PairMode, NoAllocate, Post, Offset, Pre, Family, Literal, Pair, Ordered, Unscaled, PostIndex, PreIndex, Register, Unsigned, Instruction, LiteralOperands, PairOperands, OffsetOperands, IndexOperands}
+use Rattle.reader.specs.Types.{Scan, Name, Stem, Tail, AtOffset, Before, After, Indexed, SizedOp, LiteralOp, LiteralWord, LiteralDouble, LiteralSignedWord, LiteralPrefetch, PairMode, NoAllocate, Post, Offset, Pre, Family, Literal, Pair, Ordered, Unscaled, PostIndex, PreIndex, Register, Unsigned, Exclusive, StoreExclusive, AccessSize, Word, Instruction, LiteralOperands, PairOperands, OffsetOperands, IndexOperands, ExclusiveOperands, StoreExclusiveOperands}
 
 -- the key and the number of a word
 abbrev pub keyIn : Scan → ℕ → ℕ
@@ -74,10 +75,28 @@ sizedFor Stem.Plain op s = plainFor op s
 sizedFor Stem.Unscale op s = Unscaled op (offsetFrom s)
 sizedFor Stem.Order op s = Ordered op (offsetFrom s)
 
+unfoldable pub exclusiveFrom : AccessSize → Scan → ExclusiveOperands
+exclusiveFrom size s = record { size = size; target = registerOf (numIn s 1); base = registerOf (numIn s 4) }
+
+-- the name of a store-exclusive doesn't tell a word from a doubleword: the letter of the data does, which is the second operand
+unfoldable pub sizeFor : AccessSize → ℕ → AccessSize
+sizeFor size letter = pick (eqb (accessScale size) 0b11 && eqb letter 0x77) Word size
+
+unfoldable pub storeExclusiveFrom : AccessSize → Scan → StoreExclusiveOperands
+storeExclusiveFrom size s =
+    record {
+      size = sizeFor size (letterFor (keyIn s 2));
+      status = registerOf (numIn s 1);
+      target = registerOf (numIn s 2);
+      base = registerOf (numIn s 4);
+    }
+
 abbrev pub familyFor : Name → Scan → Family
 familyFor (Name.Sized stem op) s = sizedFor stem op s
 familyFor (Name.NoAllocatePair op) s = Pair op (pairFrom NoAllocate s)
 familyFor (Name.AllocatePair op) s = Pair op (pairFrom (modeFor (tailAt (keyIn s 5))) s)
+familyFor (Name.Exclusive op size) s = Exclusive op (exclusiveFrom size s)
+familyFor (Name.StoreExclusive op size) s = StoreExclusive op (storeExclusiveFrom size s)
 
 unfoldable pub buildOf : Scan → Instruction
 buildOf s = record { family = familyFor (nameFor (keyIn s 1) (keyIn s 0)) s }

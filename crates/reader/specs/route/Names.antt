@@ -7,7 +7,7 @@ use lib.ListN.{length}
 use Rattle.bits.specs.Choice.{pick, lookup}
 use Rattle.mnemonic.specs.Operands.{letterOf}
 use Rattle.mnemonic.specs.route.Parts.{packed}
-use Rattle.mnemonic.specs.route.Names.{nameAt, nameText, nameOperand}
+use Rattle.mnemonic.specs.route.Names.{nameAt, nameText, nameOperand, nameCount}
 use Rattle.reader.specs.route.Scan.{key}
 use Rattle.reader.specs.Types.{Name}
 
@@ -31,4 +31,4 @@ searched zero name letter = nameAt 0
 searched (suc n) name letter = pick (isName (nameAt n) name letter) (nameAt n) (searched n name letter)
 
 unfoldable pub nameFor : ℕ → ℕ → Name
-nameFor operand name = searched 64 name (letterFor operand)
+nameFor operand name = searched nameCount name (letterFor operand)

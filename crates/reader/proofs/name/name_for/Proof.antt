@@ -3,14 +3,14 @@ use Prim.Native.Nat.{ℕ, suc, _≤_}
 use mathlib.Core.Path.{_≡_, refl, sym, ap, _∙_}
 use mathlib.Core.Bool.{true, false}
 use native.Mathlib.Omega.{arith}
-use Rattle.mnemonic.specs.route.Names.{nameAt}
+use Rattle.mnemonic.specs.route.Names.{nameAt, nameCount}
 use Rattle.reader.specs.route.Names.{isName, searched, nameFor, letterFor}
 use borrow.Author.Needs.{needs}
 use Rattle.reader.proofs.name.name_for.Statement.{statement}
 use Rattle.reader.proofs.name.name_for.Tie as tie
 
 abbrev Inv-loop : tie.InvT-loop
-Inv-loop operand name letter number₀ number = (number ≤ 64) × (searched number name letter ≡ searched 64 name letter)
+Inv-loop operand name letter number₀ number = (number ≤ nameCount) × (searched number name letter ≡ searched nameCount name letter)
 
 abbrev μ-loop : tie.MeasureT-loop
 μ-loop operand name letter number₀ number = number
@@ -43,7 +43,7 @@ name-for-spec =
     let letter = c .before .before .before .before .before .letter-for in
     let name = c .before .before .before .before .before .before .args .name in
     c .name-at .ensures ∙ sym (here name (letter .result) (omega (arith, c .before .before .before .loop-test .taken)) (sym (c .before .before .is-name .ensures) ∙ c .before .if1 .taken))
-    ∙ loop .inv .1 ∙ ap (searched 64 name) (letter .ensures))
+    ∙ loop .inv .1 ∙ ap (searched nameCount name) (letter .ensures))
     (λ c. omega arith)
     (λ c.
     let loop = c .before .before .before .loop in
@@ -54,4 +54,4 @@ name-for-spec =
     (λ c.
     let letter = c .before .before .before .letter-for in
     let name = c .before .before .before .before .args .name in
-    c .name-at2 .ensures ∙ sym (nowhere name (letter .result) (omega (arith, c .before .loop-test .left))) ∙ c .before .before .loop .inv .1 ∙ ap (searched 64 name) (letter .ensures)))
+    c .name-at2 .ensures ∙ sym (nowhere name (letter .result) (omega (arith, c .before .loop-test .left))) ∙ c .before .before .loop .inv .1 ∙ ap (searched nameCount name) (letter .ensures)))
