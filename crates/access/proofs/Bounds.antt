@@ -12,13 +12,14 @@ use Rattle.instruction.specs.declared.family.LiteralOperands.{LiteralOperands}
 use Rattle.instruction.specs.declared.operation.SizedOp.{SizedOp}
 use Rattle.instruction.specs.declared.operation.PairOp.{PairOp}
 use Rattle.instruction.specs.declared.operation.LiteralOp.{LiteralOp}
-use Rattle.instruction.specs.Operations.{opcOf, sizedBytes, pairOpc, pairBytes}
+use Rattle.instruction.specs.declared.exclusive.AccessSize.{AccessSize}
+use Rattle.instruction.specs.Operations.{opcOf, sizedBytes, pairOpc, pairBytes, accessBytes}
 use Rattle.instruction.proofs.Codes.{each-sized, paired}
 use Rattle.access.specs.declared.transfer.Transfer.{Transfer}
 use Rattle.access.specs.declared.addressing.Addressing.{Addressing}
 use Rattle.access.specs.declared.Access.{Access}
-use Rattle.access.specs.Transfers.{extentOf, sizedTransfer, literalTransfer, pairTransfer}
-use Rattle.access.specs.Accesses.{isPrefetch, sizedAccess, literalMoves, literalAccess, pairAccess, familyAccess, accessOf}
+use Rattle.access.specs.Transfers.{extentOf, sizedTransfer, literalTransfer, pairTransfer, monitoredTransfer, exclusiveTransfer}
+use Rattle.access.specs.Accesses.{isPrefetch, sizedAccess, literalMoves, literalAccess, pairAccess, exclusiveAccess, storeExclusiveAccess, familyAccess, accessOf}
 
 pub record Bounded (t : Transfer) : Type 0 where
   pub wide : t .bytes ≤ t .extent
@@ -45,6 +46,16 @@ pair op first second =
     let extent = pick-by (λ n. (pairBytes op ≤ n) × (n ≤ 8)) (eqb (pairOpc op) 0b01) (λ e. (most, omega arith)) (λ e. (omega arith, most)) in
     record { wide = extent .0; wider = extent .0; extent = extent .1 }
 
+at-most : (size : AccessSize) → accessBytes size ≤ 8
+at-most AccessSize.Byte = omega arith
+at-most AccessSize.Half = omega arith
+at-most AccessSize.Word = omega arith
+at-most AccessSize.Double = omega arith
+
+monitored : (store exclusive : Bool) (size : AccessSize) (target : ℕ) → Bounded (monitoredTransfer store exclusive size target)
+unfolding monitoredTransfer
+monitored store exclusive size target = record { wide = omega arith; wider = omega arith; extent = at-most size }
+
 literal : (op : LiteralOp) (o : LiteralOperands) → Within (literalAccess op o)
 unfolding literalMoves literalTransfer
 literal LiteralOp.LiteralWord o = omega arith
@@ -57,7 +68,7 @@ unfolding sizedAccess
 moves op target ordered a = pick-by Within (isPrefetch op) (λ p. tt) (λ p. sized op target ordered)
 
 family : (f : Family) → Within (familyAccess f)
-unfolding pairAccess
+unfolding pairAccess exclusiveAccess exclusiveTransfer storeExclusiveAccess
 family Family.Empty = tt
 family (Family.Literal op o) = literal op o
 family (Family.Pair op o) = pair op (o .first) (o .second)
@@ -67,6 +78,8 @@ family (Family.PostIndex op o) = moves op (o .target) false _
 family (Family.PreIndex op o) = moves op (o .target) false _
 family (Family.Register op o) = moves op (o .target) false _
 family (Family.Unsigned op o) = moves op (o .target) false _
+family (Family.Exclusive op o) = monitored _ _ (o .size) (o .target)
+family (Family.StoreExclusive op o) = monitored true true (o .size) (o .target)
 
 pub bounded : (i : Instruction) → Within (accessOf i)
 unfolding accessOf

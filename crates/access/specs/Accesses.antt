@@ -1,4 +1,4 @@
--- The access of an instruction: 01, "What a word says".
+-- The access of an instruction: 01, "What a word says", and 02, CR 3.
 use Prim.Native.Nat.{ℕ}
 use mathlib.Core.Bool.{Bool, true, false}
 use lib.Dec.{eqb}
@@ -8,15 +8,19 @@ use Rattle.instruction.specs.declared.family.Instruction.{Instruction}
 use Rattle.instruction.specs.declared.family.Family.{Family}
 use Rattle.instruction.specs.declared.family.LiteralOperands.{LiteralOperands}
 use Rattle.instruction.specs.declared.family.PairOperands.{PairOperands}
+use Rattle.instruction.specs.declared.family.ExclusiveOperands.{ExclusiveOperands}
+use Rattle.instruction.specs.declared.family.StoreExclusiveOperands.{StoreExclusiveOperands}
 use Rattle.instruction.specs.declared.operation.SizedOp.{SizedOp}
 use Rattle.instruction.specs.declared.operation.PairOp.{PairOp}
 use Rattle.instruction.specs.declared.operation.LiteralOp.{LiteralOp}
+use Rattle.instruction.specs.declared.exclusive.ExclusiveOp.{ExclusiveOp}
 use Rattle.instruction.specs.Operations.{sizeOf, opcOf}
 use Rattle.decoder.specs.Decoding.{decodeOf}
+use Rattle.registers.specs.File.{zeroSlot}
 use Rattle.access.specs.declared.addressing.Addressing.{Addressing}
 use Rattle.access.specs.declared.Access.{Access}
-use Rattle.access.specs.Transfers.{sizedTransfer, literalTransfer, pairTransfer}
-use Rattle.access.specs.Addressings.{offsetMode, preMode, postMode, pairedMode, indexedMode, literalMode}
+use Rattle.access.specs.Transfers.{sizedTransfer, literalTransfer, pairTransfer, exclusiveTransfer, storeExclusiveTransfer}
+use Rattle.access.specs.Addressings.{based, offsetMode, preMode, postMode, pairedMode, indexedMode, literalMode}
 
 unfoldable pub isPrefetch : SizedOp → Bool
 isPrefetch op = pick (eqb (sizeOf op) 0b11) (eqb (opcOf op) 0b10) false
@@ -37,6 +41,14 @@ literalAccess LiteralOp.LiteralPrefetch o = Access.Nothing
 unfoldable pub pairAccess : PairOp → PairOperands → Access
 pairAccess op o = Access.Moves (pairTransfer op (o .first) (o .second)) (pairedMode (o .mode) (o .base) (twosComplement (o .offset)))
 
+-- the place is the base alone
+unfoldable pub exclusiveAccess : ExclusiveOp → ExclusiveOperands → Access
+exclusiveAccess op o = Access.Moves (exclusiveTransfer op (o .size) (o .target)) (offsetMode (o .base) 0)
+
+-- the status is written where another access writes its base back
+unfoldable pub storeExclusiveAccess : StoreExclusiveOperands → Access
+storeExclusiveAccess o = Access.Moves (storeExclusiveTransfer (o .size) (o .target)) (based (o .base) 0 false (zeroSlot (o .status)))
+
 abbrev pub familyAccess : Family → Access
 familyAccess Family.Empty = Access.Nothing
 familyAccess (Family.Literal op o) = literalAccess op o
@@ -47,6 +59,8 @@ familyAccess (Family.PostIndex op o) = sizedAccess op (o .target) false (postMod
 familyAccess (Family.PreIndex op o) = sizedAccess op (o .target) false (preMode (o .base) (twosComplement (o .offset)))
 familyAccess (Family.Register op o) = sizedAccess op (o .target) false (indexedMode op o)
 familyAccess (Family.Unsigned op o) = sizedAccess op (o .target) false (offsetMode (o .base) (twosComplement (o .offset)))
+familyAccess (Family.Exclusive op o) = exclusiveAccess op o
+familyAccess (Family.StoreExclusive op o) = storeExclusiveAccess o
 
 unfoldable pub accessOf : Instruction → Access
 accessOf i = familyAccess (i .family)

@@ -1,11 +1,13 @@
--- What the families move: 01, "What a word says". Register 31 is the zero register here.
+-- What the families move: 01, "What a word says", and 02, CR 3. Register 31 is the zero register here.
 use Prim.Native.Nat.{ℕ}
-use mathlib.Core.Bool.{Bool, false}
-use lib.Dec.{eqb}
+use mathlib.Core.Bool.{Bool, true, false, not}
+use lib.Dec.{eqb, ltb}
 use Rattle.bits.specs.Choice.{pick}
 use Rattle.instruction.specs.declared.operation.SizedOp.{SizedOp}
 use Rattle.instruction.specs.declared.operation.PairOp.{PairOp}
-use Rattle.instruction.specs.Operations.{opcOf, sizedBytes, pairOpc, pairLoad, pairBytes}
+use Rattle.instruction.specs.declared.exclusive.AccessSize.{AccessSize}
+use Rattle.instruction.specs.declared.exclusive.ExclusiveOp.{ExclusiveOp}
+use Rattle.instruction.specs.Operations.{opcOf, sizedBytes, pairOpc, pairLoad, pairBytes, exclusiveCode, exclusiveLoad, accessBytes}
 use Rattle.registers.specs.File.{zeroSlot}
 use Rattle.access.specs.declared.transfer.Transfer.{Transfer}
 
@@ -48,3 +50,24 @@ pairTransfer op first second =
       second = zeroSlot second;
       exclusive = false;
     }
+
+-- of the ninth family, an access that is not exclusive is ordered
+unfoldable pub monitoredTransfer : Bool → Bool → AccessSize → ℕ → Transfer
+monitoredTransfer store exclusive size target =
+    record {
+      store = store;
+      ordered = not exclusive;
+      bytes = accessBytes size;
+      more = 0;
+      extent = accessBytes size;
+      target = zeroSlot target;
+      second = none;
+      exclusive = exclusive;
+    }
+
+-- the exclusive ones have bit 23 clear, and L loads
+unfoldable pub exclusiveTransfer : ExclusiveOp → AccessSize → ℕ → Transfer
+exclusiveTransfer op size target = monitoredTransfer (eqb (exclusiveLoad op) 0) (ltb (exclusiveCode op) 0b1_0_0) size target
+
+abbrev pub storeExclusiveTransfer : AccessSize → ℕ → Transfer
+storeExclusiveTransfer size target = monitoredTransfer true true size target

@@ -11,7 +11,7 @@ ghost use Rattle.access.specs.Addressings.{based, offsetMode, preMode, p
 
 // The base is a register, or the program counter where relative. The offset and the index are added to it,
 // the index extended by its option and shifted. Post takes the base alone as the address. The sum is written
-// to the slot written.
+// to the slot written; where an access has a status, that is written there.
 pub struct Addressing {
     pub relative: bool,
     pub base: u32,
@@ -24,7 +24,7 @@ pub struct Addressing {
 }
 
 // A base and an offset.
-fn based(base: u32, offset: u64, post: bool, written: u32) -> Addressing
+pub fn based(base: u32, offset: u64, post: bool, written: u32) -> Addressing
     ensures { λ r. ⌜ r ≡ based base offset post written ⌝ }
 {
     Addressing {

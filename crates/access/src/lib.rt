@@ -4,6 +4,8 @@ mod addressing;
 mod transfer;
 
 pub use addressing::Addressing;
+use instruction::ExclusiveOp;
+use instruction::ExclusiveOperands;
 use instruction::Family;
 use instruction::Instruction;
 use instruction::LiteralOp;
@@ -11,9 +13,10 @@ use instruction::LiteralOperands;
 use instruction::PairOp;
 use instruction::PairOperands;
 use instruction::SizedOp;
+use instruction::StoreExclusiveOperands;
 pub use transfer::Transfer;
 ghost use mathlib.Core.Path.{_≡_};
-ghost use Rattle.access.specs.Accesses.{isPrefetch, sizedAccess, literalMoves, literalAccess, pairAccess, familyAccess, accessOf};
+ghost use Rattle.access.specs.Accesses.{isPrefetch, sizedAccess, literalMoves, literalAccess, pairAccess, exclusiveAccess, storeExclusiveAccess, familyAccess, accessOf};
 
 // A prefetch touches nothing.
 pub enum Access {
@@ -41,6 +44,8 @@ fn family_access(family: Family) -> Access
         Family::PreIndex(op, o) => sized_access(op, o.target, false, addressing::pre(o)),
         Family::Register(op, o) => sized_access(op, o.target, false, addressing::indexed(op, o)),
         Family::Unsigned(op, o) => sized_access(op, o.target, false, addressing::offset(o)),
+        Family::Exclusive(op, o) => exclusive_access(op, o),
+        Family::StoreExclusive(op, o) => store_exclusive_access(o),
     }
 }
 
@@ -86,4 +91,25 @@ fn pair_access(op: PairOp, o: PairOperands) -> Access
     ensures { λ r. ⌜ r ≡ pairAccess op o ⌝ }
 {
     Access::Moves(transfer::pair(op, o.first, o.second), addressing::paired(o))
+}
+
+fn exclusive_access(op: ExclusiveOp, o: ExclusiveOperands) -> Access
+    ensures { λ r. ⌜ r ≡ exclusiveAccess op o ⌝ }
+{
+    let size = o.size;
+    Access::Moves(
+        transfer::exclusive(op, size, o.target),
+        addressing::based(o.base, 0, false, 32),
+    )
+}
+
+// The slot of the writeback is that of the status.
+fn store_exclusive_access(o: StoreExclusiveOperands) -> Access
+    ensures { λ r. ⌜ r ≡ storeExclusiveAccess o ⌝ }
+{
+    let size = o.size;
+    Access::Moves(
+        transfer::store_exclusive(size, o.target),
+        addressing::based(o.base, 0, false, registers::zero_slot(o.status)),
+    )
 }

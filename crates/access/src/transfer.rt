@@ -1,11 +1,13 @@
 // What an access moves: registers, and bytes of memory.
+use instruction::AccessSize;
+use instruction::ExclusiveOp;
 use instruction::PairOp;
 use instruction::SizedOp;
 ghost use mathlib.Core.Path.{_≡_};
 ghost use lib.Dec.{eqb};
 ghost use Rattle.bits.specs.Choice.{pick};
 ghost use Rattle.instruction.specs.Operations.{pairOpc};
-ghost use Rattle.access.specs.Transfers.{extentOf, sizedTransfer, literalTransfer, pairTransfer};
+ghost use Rattle.access.specs.Transfers.{extentOf, sizedTransfer, literalTransfer, pairTransfer, monitoredTransfer, exclusiveTransfer, storeExclusiveTransfer};
 
 // Each register's bytes are moved; the second of a pair lies behind the first, and a single register has no
 // bytes there. A loaded number keeps its sign up to the extent, in bytes; it is as long as the number where
@@ -88,4 +90,34 @@ fn pair_extent(op: PairOp, bytes: u32) -> u32
         return 8;
     }
     bytes
+}
+
+pub fn exclusive(op: ExclusiveOp, size: AccessSize, target: u32) -> Transfer
+    ensures { λ r. ⌜ r ≡ exclusiveTransfer op size target ⌝ }
+{
+    let code = instruction::exclusive_code(op);
+    monitored(code / 2 % 2 == 0, code < 0b100, size, target)
+}
+
+pub fn store_exclusive(size: AccessSize, target: u32) -> Transfer
+    ensures { λ r. ⌜ r ≡ storeExclusiveTransfer size target ⌝ }
+{
+    monitored(true, true, size, target)
+}
+
+// An access of the ninth family, which is ordered where it is not exclusive.
+fn monitored(store: bool, exclusive: bool, size: AccessSize, target: u32) -> Transfer
+    ensures { λ r. ⌜ r ≡ monitoredTransfer store exclusive size target ⌝ }
+{
+    let bytes = instruction::access_bytes(size);
+    Transfer {
+        store,
+        ordered: !exclusive,
+        bytes,
+        more: 0,
+        extent: bytes,
+        target: registers::zero_slot(target),
+        second: 32,
+        exclusive,
+    }
 }
