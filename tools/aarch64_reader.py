@@ -1,4 +1,4 @@
-"""Reads 01's lines of text by patterns that take nothing else, and gives the word of each.
+"""Reads the lines of text of 01 and 02 by patterns that take nothing else, and gives the word of each.
 
 What is read is written again, and has to be the same text: so a mistake in a pattern stops the script that asks.
 """
@@ -6,8 +6,8 @@ import re
 
 from aarch64_rules import is_valid, packed
 from aarch64_text import (
-    LITERAL, PAIR, ORDERED, UNSCALED, POST, PRE, REGISTER, UNSIGNED, NO_ALLOCATE, PAIR_POST, PAIR_OFFSET, PAIR_PRE,
-    Record, text_of)
+    EXCLUSIVE, LITERAL, PAIR, ORDERED, UNSCALED, POST, PRE, REGISTER, UNSIGNED, NO_ALLOCATE, PAIR_POST, PAIR_OFFSET,
+    PAIR_PRE, Record, text_of)
 
 NO_LINE = 0, 9
 
@@ -64,6 +64,19 @@ TWOS = [(mode, names, re.compile(TWO + place)) for mode, names, place in (
     (NO_ALLOCATE, UNALLOCATING, OFFSET), (PAIR_POST, PAIRS, AFTER), (PAIR_OFFSET, PAIRS, OFFSET),
     (PAIR_PRE, PAIRS, BEFORE))]
 
+# The ninth family, mnemonic and letter of the data: size * 8, and bit 23, L and bit 15 side by side.
+WITHOUT_STATUS = {
+    'ldxrb w': 2, 'ldaxrb w': 3, 'stlrb w': 5, 'ldarb w': 7, 'ldxrh w': 10, 'ldaxrh w': 11, 'stlrh w': 13, 'ldarh w': 15,
+    'ldxr w': 18, 'ldaxr w': 19, 'stlr w': 21, 'ldar w': 23, 'ldxr x': 26, 'ldaxr x': 27, 'stlr x': 29, 'ldar x': 31,
+}
+WITH_STATUS = {
+    'stxrb w': 0, 'stlxrb w': 1, 'stxrh w': 8, 'stlxrh w': 9, 'stxr w': 16, 'stlxr w': 17, 'stxr x': 24, 'stlxr x': 25,
+}
+PLACE = r'\[' + BASE + r'\]'
+EXCLUSIVES = [
+    (WITHOUT_STATUS, re.compile('(?P<name>[a-z]+) (?P<status>)' + TARGET + ', ' + PLACE)),
+    (WITH_STATUS, re.compile('(?P<name>[a-z]+) ' + general('status', 'w') + ', ' + TARGET + ', ' + PLACE))]
+
 
 def hint_of(name):
     """The number of a hint, by its three fields or as it stands."""
@@ -114,6 +127,15 @@ def pair_record(mode, names, found):
                   offset=int(found['number'] or 0))
 
 
+def exclusive_record(names, found):
+    target = found['target']
+    operation = names.get(found['name'] + ' ' + target[0])
+    if operation is None:
+        return None
+    return Record(EXCLUSIVE, operation, number_of(target), number_of(found['base']),
+                  number_of(found['status']) if found['status'] else 0)
+
+
 def records_in(text):
     for family, pattern in ONES:
         found = pattern.fullmatch(text)
@@ -123,6 +145,10 @@ def records_in(text):
         found = pattern.fullmatch(text)
         if found:
             yield pair_record(mode, names, found)
+    for names, pattern in EXCLUSIVES:
+        found = pattern.fullmatch(text)
+        if found:
+            yield exclusive_record(names, found)
 
 
 def record_of(line):

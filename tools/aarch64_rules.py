@@ -1,16 +1,16 @@
-"""01's rules over words and records, and what LLVM's and GNU's tools say of words, held against them.
+"""The rules of 01, and of 02's ninth family, over words and records, and what LLVM's and GNU's tools say of words.
 
-Which words are of the set is decided by the rows of 01's table, and what an allocated word says is read from the
-disassemblers' texts, which have to agree. RULES lists where the tools differ or 01 decides otherwise.
+Which words are of the set is decided by the rows of 01's table and of 02's, and what an allocated word says is read from
+the disassemblers' texts, which have to agree. RULES lists where the tools differ, or 01 or 02 decides otherwise.
 """
 import os
 
 from aarch64_text import (
-    EMPTY, LITERAL, PAIR, ORDERED, UNSCALED, POST, PRE, REGISTER, UNSIGNED, NO_ALLOCATE, PAIR_POST, PAIR_PRE,
-    PREFETCH, Record, line_in, mnemonic_of, record_in, text_of)
+    EMPTY, EXCLUSIVE, LITERAL, PAIR, ORDERED, UNSCALED, POST, PRE, REGISTER, UNSIGNED, NO_ALLOCATE, PAIR_POST, PAIR_PRE,
+    PREFETCH, Record, has_status, line_in, mnemonic_of, record_in, text_of)
 from aarch64_tools import ORIGIN, encoding_in, gnu_assembly, gnu_disassembly, llvm_disassembly
 
-# 01's table: the bits that each family fixes, as (high, low, value). Bit 26 is 0 in all.
+# 01's table and 02's ninth family: the bits that each family fixes, as (high, low, value). Bit 26 is 0 in all.
 TABLE = {
     LITERAL: ((29, 27, 0b011), (26, 26, 0), (25, 24, 0b00)),
     PAIR: ((29, 27, 0b101), (26, 26, 0), (25, 25, 0)),
@@ -20,6 +20,8 @@ TABLE = {
     PRE: ((29, 27, 0b111), (26, 26, 0), (25, 24, 0b00), (21, 21, 0), (11, 10, 0b11)),
     REGISTER: ((29, 27, 0b111), (26, 26, 0), (25, 24, 0b00), (21, 21, 1), (11, 10, 0b10)),
     UNSIGNED: ((29, 27, 0b111), (26, 26, 0), (25, 24, 0b01)),
+    # Of bits 23 and 15, 10 is left out as well.
+    EXCLUSIVE: ((29, 27, 0b001), (26, 26, 0), (25, 24, 0b00), (21, 21, 0)),
 }
 WITH_IMM9 = (ORDERED, UNSCALED, POST, PRE)
 
@@ -39,7 +41,15 @@ RULES = {
                            'calls it undefined.',
     'unwarned writeback': 'llvm-mc prints no warning of a store, or of a load signed to 64 bits, that writes '
                           'back to its own target; 01 gives answer 4, and the GNU assembler warns.',
+    'unused registers': 'A word of the ninth family whose unused register fields are not all ones is undefined: llvm-mc '
+                        'prints it as with ones, and warns but of store-exclusives; objdump does too but for ldar.',
+    'unwarned status': 'llvm-mc prints no warning of a store-exclusive whose status register is its data or base, and '
+                       'as an assembler refuses it; 02 gives answer 4, and the GNU assembler warns.',
+    'status 31 by SP': 'The GNU assembler warns of a store-exclusive with status wzr and base sp; 02 has no answer 4 for '
+                       'a base of 31, and llvm-mc assembles it.',
 }
+# Rs and Rt2 of the ninth family.
+RS, RT2 = (20, 16), (14, 10)
 
 
 def field(word, high, low):
@@ -47,11 +57,22 @@ def field(word, high, low):
 
 
 def line_of(word):
-    """The family whose row of 01's table a word matches, or None."""
+    """The family whose row of 01's table or of 02's a word matches, or None."""
     for family, row in TABLE.items():
         if all(field(word, high, low) == value for high, low, value in row):
-            return family
+            return None if family == EXCLUSIVE and is_limited(word) else family
     return None
+
+
+def is_limited(word):
+    """Whether bits 23 and 15 of a word in the ninth family's place are those of ldlar and stllr."""
+    return field(word, 23, 23) == 1 and field(word, 15, 15) == 0
+
+
+def unused_ones(word):
+    """The fields of registers that a word of the ninth family doesn't use, as all ones."""
+    is_store_exclusive = field(word, 23, 22) == 0b00
+    return 31 << RT2[1] | (0 if is_store_exclusive else 31 << RS[1])
 
 
 def fixed_bits(family):
@@ -74,12 +95,14 @@ def word_of_line(rng, family):
 # What a word is, by the tools and 01's rules.
 
 def undefined_by_rule(line, word):
-    """01's undefined words of the set. What the tools say is compared with this."""
+    """The undefined words of the set. What the tools say is compared with this."""
     opc, load, mode = field(word, 31, 30), field(word, 22, 22), field(word, 24, 23)
     if line == LITERAL:
         return False
     if line == PAIR:
         return opc == 0b11 or opc == 0b01 and not (load == 1 and mode != NO_ALLOCATE)
+    if line == EXCLUSIVE:
+        return word != word | unused_ones(word)
     size, opc = field(word, 31, 30), field(word, 23, 22)
     return (size >= 0b10 and opc == 0b11
             or (size, opc) == (0b11, 0b10) and line in (ORDERED, POST, PRE)
@@ -87,7 +110,9 @@ def undefined_by_rule(line, word):
 
 
 def is_unpredictable(record):
-    """Answer 4 of 01."""
+    """Answer 4 of 01 and 02."""
+    if record.family == EXCLUSIVE:
+        return has_status(record.operation) and (record.second == record.target or record.second == record.base != 31)
     pair = record.family == PAIR
     writes_back = record.family in (POST, PRE) or pair and record.mode in (PAIR_POST, PAIR_PRE)
     written = (record.target, record.second) if pair else (record.target,)
@@ -112,6 +137,12 @@ def read_word(word, address, llvm, gnu, rules):
     if names == {'stgp'}:
         rules['tagged pair'] += 1
         names = {None}
+    if line == EXCLUSIVE and undefined_by_rule(line, word):
+        with_ones = packed(by_llvm)
+        agreed(with_ones == word | unused_ones(word) and llvm.warned != has_status(by_llvm.operation), word, llvm, gnu)
+        agreed(by_gnu == by_llvm or names - {None} <= {'ldar', 'ldarb', 'ldarh'}, word, llvm, gnu)
+        rules['unused registers'] += 1
+        return 3, Record(EMPTY, 0)
     agreed(by_llvm == by_gnu and undefined_by_rule(line, word) == (by_llvm is None), word, llvm, gnu)
     if by_llvm is None:
         agreed(names == {None}, word, llvm, gnu)
@@ -141,18 +172,27 @@ def judged_words(words, rules):
     for i, again in zip(allocated, made):
         record = found[i][1]
         unpredictable = is_unpredictable(record)
-        agreed(again == (words[i], unpredictable), words[i], llvm[i], again)
+        by_stack = not unpredictable and is_status_by_stack(record)
+        agreed(again == (words[i], unpredictable or by_stack), words[i], llvm[i], again)
+        rules['status 31 by SP'] += by_stack
         if unpredictable:
             found[i] = 4, record
         if unpredictable != llvm[i].warned:
-            agreed(unpredictable and is_unwarned(record), words[i], llvm[i])
-            rules['unwarned writeback'] += 1
+            agreed(unpredictable and unwarned_as(record) is not None, words[i], llvm[i])
+            rules[unwarned_as(record)] += 1
     return found
 
 
-def is_unwarned(record):
-    """Whether llvm-mc's disassembler does not warn of a writeback to the target."""
-    return record.family in (POST, PRE) and record.operation in (0, 2, 4, 6, 8, 10, 12)
+def unwarned_as(record):
+    """The rule by which llvm-mc's disassembler does not warn of an answer 4."""
+    if record.family == EXCLUSIVE:
+        return 'unwarned status'
+    is_writeback = record.family in (POST, PRE) and record.operation in (0, 2, 4, 6, 8, 10, 12)
+    return 'unwarned writeback' if is_writeback else None
+
+
+def is_status_by_stack(record):
+    return record.family == EXCLUSIVE and has_status(record.operation) and record.second == record.base == 31
 
 
 # The word of a record.
@@ -167,15 +207,15 @@ def scale_of(family, operation):
 
 
 def range_of(family, operation):
-    """The least and the largest offset; none with an index."""
+    """The least and the largest offset; none with an index, or in the ninth family."""
     scale = scale_of(family, operation)
-    low, high = {LITERAL: (-262144, 262143), PAIR: (-64, 63), UNSIGNED: (0, 4095), REGISTER: (0, 0)}.get(
+    low, high = {LITERAL: (-262144, 262143), PAIR: (-64, 63), UNSIGNED: (0, 4095), REGISTER: (0, 0), EXCLUSIVE: (0, 0)}.get(
         family, (-256, 255))
     return low * scale, high * scale
 
 
 def is_valid(record):
-    """Whether 01's encoder takes a record."""
+    """Whether the encoder takes a record."""
     family, operation = record.family, record.operation
     low, high = range_of(family, operation)
     return (family != EMPTY
@@ -196,6 +236,10 @@ def packed(record):
     if record.family == PAIR:
         opc, load = divmod(record.operation, 2)
         return (word | opc << 30 | record.mode << 23 | load << 22 | quotient % 128 << 15 | record.second << 10)
+    if record.family == EXCLUSIVE:
+        size, code = divmod(record.operation, 8)
+        word |= size << 30 | code >> 1 << 22 | (code & 1) << 15
+        return word | unused_ones(word) | record.second << 16
     size, opc = divmod(record.operation, 4)
     word |= size << 30 | opc << 22
     if record.family == REGISTER:

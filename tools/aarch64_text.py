@@ -6,16 +6,17 @@ the bits of a word. A second way from text to line, line_in, leaves alone what i
 import re
 from typing import NamedTuple
 
-EMPTY, LITERAL, PAIR, ORDERED, UNSCALED, POST, PRE, REGISTER, UNSIGNED = range(9)
+EMPTY, LITERAL, PAIR, ORDERED, UNSCALED, POST, PRE, REGISTER, UNSIGNED, EXCLUSIVE = range(10)
 NO_ALLOCATE, PAIR_POST, PAIR_OFFSET, PAIR_PRE = range(4)
 PREFETCH = 14
 
 
 class Record(NamedTuple):
-    """A family's number in the order of 01's table, and its operands; unused numbers are 0.
+    """A family's number in the order of 01's table, 02's ninth last, and its operands; unused numbers are 0.
 
-    operation: size * 4 + opc; for a literal opc; for a pair opc * 2 + L.
-    second: a pair's Rt2, or an index's Rm. mode: a pair's mode, or an index's option. scaled: S.
+    operation: size * 4 + opc; for a literal opc; for a pair opc * 2 + L; for the ninth family size * 8 and bit 23, L and
+    bit 15 side by side.
+    second: a pair's Rt2, an index's Rm, or a store-exclusive's Rs. mode: a pair's mode, or an index's option. scaled: S.
     """
     family: int
     operation: int
@@ -39,6 +40,11 @@ PAIRS = {
     ('stp', 'w'): 0, ('ldp', 'w'): 1, ('ldpsw', 'x'): 3, ('stp', 'x'): 4, ('ldp', 'x'): 5,
     ('stnp', 'w'): 0, ('ldnp', 'w'): 1, ('stnp', 'x'): 4, ('ldnp', 'x'): 5,
 }
+# The ninth family, by bit 23, L and bit 15, without its size: store-exclusives have a status register.
+EXCLUSIVES = {0b000: 'stxr', 0b001: 'stlxr', 0b010: 'ldxr', 0b011: 'ldaxr', 0b101: 'stlr', 0b111: 'ldar'}
+EXCLUSIVE_NAMES = {
+    (name + suffix, letter): size * 8 + code for code, name in EXCLUSIVES.items()
+    for size, (suffix, letter) in enumerate((('b', 'w'), ('h', 'w'), ('', 'w'), ('', 'x')))}
 # Beginnings of mnemonics that name a family, and what the mnemonic is without that.
 STEMS = [
     ('stlur', 'str', ORDERED), ('ldapur', 'ldr', ORDERED),
@@ -74,6 +80,8 @@ def record_in(text, address):
         return None
     if (mnemonic, letter) in PAIRS:
         return pair_record(mnemonic, PAIRS[mnemonic, letter], target, rest)
+    if any(mnemonic == name for name, _ in EXCLUSIVE_NAMES):
+        return exclusive_record(mnemonic, letter, target, rest)
     if not rest.startswith('['):
         return literal_record(LITERALS.get((mnemonic, letter)), target, rest, address)
     for stem, plain, family in STEMS:
@@ -124,6 +132,25 @@ def pair_record(mnemonic, operation, target, rest):
             offset = int(found[2] or '0', 0)
             return Record(PAIR, operation, target, base_number(found[1]), second, mode, offset=offset)
     return None
+
+
+def has_status(operation):
+    """Whether an operation of the ninth family is a store-exclusive."""
+    return operation % 8 < 2
+
+
+def exclusive_record(mnemonic, letter, target, rest):
+    """The first register is the status where there are two, and always by its low half."""
+    second = 0
+    if not rest.startswith('['):
+        if letter != 'w':
+            raise SystemExit('a status that is no w: ' + mnemonic)
+        data, _, rest = rest.partition(', ')
+        second, (letter, target) = target, first_operand(mnemonic, data)
+    operation, found = EXCLUSIVE_NAMES[mnemonic, letter], OFFSET_FORM.match(rest)
+    if found[2]:
+        raise SystemExit('an exclusive with an offset: ' + rest)
+    return Record(EXCLUSIVE, operation, target, base_number(found[1]), second)
 
 
 def offset_record(family, operation, target, place):
@@ -200,6 +227,8 @@ def text_of(record, here='#'):
         return '%s %s, %s%d' % (mnemonic, target_text(letter, record.target), here, record.offset)
     if record.family == PAIR:
         return pair_text(record)
+    if record.family == EXCLUSIVE:
+        return exclusive_text(record)
     mnemonic, letter = (
         ('strb', 'w'), ('ldrb', 'w'), ('ldrsb', 'x'), ('ldrsb', 'w'), ('strh', 'w'), ('ldrh', 'w'), ('ldrsh', 'x'),
         ('ldrsh', 'w'), ('str', 'w'), ('ldr', 'w'), ('ldrsw', 'x'), None, ('str', 'x'), ('ldr', 'x'), ('prfm', '#'),
@@ -231,6 +260,13 @@ def pair_text(record):
     names = register_text(letter, record.target), register_text(letter, record.second)
     form = {PAIR_POST: POST, PAIR_PRE: PRE}.get(record.mode, UNSIGNED)
     return '%s %s, %s, %s' % (mnemonic, *names, place_text(record._replace(family=form)))
+
+
+def exclusive_text(record):
+    size, code = divmod(record.operation, 8)
+    status = register_text('w', record.second) + ', ' if has_status(record.operation) else ''
+    target = register_text('x' if size == 3 else 'w', record.target)
+    return '%s%s %s%s, [%s]' % (EXCLUSIVES[code], ('b', 'h', '', '')[size], status, target, base_text(record.base))
 
 
 def place_text(record):

@@ -19,7 +19,7 @@ import re
 from aarch64_reader import read_line, record_of
 from aarch64_rules import agreed, is_unpredictable, judged_words, path_of, range_of, scale_of, show, write
 from aarch64_text import (
-    LITERAL, PAIR, ORDERED, UNSCALED, POST, PRE, REGISTER, UNSIGNED, PREFETCH, Record, text_of)
+    EXCLUSIVE, LITERAL, PAIR, ORDERED, UNSCALED, POST, PRE, REGISTER, UNSIGNED, PREFETCH, Record, text_of)
 from aarch64_tools import gnu_attempts, llvm_assembly
 from text_damage import BYTE_KINDS, KINDS, damaged_texts, odd_lines
 
@@ -59,7 +59,8 @@ def sample(rng, texts):
         record = record_of(text)
         low, high = range_of(record.family, record.operation)
         scale = scale_of(record.family, record.operation)
-        if record.family != REGISTER and record.offset in (low, low + scale, -scale, 0, scale, high - scale, high):
+        edges = (low, low + scale, -scale, 0, scale, high - scale, high)
+        if record.family not in (REGISTER, EXCLUSIVE) and record.offset in edges:
             chosen.append(text)
         hint = record.target if text.startswith(b'prf') else None
         groups[record.family, record.operation, record.mode, record.scaled, hint].append(text)

@@ -4,7 +4,7 @@
     apt-get install llvm-19 binutils-aarch64-linux-gnu
     python3 tools/codec_vectors.py
 
-What must come is taken from llvm-mc and objdump, which have to agree, and from 01's rules, never from this
+What must come is taken from llvm-mc and objdump, which have to agree, and from 01's and 02's rules, never from this
 project's code: aarch64_rules.py says how. The word of a record is packed there, and compared with what both
 assemblers make of the record's text and with what both disassemblers say of it. Made with llvm 19.1.7 and
 binutils 2.40. The output is the same each time.
@@ -17,13 +17,15 @@ from aarch64_rules import (
     EXAMPLES, TABLE, WITH_IMM9, agreed, edges, fixed_bits, is_valid, judged_words, packed, range_of, scale_of, show,
     word_of_line, write)
 from aarch64_text import (
-    EMPTY, LITERAL, PAIR, ORDERED, UNSCALED, POST, PRE, REGISTER, UNSIGNED, PREFETCH, Record, text_of)
+    EMPTY, EXCLUSIVE, LITERAL, PAIR, ORDERED, UNSCALED, POST, PRE, REGISTER, UNSIGNED, PREFETCH, Record, has_status,
+    text_of)
 from aarch64_tools import llvm_assembly
+import exclusive_words
 
 SEED = 1
-WORD = 9
+WORD = 10
 # So many that the output stays within the mebibyte that `rt try` takes.
-RANDOM_WORDS = 2100
+RANDOM_WORDS = 900
 
 
 # Words to decode.
@@ -108,6 +110,7 @@ def all_words(rng):
     words += immediate_words(rng, UNSIGNED, 12, 10)
     words += register_words(rng)
     words += prefetch_words(rng)
+    words += exclusive_words.exclusive_words(rng, 0, 2)
     words += near_words(rng)
     words += [rng.getrandbits(32) for _ in range(RANDOM_WORDS)]
     words += [0, 0xffffffff]
@@ -126,10 +129,15 @@ def operations():
     for family in (ORDERED, UNSCALED, POST, PRE, REGISTER, UNSIGNED):
         for operation in (*range(11), 12, 13, PREFETCH):
             yield family, operation, 0
+    for operation in exclusive_words.operations():
+        yield EXCLUSIVE, operation, 0
 
 
 def any_record(rng, family, operation, mode):
-    """All fields in range. Target, base and the second register of a pair differ, so that it is not of answer 4."""
+    """All fields in range. Target, base and the second register of a pair differ, so that it is not of answer 4.
+
+    So do those of a store-exclusive.
+    """
     low, high = range_of(family, operation)
     scale = scale_of(family, operation)
     target = rng.getrandbits(5)
@@ -137,7 +145,7 @@ def any_record(rng, family, operation, mode):
     if family == LITERAL:
         return record
     record = record._replace(base=(target + 1 + rng.getrandbits(3)) % 32)
-    if family == PAIR:
+    if family == PAIR or family == EXCLUSIVE and has_status(operation):
         return record._replace(second=(target + 16 + rng.getrandbits(3)) % 32, mode=mode)
     if family == REGISTER:
         option = (2, 3, 6, 7)[rng.getrandbits(2)]
@@ -145,7 +153,9 @@ def any_record(rng, family, operation, mode):
     return record
 
 
-def register_names(family):
+def register_names(family, operation):
+    if family == EXCLUSIVE:
+        return exclusive_words.register_names(operation)
     return {LITERAL: ('target',), PAIR: ('target', 'base', 'second'), REGISTER: ('target', 'base', 'second')}.get(
         family, ('target', 'base'))
 
@@ -165,13 +175,13 @@ def records_of(rng, family, operation, mode):
     def other(**changed):
         return any_record(rng, family, operation, mode)._replace(**changed)
 
-    for name in register_names(family):
+    for name in register_names(family, operation):
         for number in (0, 31, 32, 33, 1 << 31, (1 << 32) - 1):
             yield other(**{name: number})
-    if family != REGISTER:
+    if family not in (REGISTER, EXCLUSIVE):
         for offset in offset_edges(family, operation):
             yield other(offset=offset)
-    if family == PAIR:
+    if 'second' in register_names(family, operation) and family != REGISTER:
         yield from (other(target=7, second=7), other(base=7, second=7), other(target=31, second=31))
     if family != LITERAL:
         yield from (other(target=7, base=7), other(target=31, base=31))
@@ -187,8 +197,9 @@ def all_records(rng):
     records = [Record(EMPTY, 0)]
     for family, operation, mode in operations():
         records += records_of(rng, family, operation, mode)
-    unknown = [Record(10, 0), Record(LITERAL, 4), Record(PAIR, 2), Record(PAIR, 6), Record(PAIR, 0, mode=4),
-               Record(UNSCALED, 11), Record(UNSCALED, 15), Record(UNSIGNED, 16)]
+    unknown = [Record(11, 0), Record(LITERAL, 4), Record(PAIR, 2), Record(PAIR, 6), Record(PAIR, 0, mode=4),
+               Record(UNSCALED, 11), Record(UNSCALED, 15), Record(UNSIGNED, 16), Record(EXCLUSIVE, 4),
+               Record(EXCLUSIVE, 30), Record(EXCLUSIVE, 32)]
     return list(dict.fromkeys(records)), unknown
 
 

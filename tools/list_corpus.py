@@ -5,8 +5,8 @@
     python3 tools/list_corpus.py
 
 The texts are those of llvm-mc and objdump in 01's notation, which have to agree with each other and with a text
-written from the fields; the answers are 01's, and the tools have to agree with these too: aarch64_rules.py says
-how, and lists where a tool differs or 01 decides otherwise. None of it comes from this project's code. Made with
+written from the fields; the answers are 01's and 02's, and the tools have to agree with these too: aarch64_rules.py says
+how, and lists where a tool differs or 01 or 02 decides otherwise. None of it comes from this project's code. Made with
 llvm 19.1.7 and binutils 2.40. The output is the same each time.
 """
 import collections
@@ -19,7 +19,8 @@ from typing import NamedTuple, Optional
 from aarch64_rules import (
     EXAMPLES, TABLE, WITH_IMM9, edges, field, judged_words, line_of, path_of, show, undefined_by_rule, word_of_line,
     write)
-from aarch64_text import LITERAL, PAIR, REGISTER, UNSCALED, UNSIGNED, text_of
+from aarch64_text import EXCLUSIVE, LITERAL, PAIR, REGISTER, UNSCALED, UNSIGNED, text_of
+from exclusive_words import exclusive_words
 
 SEED = 2
 # 01's listing.
@@ -50,6 +51,7 @@ LAYOUTS = {
     **{family: Layout((SIZE, OPC), (RT, RN), (20, 12)) for family in WITH_IMM9},
     REGISTER: Layout((SIZE, OPC, (15, 13), (12, 12)), (RT, RN, (20, 16)), None),
     UNSIGNED: Layout((SIZE, OPC), (RT, RN), (21, 10)),
+    EXCLUSIVE: Layout((SIZE, OPC, (15, 15)), (RT, RN, (20, 16)), None),
 }
 
 
@@ -156,6 +158,10 @@ def all_words(rng):
     """Each word once, 01's first."""
     words = LISTING + EXAMPLES
     for family, layout in LAYOUTS.items():
+        if family == EXCLUSIVE:
+            # Nearly all of its words are undefined: exclusive_words.py has those that are not.
+            words += exclusive_words(rng, 2, 24)
+            continue
         words += edge_words(rng, family)
         words += filled_words(rng, family, 20 if family == REGISTER else 60)
         for place in layout.registers:

@@ -9,10 +9,13 @@ MNEMONIC = r'^\w+'
 
 MNEMONICS = (
     'strb ldrb ldrsb strh ldrh ldrsh str ldr ldrsw prfm sturb ldurb ldursb sturh ldurh ldursh stur ldur ldursw prfum '
-    'stlurb ldapurb ldapursb stlurh ldapurh ldapursh stlur ldapur ldapursw stp ldp ldpsw stnp ldnp').split()
+    'stlurb ldapurb ldapursb stlurh ldapurh ldapursh stlur ldapur ldapursw stp ldp ldpsw stnp ldnp '
+    'ldxrb ldxrh ldxr ldaxrb ldaxrh ldaxr ldarb ldarh ldar stlrb stlrh stlr stxrb stxrh stxr stlxrb stlxrh stlxr').split()
 UNKNOWN_MNEMONICS = (
     'strsb strsh strsw stursb stursw stlursb stlursw stlursh stpsw stnpsw ldnpsw ldprfm prflum stlprfm ldaprfm prfmb '
-    'prfur rprfm ldtr ldtrb sttr ldxr stxr ldar stlr ldapr ldapru ldapurw ldraa stgp ldg stg ldrd strd ldrw ldrx ldrs '
+    'prfur rprfm ldtr ldtrb sttr ldapr ldaprb ldxp ldaxp stxp stlxp ldlar ldlarb stllr stllrh cas casb casal ldxrsb ldarsw '
+    'ldxrw stxrw stlxrs ldaxur stlar ldlr staxr ldlxr stlx ldax stx ldx lda stl ldapru ldapurw ldraa stgp ldg stg ldrd '
+    'strd ldrw ldrx ldrs '
     'ldps ldpw ldurs ld st l s ldrsbw ldrbs swp ldadd mov add b nop ldr.w ldrb.w').split()
 HINTS = [kind + level + policy for kind in ('pld', 'pli', 'pst') for level in ('l1', 'l2', 'l3')
          for policy in ('keep', 'strm')]
@@ -68,6 +71,9 @@ REPLACEMENTS = {
     'other brackets': (r'[\[\]]', ['', '(', ')', '{', '}', '[', ']', '[[', ']]']),
     'operand dropped': (r', [^,\[\]]+|(?<= )[^,\[\]]+, ', ['']),
     'operand doubled': (r'([^,\[\] ]+, )', [r'\1\1']),
+    'status dropped': (r'^(st\w+ )w\w+, (?=\w)', [r'\1']),
+    'status added': (r'^(\w+ )(?=\w+, \[)', [r'\1w5, ', r'\1x5, ', r'\1wzr, ', r'\1sp, ']),
+    'status by its whole register': (r'^(stl?xr[bh]? )w', [r'\1x']),
     'literal by its place': (
         r'^(\w+ \S+, )#(-?\d+)$',
         [r'\1[pc, #\2]', r'\1.\2', r'\1.+\2', r'\g<1>0x\2', r'\1=\2', r'\1[pc], #\2', r'\1label\2']),
@@ -186,7 +192,13 @@ ldr x0, [x31]|ldr x31, [x0]|ldr x0, [w1]|ldr x0, [wsp]|ldr x0, [sp, xzr]|ldr xzr
 prfm pldl1keep, [x1]|prfm pldl1keep,[x1]|prfm #31, [x1]|prfm #32, [x1]|prfm x0, [x1]|ldr #0, [x1]|ldr x0, #-0|ldr x0, #0|ldr x0, #00
 ldr x0, 0|ldr x0, #2|ldr x0, #1048572|ldr x0, #1048576|ldr x0, #-1048576|ldr x0, #-1048580|ldr x0, #4294967296
 ldr x0, #18446744073709551616|ldr x0, #-18446744073709551612|ldr q0, [x1]|ldr d0, #8|ldp q0, q1, [x2]
-rprfm #0, x1, [x2]|ldtr x0, [x1]|ldxr x0, [x1]|nop|.word 0|385ff020|short\t-\t1|385ff020\tldurb w0, [x1, #-1]\t0
+ldxr x0, [x1]|ldxr w0, [x1]|ldxrb x0, [x1]|ldxrh w0, [sp]|ldxr x0, [x1, #0]|ldxr x0, [x1, #8]|ldxr x0, [x1]!|ldxr x0, #8
+ldar x0, [x1], #8|ldar x0, [x1, x2]|ldaxr xzr, [sp]|ldaxr sp, [x0]|ldxr x0, [xzr]|ldxr x0, [w1]|ldxr x0|ldxr x0,|ldxr x0, x1
+stxr w2, x0, [x1]|stxr x2, x0, [x1]|stxr w2, w0, [x1]|stxrb w2, x0, [x1]|stlxrh w2, w0, [x1]|stlxrh w2, w0, [x1, #0]
+stxr wzr, x0, [sp]|stxr wsp, x0, [sp]|stxr w31, x0, [x1]|stxr w2, x2, [x1]|stxr w2, x0, [x2]|stxr x0, [x1]|stlr w2, x0, [x1]
+stxr w2,x0, [x1]|stxr w2, x0,[x1]|stxr  w2, x0, [x1]|stlr x0, [x1]|stlrb x0, [x1]|stlr xzr, [sp]|ldxr w2, x0, [x1]
+ldxp x0, x1, [x2]|stxp w2, x0, x1, [x3]|ldlar x0, [x1]|stllr x0, [x1]|ldapr x0, [x1]|cas x0, x1, [x2]|casp x0, x1, x2, x3, [x4]
+rprfm #0, x1, [x2]|ldtr x0, [x1]|nop|.word 0|385ff020|short\t-\t1|385ff020\tldurb w0, [x1, #-1]\t0
 -|#|ldr|ldr |ldr x0|ldr x0,|ldr x0, '''
 
 
