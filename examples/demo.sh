@@ -9,7 +9,7 @@ rt check list replay > /dev/null
 lines() { printf "$1" | target/bin/list | cut -f 2 | paste -s -d ';' | sed 's/;/; /g'; }
 
 # Fields of a case: which case, which line of it, which field.
-field() { target/bin/replay < examples/login.cases | sed -n "$(($1 * 5 + $2))p" | cut -f "$3"; }
+field() { target/bin/replay < examples/login.cases | sed -n "$(($1 * 7 + $2))p" | cut -f "$3"; }
 
 echo "A plugin asks for the length of a password: $(lines '\x03\x10\x40\xf9')"
 echo "  There is no memory at $(field 0 1 6). Answer $(field 0 1 4), steps done: $(field 0 1 3)."

@@ -33,9 +33,9 @@ def state(password):
 
 def main():
     cases = [
-        Case('length', (LOAD_LENGTH,), state(b'sesame42'), 2),
-        Case('secret', (LOAD, STORE, USE), state(b'sesame42'), 6),
-        Case('secret', (LOAD, STORE, USE), state(b'open1234'), 6),
+        Case('length', (LOAD_LENGTH,), state(b'sesame42'), 2, 1),
+        Case('secret', (LOAD, STORE, USE), state(b'sesame42'), 6, 3),
+        Case('secret', (LOAD, STORE, USE), state(b'open1234'), 6, 3),
     ]
     folder = os.path.join(os.path.dirname(os.path.dirname(os.path.abspath(__file__))), 'examples')
     with open(os.path.join(folder, 'login.cases'), 'wb') as file:

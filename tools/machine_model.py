@@ -1,4 +1,4 @@
-"""A model of 01's step and run, with 02's CR 1, to hold the proved ones against.
+"""A model of 01's step and run, with 02's CR 1, CR 3 and CR 8's statuses, to hold the proved ones against.
 
 It is written from them alone and shares no code with the crates or with the other scripts, so that an error would have
 to be made twice to stay unseen. Each rule is a method of its own: machine_mutants.py overrides one at a time.
@@ -6,20 +6,23 @@ to be made twice to stay unseen. Each rule is a method of its own: machine_mutan
 from typing import NamedTuple, Optional
 
 SPACE = 1 << 64
-# The trace before a run, in every place.
-UNTOUCHED = SPACE - 1
+# The trace before a run, in every place, and the list of statuses.
+UNTOUCHED, NO_STATUS = SPACE - 1, 255
 # SP where it is the base, and the zero register elsewhere.
 LAST = 31
 # The test of the stack pointer, whose answer is 6.
 STACK = 'SP'
 
-LITERAL, PAIR, ORDERED, UNSCALED, POST, PRE, REGISTER, UNSIGNED = FAMILIES = (
-    'literal', 'pair', 'ordered', 'unscaled', 'post', 'pre', 'register', 'unsigned')
+LITERAL, PAIR, ORDERED, UNSCALED, POST, PRE, REGISTER, UNSIGNED, EXCLUSIVE = FAMILIES = (
+    'literal', 'pair', 'ordered', 'unscaled', 'post', 'pre', 'register', 'unsigned', 'exclusive')
 NO_ALLOCATE, PAIR_POST, PAIR_OFFSET, PAIR_PRE = range(4)
 # What is done above the bytes that a load takes.
 ZEROS, SIGNED_64, SIGNED_32 = range(3)
+# A monitor's address and size: a size of 0 is an open one.
+OPEN = 0, 0
 
-# 01's table, bit 31 first: a digit is fixed, and a letter stands for a bit of the field that NAMES gives it.
+# 01's table and 02's ninth family, bit 31 first: a digit is fixed, and a letter stands for a bit of the field that NAMES
+# gives it.
 ROWS = {
     LITERAL: 'oo 011 0 00 iiiiiiiiiiiiiiiiiii ttttt',
     PAIR: 'oo 101 0 0 yy L iiiiiii uuuuu nnnnn ttttt',
@@ -29,9 +32,10 @@ ROWS = {
     PRE: 'zz 111 0 00 oo 0 iiiiiiiii 11 nnnnn ttttt',
     REGISTER: 'zz 111 0 00 oo 1 mmmmm ppp S 10 nnnnn ttttt',
     UNSIGNED: 'zz 111 0 01 oo iiiiiiiiiiii nnnnn ttttt',
+    EXCLUSIVE: 'zz 001 0 00 a L 0 sssss b uuuuu nnnnn ttttt',
 }
 NAMES = {'z': 'size', 'o': 'opc', 'L': 'load', 'y': 'mode', 'i': 'imm', 'u': 'rt2', 'm': 'rm', 'p': 'option',
-         'S': 'scaled', 'n': 'rn', 't': 'rt'}
+         'S': 'scaled', 'n': 'rn', 't': 'rt', 'a': 'o2', 's': 'rs', 'b': 'o0'}
 
 
 def layout_of(row):
@@ -84,6 +88,9 @@ class Access(NamedTuple):
     # In bytes.
     offset: int = 0
     writeback: bool = False
+    # A load-exclusive or store-exclusive, and the latter's Rs.
+    exclusive: bool = False
+    status: Optional[int] = None
 
     def length(self):
         return self.width * len(self.targets)
@@ -92,14 +99,16 @@ class Access(NamedTuple):
 class State:
     """Everything that a step gets beside its word. The length of the window is that of the memory."""
 
-    def __init__(self, origin, readonly, pc, registers, tainted, memory, taint):
+    def __init__(self, origin, readonly, pc, registers, tainted, memory, taint, monitor=OPEN):
         self.origin, self.readonly, self.pc = origin, readonly, pc
         # X0 to X30 and SP.
         self.registers, self.tainted = list(registers), [bool(taint) for taint in tainted]
         self.memory, self.taint = bytearray(memory), bytearray(taint)
+        self.monitor = tuple(monitor)
 
     def copy(self):
-        return State(self.origin, self.readonly, self.pc, self.registers, self.tainted, self.memory, self.taint)
+        return State(self.origin, self.readonly, self.pc, self.registers, self.tainted, self.memory, self.taint,
+                     self.monitor)
 
     def end(self):
         """As a whole number: it may be 2^64 or more."""
@@ -107,13 +116,14 @@ class State:
 
 
 class Outcome(NamedTuple):
-    """What a run, or a step by itself, returns and leaves."""
+    """What a run returns and leaves."""
     steps: int
     answer: int
     code: int
     address: int
     state: State
     trace: list
+    statuses: bytearray
 
 
 class Model:
@@ -126,8 +136,16 @@ class Model:
     def family_of(self, word):
         for family, (mask, value, _) in LAYOUTS.items():
             if word & mask == value:
-                return family
+                return None if family == EXCLUSIVE and self.is_limited(fields_of(family, word)) else family
         return None
+
+    def is_limited(self, f):
+        """Bits 23 and 15 of ldlar and stllr, which are not of the set."""
+        return (f['o2'], f['o0']) == (1, 0)
+
+    def has_status(self, f):
+        """Whether a word of the ninth family is a store-exclusive."""
+        return (f['o2'], f['load']) == (0, 0)
 
     def is_undefined(self, family, f):
         if family == LITERAL:
@@ -136,6 +154,8 @@ class Model:
             if f['opc'] == 0b01:
                 return not (f['load'] == 1 and f['mode'] != NO_ALLOCATE)
             return f['opc'] == 0b11
+        if family == EXCLUSIVE:
+            return f['rt2'] != 31 or f['rs'] != 31 and not self.has_status(f)
         kind = f['size'], f['opc']
         if kind in ((0b10, 0b11), (0b11, 0b11)):
             return True
@@ -154,6 +174,10 @@ class Model:
             return Access(
                 family, False, f['load'] == 0, above, width, (f['rt'], f['rt2']), f['rn'],
                 offset=signed(f['imm'], 7) * width, writeback=f['mode'] in (PAIR_POST, PAIR_PRE))
+        if family == EXCLUSIVE:
+            return Access(
+                family, False, f['load'] == 0, ZEROS, 1 << f['size'], (f['rt'],), f['rn'], exclusive=f['o2'] == 0,
+                status=f['rs'] if self.has_status(f) else None)
         prefetch = (f['size'], f['opc']) == (0b11, 0b10)
         above = {0b00: ZEROS, 0b01: ZEROS, 0b10: SIGNED_64, 0b11: SIGNED_32}[f['opc']]
         access = Access(family, prefetch, f['opc'] == 0b00, above, 1 << f['size'], (f['rt'],), f['rn'])
@@ -219,6 +243,8 @@ class Model:
     def is_unpredictable(self, state, access, address):
         if access.writeback and access.base != LAST and access.base in access.targets:
             return True
+        if access.status is not None:
+            return access.status == access.targets[0] or access.status == access.base != LAST
         return access.family == PAIR and not access.store and access.targets[0] == access.targets[1]
 
     def is_tainted(self, state, access, address):
@@ -231,7 +257,10 @@ class Model:
         return access.base == LAST and state.registers[LAST] % 16 != 0
 
     def is_misaligned(self, state, access, address):
-        return access.family == ORDERED and address // 16 != (address + self.span(access) - 1) // 16
+        """02, CR 3: an exclusive is tested by its size, and ldar and stlr by 01's block."""
+        if access.exclusive:
+            return address % access.width != 0
+        return access.family in (ORDERED, EXCLUSIVE) and address // 16 != (address + self.span(access) - 1) // 16
 
     def is_outside(self, state, access, address):
         return not (state.origin <= address and address + self.span(access) <= state.end())
@@ -279,6 +308,34 @@ class Model:
     def write_back(self, state, access, moved):
         self.set(state, access.base, moved, False)
 
+    # 02, CR 3: the monitor, once all tests are passed.
+
+    def is_armed_for(self, state, access, address):
+        return state.monitor == (address, access.width)
+
+    def arm(self, state, access, address):
+        state.monitor = address, access.width
+
+    def open(self, state):
+        state.monitor = OPEN
+
+    def store_exclusive(self, state, access, address):
+        """The status: 0 if it stores, 1 if it doesn't."""
+        status = 0 if self.is_armed_for(state, access, address) else 1
+        if status == 0:
+            self.store(state, access, address)
+        else:
+            self.fail(state, access, address)
+        self.write_status(state, access, status)
+        self.open(state)
+        return status
+
+    def fail(self, state, access, address):
+        """A store-exclusive that fails changes no byte and no taint of one."""
+
+    def write_status(self, state, access, status):
+        self.write(state, access.status, status, False)
+
     def next_pc(self, pc):
         return (pc + 4) % SPACE
 
@@ -292,7 +349,7 @@ class Model:
         return answer, 0, 0 if answer <= 5 else address
 
     def step(self, word, state):
-        """Answer, code and address. A step that is done changes the state, and a refused one changes nothing."""
+        """Answer, code, address and status. A step that is done changes the state, and a refused one changes nothing."""
         family, f, access, address = self.family_of(word), None, None, None
         if family is not None:
             f = fields_of(family, word)
@@ -301,40 +358,51 @@ class Model:
                 address = self.address_of(state, access, f)
         for answer in self.ORDER:
             if self.is_refused(answer, state, word, family, f, access, address):
-                return self.refusal(answer, state, address)
+                return *self.refusal(answer, state, address), 0
         return self.done(state, access, address)
 
     def done(self, state, access, address):
-        code = 0
+        code, status = 0, 0
         if access.prefetch:
             address = 0
         else:
             code = self.code_of(access)
             moved = self.moved_base(state, access)
-            (self.store if access.store else self.load)(state, access, address)
+            status = self.access(state, access, address)
             if access.writeback:
                 self.write_back(state, access, moved)
         state.pc = self.next_pc(state.pc)
-        return 0, code, address
+        return 0, code, address, status
 
-    def single(self, word, given, room):
-        """A step by itself, beside a trace of so many numbers that it doesn't know of."""
+    def access(self, state, access, address):
+        """The status, which is 0 but for a store-exclusive that fails."""
+        if access.status is not None:
+            return self.store_exclusive(state, access, address)
+        (self.store if access.store else self.load)(state, access, address)
+        if access.exclusive:
+            self.arm(state, access, address)
+        return 0
+
+    def run(self, words, given, room, places):
+        """A run over the words with a trace of so many numbers, and a list of statuses with so many places."""
         state = given.copy()
-        answer, code, address = self.step(word, state)
-        return Outcome(int(answer == 0), answer, code, address, state, [UNTOUCHED] * room)
-
-    def run(self, words, given, room):
-        """A run over the words with a trace of so many numbers."""
-        state, trace = given.copy(), [UNTOUCHED] * room
         if self.is_bad_window(state):
-            return Outcome(0, 1, 0, 0, state, trace)
-        if room < 2 * len(words):
-            return Outcome(0, 10, 0, 0, state, trace)
+            return self.not_begun(1, state, room, places)
+        if self.is_short(words, room, places):
+            return self.not_begun(10, state, room, places)
         steps, answer, code, address = 0, 0, 0, 0
+        trace, statuses = [UNTOUCHED] * room, bytearray([NO_STATUS] * places)
         for word in words:
-            answer, code, address = self.step(word, state)
+            answer, code, address, status = self.step(word, state)
             if answer != 0:
                 break
             trace[2 * steps:2 * steps + 2] = code, address
+            statuses[steps] = status
             steps += 1
-        return Outcome(steps, answer, code, address, state, trace)
+        return Outcome(steps, answer, code, address, state, trace, statuses)
+
+    def is_short(self, words, room, places):
+        return room < 2 * len(words) or places < len(words)
+
+    def not_begun(self, answer, state, room, places):
+        return Outcome(0, answer, 0, 0, state, [UNTOUCHED] * room, bytearray([NO_STATUS] * places))

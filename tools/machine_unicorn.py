@@ -4,6 +4,15 @@ Unicorn is QEMU's emulator as a library, with code of its own for every instruct
 windows and answers: those are 01's, and the model's alone. For a step that is done, registers, PC, all bytes of the
 mapped pages, and the address, length and direction of the access have to be the same.
 
+QEMU's monitor holds the address of a load-exclusive and the value that it loaded, and no size. A store-exclusive at another
+address fails without an access. At the same address it reads its own bytes, stores if they are the low bytes of that
+value, and has status 0 if they are all of it; either way its address becomes 2^64 - 1, which stands for an open one. So
+it differs from 02 just where RULES says, and has to do then exactly what that gives. The monitor can't be set: where a
+case begins with an armed one, the processor does a load-exclusive there first.
+
+Of other things that 02 refuses, QEMU takes words whose unused registers aren't 31 as if they were, raises an exception
+for an exclusive load that isn't aligned, and fails an exclusive store that isn't.
+
 Made with unicorn 2.0.1, from Debian 12. Its "max" processor is the one that has the ordered instructions
 (FEAT_LRCPC2). Page tables are off, so that every address is there. QEMU tests no alignment of SP, whatever
 the system's switch for it says: that test is the model's alone.
@@ -14,7 +23,7 @@ from unicorn import UC_ARCH_ARM64, UC_HOOK_MEM_READ, UC_HOOK_MEM_WRITE, UC_MEM_W
 from unicorn.arm64_const import (
     UC_ARM64_REG_PC, UC_ARM64_REG_SP, UC_ARM64_REG_X0, UC_ARM64_REG_X29, UC_ARM64_REG_X30, UC_CPU_ARM64_MAX)
 
-from machine_model import SPACE
+from machine_model import EXCLUSIVE, LAST, SPACE, fields_of, word_of
 
 PAGE, OWN_PAGE = 4096, 1024
 NUMBERS = [UC_ARM64_REG_X0 + i for i in range(29)] + [UC_ARM64_REG_X29, UC_ARM64_REG_X30, UC_ARM64_REG_SP]
@@ -23,6 +32,11 @@ FILLING = b'\xa5'
 
 NO_STEP = 'no step is done'
 CODE_IN_WINDOW = 'the window lies over the words, which Unicorn has in memory'
+# Where a store-exclusive of Unicorn's differs from 02's.
+VALUE, SIZE, LAST_ADDRESS = RULES = (
+    '02 stores, and Unicorn fails: the bytes are not those that the load-exclusive read',
+    '02 fails, and Unicorn stores, with either status: the monitor is armed there with another size',
+    '02 fails, and Unicorn stores: its open monitor has the address 2^64 - 1')
 
 
 class Emulated:
@@ -46,6 +60,8 @@ class Emulated:
         for number, value in zip(NUMBERS, state.registers):
             self.uc.reg_write(number, value)
         self.uc.reg_write(UC_ARM64_REG_PC, state.pc)
+        # The address of QEMU's monitor, or None if it is open, and its value.
+        self.monitor = None, 0
         self.accesses = []
         self.uc.hook_add(UC_HOOK_MEM_READ | UC_HOOK_MEM_WRITE, self.note)
 
@@ -73,8 +89,57 @@ class Emulated:
             return False
         return True
 
-    def difference(self, state, code, address):
-        """What is otherwise than a state after a step of this code and address; None if nothing is."""
+    def arm(self, address, size):
+        """Has the processor do a load-exclusive, from a page that is used for nothing else."""
+        page = next(page for page in range(1 << 40, 1 << 41, PAGE) if page not in self.pages)
+        load = word_of(EXCLUSIVE, size=size.bit_length() - 1, load=1, rs=LAST, rt2=LAST, rn=0, rt=LAST)
+        self.uc.mem_map(page, PAGE)
+        self.uc.mem_write(page, struct.pack('<I', load))
+        given = [(number, self.uc.reg_read(number)) for number in (NUMBERS[0], UC_ARM64_REG_PC)]
+        self.uc.reg_write(NUMBERS[0], address)
+        self.uc.reg_write(UC_ARM64_REG_PC, page)
+        assert self.step()
+        for number, value in given:
+            self.uc.reg_write(number, value)
+        self.monitor = address, int.from_bytes(self.uc.mem_read(address, size), 'little')
+
+    def store_exclusive(self, before, after, access, address, status):
+        """After a store-exclusive: what QEMU's monitor gives, its accesses, and the rule by which that differs from 02."""
+        expected, at = after.copy(), address - before.origin
+        held, value = self.monitor
+        self.monitor = None, value
+        if (SPACE - 1 if held is None else held) != address:
+            stores, found, accesses = False, 1, []
+        else:
+            old = int.from_bytes(before.memory[at:at + access.width], 'little')
+            stores, found = old == value % (1 << 8 * access.width), int(old != value)
+            accesses = [(address, access.width, False), (address, access.width, True)]
+        if (stores, found) == (status == 0, status):
+            return expected, accesses, None
+        if access.status != LAST:
+            expected.registers[access.status] = found
+        kept = before.memory[at:at + access.width]
+        data = 0 if access.targets[0] == LAST else before.registers[access.targets[0]] % (1 << 8 * access.width)
+        expected.memory[at:at + access.width] = data.to_bytes(access.width, 'little') if stores else kept
+        if status == 0:
+            return expected, accesses, VALUE if before.monitor == (held, access.width) else None
+        if held is None:
+            return expected, accesses, LAST_ADDRESS
+        return expected, accesses, SIZE if before.monitor[0] == address and before.monitor[1] != access.width else None
+
+    def mend(self, state, access, address):
+        """Goes on from a state behind a store-exclusive that Unicorn does otherwise."""
+        if access.status != LAST:
+            self.uc.reg_write(NUMBERS[access.status], state.registers[access.status])
+        at = address - state.origin
+        self.uc.mem_write(address, bytes(state.memory[at:at + access.width]))
+        self.put(state.origin, state.memory)
+
+    def difference(self, state, code, address, accesses=None):
+        """What is otherwise than a state after a step of this code and address; None if nothing is.
+
+        The accesses are those of a store-exclusive.
+        """
         registers = [self.uc.reg_read(number) for number in NUMBERS]
         if registers != state.registers:
             return 'registers %s' % ['x%d: %x' % (i, value) for i, value in enumerate(registers)
@@ -84,6 +149,8 @@ class Emulated:
         self.put(state.origin, state.memory)
         if any(self.uc.mem_read(page, PAGE) != content for page, content in self.pages.items()):
             return 'memory'
+        if accesses is not None:
+            return None if self.accesses == accesses else 'accesses %s' % self.accesses
         accesses = self.asked_for()
         # A pair is two accesses, one behind the other.
         first = min((at for at, _, _ in accesses), default=0)
@@ -116,21 +183,51 @@ def words_in_window(words, state):
     return False
 
 
-def compare(model, case, steps):
-    """How many of the steps done in a case Unicorn confirms, how many are prefetches, and why none are, if so."""
+def emulated_from(model, case):
+    """Unicorn at the start of a case, armed if the case has words for that and its monitor is one that a step can leave."""
+    address, size = case.state.monitor
+    exclusive = any(model.family_of(word) == EXCLUSIVE for word in case.words)
+    if not exclusive or size not in (1, 2, 4, 8) or address % size:
+        return Emulated(case.words, case.state)
+    emulated = Emulated(case.words, case.state, (address,))
+    emulated.arm(address, size)
+    return emulated
+
+
+def compare(model, case, steps, counts):
+    """Counts the steps done in a case that Unicorn confirms, by kind; why there are none, if so."""
     if not steps:
-        return 0, 0, NO_STEP
+        return NO_STEP
     if words_in_window(case.words, case.state):
-        return 0, 0, CODE_IN_WINDOW
-    state, emulated, confirmed, prefetches = case.state.copy(), Emulated(case.words, case.state), 0, 0
+        return CODE_IN_WINDOW
+    state, emulated = case.state.copy(), emulated_from(model, case)
     for word in case.words[:steps]:
-        _, code, address = model.step(word, state)
-        difference = emulated.difference(state, code, address) if emulated.step() else 'refused'
-        if difference:
+        before = state.copy()
+        _, code, address, status = model.step(word, state)
+        family = model.family_of(word)
+        access = model.access_of(family, fields_of(family, word))
+        taken, expected, accesses, rule = emulated.step(), state, None, None
+        if access.status is not None:
+            expected, accesses, rule = emulated.store_exclusive(before, state, access, address, status)
+        difference = emulated.difference(expected, code, address, accesses) if taken else 'refused'
+        unruled = access.status is not None and rule is None and expected.registers != state.registers
+        if difference or unruled or rule is None and expected.memory != state.memory:
             raise SystemExit('no rule for %08x in %s: Unicorn has %s' % (word, case.group, difference))
-        confirmed += 1
-        prefetches += code == 0
-    return confirmed, prefetches, None
+        if rule:
+            emulated.mend(state, access, address)
+        elif access.exclusive and not access.store:
+            at = address - before.origin
+            emulated.monitor = address, int.from_bytes(before.memory[at:at + access.width], 'little')
+        counts[rule or kind_of(access, status)] += 1
+    return None
+
+
+def kind_of(access, status):
+    if access.status is not None:
+        return 'store-exclusives that fail' if status else 'store-exclusives that store'
+    if access.family == EXCLUSIVE:
+        return 'load-exclusives' if access.exclusive else 'ldar and stlr'
+    return 'prefetches' if access.prefetch else 'loads and stores'
 
 
 def refuses_undefined(word, state):
@@ -138,8 +235,26 @@ def refuses_undefined(word, state):
     return not Emulated([word], state).step()
 
 
-def reaches(word, state, address):
+def ignores_unused(word, state):
+    """Whether Unicorn does a word of the ninth family as if the registers that it doesn't use were 31."""
+    fields = fields_of(EXCLUSIVE, word)
+    status = {} if (fields['o2'], fields['load']) == (0, 0) else {'rs': LAST}
+    left = []
+    for each in (word, word_of(EXCLUSIVE, **{**fields, 'rt2': LAST, **status})):
+        emulated = Emulated([each], state)
+        taken = emulated.step()
+        left.append((taken, emulated.accesses, [emulated.uc.reg_read(number) for number in NUMBERS]))
+    return left[0] == left[1]
+
+
+def reaches(word, state, access, address):
     """Whether an access that the window refuses would be at this address if there were memory."""
     # The longest access, a pair, may go on at address 0.
     emulated = Emulated([word], state, (address, (address + 15) % SPACE))
+    if access.exclusive and address % access.width:
+        # A load raises an exception once it has asked for its bytes, and a store fails.
+        asked = [] if access.store else [(address, access.width, False)]
+        return emulated.step() == access.store and emulated.accesses == asked
+    if access.status is not None:
+        emulated.arm(address, access.width)
     return emulated.step() and emulated.asked_for()[0][0] == address

@@ -1,9 +1,9 @@
 """The input and output of the program `replay`: cases as bytes, and what must come as lines.
 
-A case, numbers little-endian: eight 64-bit numbers, which are W words, L bytes of memory, K bytes of taint, T numbers
-of trace, origin, r, PC, and 0 for a run of the words or 1 for one step of the first of them; 32 64-bit numbers, X0 to
-X30 and SP; 32 bytes, their taints, where nonzero is tainted; W words of 4 bytes; L bytes; K bytes. The trace starts
-with 2^64 - 1 in every place, and a step leaves it so. A step that is done counts as 1.
+A case, numbers little-endian: ten 64-bit numbers, which are W words, L bytes of memory, K bytes of taint, T numbers of
+trace, S statuses, origin, r, PC, and the address and size of the monitor; 32 64-bit numbers, X0 to X30 and SP; 32 bytes,
+their taints, where nonzero is tainted; W words of 4 bytes; L bytes; K bytes. The trace starts with 2^64 - 1 in every
+place, and the list of statuses with 255. A monitor of size 0 is open, and one that a step opens has the address 0.
 
 The lines of a case, fields parted by tabs:
 
@@ -12,21 +12,23 @@ The lines of a case, fields parted by tabs:
     memory, one field of hex digits
     taint, one field of hex digits
     trace, T numbers
+    monitor, its address and its size
+    statuses, one field of hex digits
 
-No memory or taint gives an empty field after its tab, and no trace gives `trace` alone, since it has no fields.
+No memory, taint or statuses gives an empty field after its tab, and no trace gives `trace` alone, since it has no fields.
 
 A case over the limits gives the one line `case`, number, `too large`, and input that ends inside a case the one line
-`case`, number, `cut short`; nothing comes after either. The limits are looked at once the eight numbers are there, so
-a case over them needs no more, and fewer than eight numbers are cut short whatever they are.
+`case`, number, `cut short`; nothing comes after either. The limits are looked at once the ten numbers are there, so
+a case over them needs no more, and fewer than ten numbers are cut short whatever they are.
 """
 import os
 import struct
 from typing import NamedTuple
 
-from machine_model import State
+from machine_model import OPEN, State
 
 TAINTED = 1, 255, 2, 128
-MOST_WORDS, MOST_MEMORY, MOST_TAINT, MOST_TRACE = LIMITS = 512, 4096, 4096, 1024
+MOST_WORDS, MOST_MEMORY, MOST_TAINT, MOST_TRACE, MOST_STATUSES = LIMITS = 512, 4096, 4096, 1024, 512
 
 
 class Case(NamedTuple):
@@ -34,27 +36,26 @@ class Case(NamedTuple):
     group: str
     words: tuple
     state: State
-    room: int = 2
-    # One step of the first word, and not a run.
-    single: bool = False
+    # Numbers of trace.
+    room: int
+    # Statuses.
+    places: int
 
 
 def outcome_of(model, case):
-    if case.single:
-        return model.single(case.words[0], case.state, case.room)
-    return model.run(case.words, case.state, case.room)
+    return model.run(case.words, case.state, case.room, case.places)
 
 
-def header(words, memory, taint, room, origin=0, readonly=0, pc=0, single=False):
-    return struct.pack('<8Q', words, memory, taint, room, origin, readonly, pc, single)
+def header(words, memory, taint, room, places, origin=0, readonly=0, pc=0, monitor=OPEN):
+    return struct.pack('<10Q', words, memory, taint, room, places, origin, readonly, pc, *monitor)
 
 
 def case_bytes(number, case):
     """The number only chooses what a tainted register's byte is: any value but 0 will do."""
     state = case.state
     return b''.join((
-        header(len(case.words), len(state.memory), len(state.taint), case.room, state.origin, state.readonly, state.pc,
-               case.single),
+        header(len(case.words), len(state.memory), len(state.taint), case.room, case.places, state.origin, state.readonly,
+               state.pc, state.monitor),
         struct.pack('<32Q', *state.registers),
         bytes(TAINTED[(number + i) % 4] if tainted else 0 for i, tainted in enumerate(state.tainted)),
         struct.pack('<%dI' % len(case.words), *case.words), state.memory, state.taint))
@@ -66,7 +67,8 @@ def case_lines(number, outcome):
     registers = ('%016x%s' % (value, '*' if tainted else '')
                  for value, tainted in zip(state.registers, state.tainted))
     lines = [['case', *map(str, numbers)], ['registers', *registers], ['memory', state.memory.hex()],
-             ['taint', state.taint.hex()], ['trace', *map(str, outcome.trace)]]
+             ['taint', state.taint.hex()], ['trace', *map(str, outcome.trace)],
+             ['monitor', *map(str, state.monitor)], ['statuses', outcome.statuses.hex()]]
     return ''.join('\t'.join(fields) + '\n' for fields in lines)
 
 
@@ -77,7 +79,7 @@ def bad_ending(number, why):
 def endings(model, case, largest):
     """Inputs that end in each way, by name, with what must come: a good case, the ending, and bytes after it."""
     whole, lines = case_bytes(0, case), case_lines(0, outcome_of(model, case))
-    cut = [('cut-after-%d-bytes' % length, whole[:length]) for length in (1, 8, 63, 64, 65, 319, 351, 354, 358)]
+    cut = [('cut-after-%d-bytes' % length, whole[:length]) for length in (1, 8, 64, 79, 80, 81, 335, 367, 370, 374)]
     cut.append(('cut-by-the-last-byte', whole[:-1]))
     yield 'nothing', b'', ''
     yield 'one-case', whole, lines
@@ -85,13 +87,13 @@ def endings(model, case, largest):
     for name, ending in cut:
         yield name, whole + ending, lines + bad_ending(1, 'cut short')
         yield name + '-first', ending, bad_ending(0, 'cut short')
-    for i, name in enumerate(('words', 'memory', 'taint', 'trace')):
+    for i, name in enumerate(('words', 'memory', 'taint', 'trace', 'statuses')):
         over = [limit + 1 if k == i else 1 for k, limit in enumerate(LIMITS)]
-        far = [(1 << 64) - 1 if k == i else 0 for k in range(4)]
+        far = [(1 << 64) - 1 if k == i else 0 for k in range(5)]
         # The rest of the case needn't be there, and if there is more, it isn't read.
         yield 'too-many-%s' % name, whole + header(*over) + whole, lines + bad_ending(1, 'too large')
         yield 'far-too-many-%s' % name, whole + header(*far), lines + bad_ending(1, 'too large')
-        yield 'cut-before-the-limits-%s' % name, header(*far)[:63], bad_ending(0, 'cut short')
+        yield 'cut-before-the-limits-%s' % name, header(*far)[:79], bad_ending(0, 'cut short')
 
 
 def write_endings(directory, model, case, largest):

@@ -4,9 +4,10 @@ A run is made by doing it: each next word is one that the model takes where the 
 it refuses. Words after that one are never reached, and have to leave no mark.
 """
 from machine_model import (
-    FAMILIES, LAST, LITERAL, ORDERED, PAIR, POST, PRE, REGISTER, SPACE, UNSCALED, UNSIGNED, State, word_of)
-from replay_format import MOST_MEMORY, MOST_TRACE, MOST_WORDS, Case
-from replay_states import MODEL, TAINTS, any_word, choices, prefetch_word, registers_of
+    EXCLUSIVE, FAMILIES, LAST, LITERAL, ORDERED, PAIR, POST, PRE, REGISTER, SPACE, UNSCALED, UNSIGNED, State, word_of)
+from replay_format import MOST_MEMORY, MOST_STATUSES, MOST_TRACE, MOST_WORDS, Case, outcome_of
+from replay_states import (
+    MODEL, TAINTS, any_monitor, any_word, choices, exclusive_choice, prefetch_word, registers_of)
 from replay_steps import bad_windows, spoiled, undefined_words, unpredictable_words
 
 # So far a base may be from the window to be led back into it.
@@ -33,7 +34,8 @@ def start(rng, length, pc=None, secret=False, readonly=None):
         pc = 4 * rng.randrange(250, 400) if origin >= 4096 else 4 * rng.randrange(1000, 2000)
     if readonly is None:
         readonly = rng.choice((0, 0, rng.randrange(length // 4 + 1)))
-    return State(origin, readonly, pc, registers, tainted, memory, taint)
+    monitor = any_monitor(rng, registers[rng.choice(numbers[:8])], rng.choice((1, 2, 4, 8)))
+    return State(origin, readonly, pc, registers, tainted, memory, taint, monitor)
 
 
 def aimed_word(rng, state):
@@ -48,6 +50,8 @@ def aimed_word(rng, state):
              and abs(state.registers[number] - state.origin) < NEAR]
     if bases:
         fields['rn'] = rng.choice(bases)
+    if family == EXCLUSIVE:
+        return exclusive_word(rng, state, bases, {**fields, **choice})
     if family == REGISTER:
         small = [number for number in range(32)
                  if not state.tainted[number] and state.registers[number] % (1 << 32) < 64]
@@ -59,6 +63,16 @@ def aimed_word(rng, state):
     else:
         width = 1 << choice['size'] if family == UNSIGNED else 8 if choice['opc'] == 2 else 4
     return word_of(family, **fields, **choice, imm=offset // width)
+
+
+def exclusive_word(rng, state, bases, fields):
+    """Often a store-exclusive that the monitor waits for, where a base has its address."""
+    address, size = state.monitor
+    armed = [number for number in bases if state.registers[number] == address]
+    if armed and size in (1, 2, 4, 8) and rng.randrange(3):
+        choice = exclusive_choice((1, 2, 4, 8).index(size), 0, 0, rng.getrandbits(1))
+        return word_of(EXCLUSIVE, **{**fields, **choice, 'rn': rng.choice(armed), 'rs': rng.randrange(32)})
+    return word_of(EXCLUSIVE, **fields)
 
 
 def refused_word(rng, state, answer):
@@ -73,7 +87,7 @@ def refused_word(rng, state, answer):
         elif attempt % 2:
             word = aimed_word(rng, state)
         else:
-            word = any_word(rng, rng.choice((PAIR, ORDERED, PRE, REGISTER)), rn=rng.randrange(32))
+            word = any_word(rng, rng.choice((PAIR, ORDERED, PRE, REGISTER, EXCLUSIVE)), rn=rng.randrange(32))
         found = MODEL.step(word, state.copy())[0]
         if found == answer or found and attempt > 300:
             return word
@@ -106,13 +120,13 @@ def any_run(rng, group, done, refused=None, more=0, extra=0, **how):
     length = rng.choice((16, 24, 32, 32, 48))
     given = start(rng, length, readonly=length // 2 if refused == 8 else None, **how)
     words = words_from(rng, given, done, refused, more)
-    return Case(group, words, given, 2 * len(words) + extra)
+    return Case(group, words, given, 2 * len(words) + extra, len(words))
 
 
 def largest_case(rng):
     """One at all of the program's limits."""
     given = start(rng, MOST_MEMORY)
-    return Case('at the limits', words_from(rng, given, MOST_WORDS), given, MOST_TRACE)
+    return Case('at the limits', words_from(rng, given, MOST_WORDS), given, MOST_TRACE, MOST_STATUSES)
 
 
 def done_runs(rng):
@@ -130,10 +144,15 @@ def refused_runs(rng):
     yield any_run(rng, 'long run refused at its end', 120, 7)
 
 
-def short_traces(rng):
-    for _ in range(80):
-        case = any_run(rng, 'trace too short', rng.randrange(1, 9), rng.choice((None, 3, 7)))
-        yield case._replace(room=rng.choice((0, 1, 2, case.room - 1, case.room - 2, case.room // 2)))
+def short_lists(rng):
+    """A trace, a list of statuses, or both, that the words don't fit in."""
+    for i in range(120):
+        case = any_run(rng, 'trace or list too short', rng.randrange(1, 9), rng.choice((None, 3, 7)))
+        if i % 3 != 0:
+            case = case._replace(places=rng.choice((0, len(case.words) - 1, len(case.words) // 2)))
+        if i % 3 != 1:
+            case = case._replace(room=rng.choice((0, 1, 2, case.room - 1, case.room - 2, case.room // 2)))
+        yield case
 
 
 def empty_runs(rng):
@@ -147,8 +166,9 @@ def empty_runs(rng):
 def bad_window_runs(rng):
     for spoil in bad_windows() * 3:
         case = any_run(rng, 'answer 1 at the start', rng.randrange(1, 6))
-        room = case.room if rng.getrandbits(1) else rng.randrange(case.room)
-        yield case._replace(state=spoiled(case.state, spoil), room=room)
+        room, places = rng.choice((
+            (case.room, case.places), (rng.randrange(case.room), case.places), (case.room, rng.randrange(case.places))))
+        yield case._replace(state=spoiled(case.state, spoil), room=room, places=places)
 
 
 def wrapping_runs(rng):
@@ -173,7 +193,8 @@ def seen(outcome):
     """What two runs that differ in tainted values only must have in common."""
     state = outcome.state
     return (outcome.steps, outcome.answer, outcome.code, outcome.address, state.pc, state.taint, state.tainted,
-            outcome.trace, [value for value, tainted in zip(state.registers, state.tainted) if not tainted],
+            outcome.trace, outcome.statuses, state.monitor,
+            [value for value, tainted in zip(state.registers, state.tainted) if not tainted],
             [byte for byte, taint in zip(state.memory, state.taint) if not taint])
 
 
@@ -183,13 +204,13 @@ def secret_runs(rng):
         case = any_run(rng, 'pair of runs', rng.randrange(2, 14), 5 if i % 4 == 0 else rng.choice((None, None, 7)),
                        more=rng.randrange(2), secret=True)
         twin = case._replace(state=with_other_secrets(rng, case.state))
-        assert seen(MODEL.run(case.words, case.state, case.room)) == seen(MODEL.run(twin.words, twin.state, twin.room))
+        assert seen(outcome_of(MODEL, case)) == seen(outcome_of(MODEL, twin))
         yield case
         yield twin
 
 
 def all_runs(rng):
     cases = []
-    for group in (done_runs, refused_runs, short_traces, empty_runs, bad_window_runs, wrapping_runs, secret_runs):
+    for group in (done_runs, refused_runs, short_lists, empty_runs, bad_window_runs, wrapping_runs, secret_runs):
         cases += group(rng)
     return cases

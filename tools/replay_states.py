@@ -2,13 +2,15 @@
 import itertools
 
 from machine_model import (
-    LAST, LAYOUTS, LITERAL, NO_ALLOCATE, ORDERED, PAIR, POST, PRE, REGISTER, SPACE, UNSCALED, UNSIGNED, Model, State,
-    fields_of, word_of)
+    EXCLUSIVE, LAST, LAYOUTS, LITERAL, NO_ALLOCATE, OPEN, ORDERED, PAIR, POST, PRE, REGISTER, SPACE, UNSCALED, UNSIGNED,
+    Model, State, fields_of, word_of)
 
 MODEL = Model()
 SIZED = (ORDERED, UNSCALED, POST, PRE, UNSIGNED)
 WITH_PREFETCH = (UNSCALED, REGISTER, UNSIGNED)
 TAINTS = (1, 1, 2, 128, 255)
+# Bits 23, 22 and 15 of the ninth family: stxr, stlxr, ldxr, ldaxr, stlr, ldar.
+EXCLUSIVES = ((0, 0, 0), (0, 0, 1), (0, 1, 0), (0, 1, 1), (1, 0, 1), (1, 1, 1))
 
 
 # Words.
@@ -29,11 +31,21 @@ def choices(family):
     if family == REGISTER:
         return [{**choice, 'option': option, 'scaled': scaled}
                 for choice in sized_choices() for option in (2, 3, 6, 7) for scaled in range(2)]
+    if family == EXCLUSIVE:
+        return [exclusive_choice(size, *kind) for size in range(4) for kind in EXCLUSIVES]
     return sized_choices()
+
+
+def exclusive_choice(size, o2, load, o0):
+    """Registers that aren't used are 31."""
+    choice = {'size': size, 'o2': o2, 'load': load, 'o0': o0, 'rt2': LAST}
+    return choice if (o2, load) == (0, 0) else {**choice, 'rs': LAST}
 
 
 def immediates(family):
     """The edges of an immediate, as numbers: the ends, and about 0 and the middle."""
+    if family in (REGISTER, EXCLUSIVE):
+        return []
     if family == UNSIGNED:
         return [0, 1, 2047, 2048, 4094, 4095]
     half = 1 << LAYOUTS[family][2]['imm'][1] - 1
@@ -41,11 +53,13 @@ def immediates(family):
 
 
 def any_immediate(rng, family):
-    return {'imm': rng.getrandbits(LAYOUTS[family][2]['imm'][1])} if family != REGISTER else {}
+    return {'imm': rng.getrandbits(LAYOUTS[family][2]['imm'][1])} if immediates(family) else {}
 
 
 def registers_of(family):
-    return [name for name in ('rt', 'rn', 'rt2', 'rm') if name in LAYOUTS[family][2]]
+    """The ninth family has no register in Rt2."""
+    names = ('rt', 'rn', 'rs') if family == EXCLUSIVE else ('rt', 'rn', 'rt2', 'rm')
+    return [name for name in names if name in LAYOUTS[family][2]]
 
 
 def is_unpredictable(word):
@@ -148,12 +162,14 @@ def state_for(rng, word, address=None, before=None, after=None, readonly=None, p
     length = access.length()
     registers, tainted = [rng.getrandbits(64) for _ in range(32)], [rng.randrange(8) == 0 for _ in range(32)]
     state = State(0, 0, 0, registers, tainted, b'', b'')
-    for number in access.targets:
+    for number in access.targets if access.status is None else (*access.targets, access.status):
         state.tainted[number] = state.tainted[number] or rng.getrandbits(1) == 1
     state.pc = pc if pc is not None else 4 * rng.randrange(250, 1000)
     if address is None:
         address = any_address(rng, any_place(rng), length)
-        if access.family == ORDERED:
+        if access.exclusive:
+            address -= address % length
+        elif access.family in (ORDERED, EXCLUSIVE):
             address += min(0, 16 - length - address % 16)
         if access.family == LITERAL:
             address -= address % 4
@@ -166,10 +182,23 @@ def state_for(rng, word, address=None, before=None, after=None, readonly=None, p
     state.taint = any_taint(rng, len(state.memory), address - state.origin, length)
     if readonly is None:
         readonly = rng.randrange(address - state.origin + 1 if access.store else len(state.memory) + 1)
-    state.readonly = readonly
+    state.readonly, state.monitor = readonly, any_monitor(rng, address, access.width)
     untaint(state, access)
     show_words(state, (word,))
     return state
+
+
+def any_monitor(rng, address, width):
+    """Open, armed for an access, armed near it, or any numbers."""
+    kind = rng.randrange(5)
+    if kind == 0:
+        return OPEN
+    if kind <= 2:
+        return address, width
+    if kind == 3:
+        return (address + rng.randrange(-8, 9)) % SPACE, rng.choice((1, 2, 4, 8))
+    return rng.choice(((rng.getrandbits(64), rng.getrandbits(64)), (address, 0), (address, 16 * width), (address, SPACE - 1),
+                       (rng.getrandbits(64), 0), (address, width + (1 << 32))))
 
 
 def untaint(state, access):

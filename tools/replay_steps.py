@@ -6,21 +6,20 @@ that address. The edges then change one thing, or several at once where the orde
 import itertools
 
 from machine_model import (
-    FAMILIES, LAST, LAYOUTS, LITERAL, NO_ALLOCATE, ORDERED, PAIR, PAIR_POST, PAIR_PRE, POST, PRE, REGISTER, SPACE,
-    UNSCALED, UNSIGNED, State, fields_of, word_of)
-from replay_format import Case
+    EXCLUSIVE, FAMILIES, LAST, LAYOUTS, LITERAL, NO_ALLOCATE, ORDERED, PAIR, PAIR_POST, PAIR_PRE, POST, PRE, REGISTER,
+    SPACE, UNSCALED, UNSIGNED, State, fields_of, word_of)
+from replay_format import MOST_STATUSES, Case, outcome_of
 from replay_states import (
-    MODEL, SIZED, TAINTS, WITH_PREFETCH, access_of, any_address, any_immediate, any_word, choices, equal_registers,
-    immediates, is_unpredictable, prefetch_word, registers_of, sized_choices, state_for)
+    EXCLUSIVES, MODEL, SIZED, TAINTS, WITH_PREFETCH, access_of, any_address, any_immediate, any_word, choices,
+    equal_registers, exclusive_choice, immediates, is_unpredictable, prefetch_word, registers_of, sized_choices,
+    state_for)
 
 # Done cases for each choice of an instruction. The runs add more of each, so that every register stands in every place.
-EACH = {LITERAL: 20, PAIR: 17, REGISTER: 10, **{family: 16 for family in SIZED}}
-# One in so many is done as a run of one word too, and one in so many steps stands beside a trace.
-ALSO_RUN, BESIDE_TRACE = 5, 16
+EACH = {LITERAL: 20, PAIR: 17, REGISTER: 10, EXCLUSIVE: 20, **{family: 16 for family in SIZED}}
 
 
-def step(group, word, state, room=2):
-    return Case(group, (word,), state, room)
+def step(group, word, state, room=2, places=1):
+    return Case(group, (word,), state, room, places)
 
 
 # 01's examples, with the values that it gives.
@@ -78,7 +77,7 @@ def examples():
 
 def example_cases():
     for case, expected, changed in examples():
-        outcome = MODEL.run(case.words, case.state, case.room)
+        outcome = outcome_of(MODEL, case)
         registers = list(case.state.registers)
         for number, value in changed.items():
             registers[number] = value
@@ -100,7 +99,7 @@ def done_with(rng, family, choice):
     names = registers_of(family)
     orders = {name: rng.sample(range(32), 32) for name in names}
     equal = list(equal_registers(rng, family))
-    edges = immediates(family) if family != REGISTER else []
+    edges = immediates(family)
     made = 0
     for i in itertools.count():
         if made == EACH[family]:
@@ -109,12 +108,12 @@ def done_with(rng, family, choice):
         if i < len(equal):
             fields.update(equal[i])
         imm = {'imm': edges[i % len(edges)]} if edges and i < 2 * len(edges) else any_immediate(rng, family)
-        word = word_of(family, **fields, **imm, **choice)
+        word = word_of(family, **{**fields, **imm, **choice})
         if is_unpredictable(word):
             continue
         case = step('done: ' + family, word, state_for(rng, word))
         # A base that is its own index leads anywhere, now and then across the end of the address space.
-        if MODEL.run(case.words, case.state, 2).answer == 0:
+        if outcome_of(MODEL, case).answer == 0:
             made += 1
             yield case
 
@@ -204,9 +203,12 @@ def foreign_words(rng):
             if mask >> bit & 1:
                 yield (rng.getrandbits(32) & ~mask | value if bit % 2 else any_word(rng, family)) ^ 1 << bit
     yield from (0, 0xffffffff, 0x91000000, 0xd503201f, 0xd65f03c0, 0x14000000)
-    # ldtr, ldxr, ldar, ldadd, swp, ldapr, ldraa, cas, stg, ldr q, stp q, ld1, ldr of a vector literal.
-    yield from (0xf8400820, 0xc85f7c20, 0xc8dffc20, 0xf8200020, 0xf8208020, 0xf8bfc020, 0xf8200420, 0xc8a07c20,
-                0xd9200820, 0x3dc00020, 0xad000420, 0x4c407020, 0x1c000020)
+    # ldtr, ldxp, stxp, ldlar, stllr, casp, ldadd, swp, ldapr, ldraa, cas, stg, ldr q, stp q, ld1, ldr of a vector literal.
+    yield from (0xf8400820, 0xc87f0820, 0xc8230820, 0xc8df7c20, 0x089f7c20, 0x48207c82, 0xf8200020, 0xf8208020, 0xf8bfc020,
+                0xf8200420, 0xc8a07c20, 0xd9200820, 0x3dc00020, 0xad000420, 0x4c407020, 0x1c000020)
+    for size, load in itertools.product(range(4), range(2)):
+        yield word_of(EXCLUSIVE, size=size, o2=1, load=load, rs=rng.choice((LAST, rng.getrandbits(5))), rt2=LAST,
+                      rn=0, rt=rng.getrandbits(5))
 
 
 def foreign_cases(rng):
@@ -227,6 +229,18 @@ def undefined_words(rng):
         yield any_word(rng, PAIR, {'opc': 3, 'mode': mode, 'load': load})
         if load == 0 or mode == NO_ALLOCATE:
             yield any_word(rng, PAIR, {'opc': 1, 'mode': mode, 'load': load})
+    yield from undefined_exclusives(rng)
+
+
+def undefined_exclusives(rng):
+    """An unused register that isn't 31: one of its bits, or all, are 0. Of answer 4 too, which comes later."""
+    for choice in choices(EXCLUSIVE):
+        unused = [name for name in ('rt2', 'rs') if name in choice]
+        fields = {**{name: rng.getrandbits(5) for name in ('rt', 'rn', 'rs')}, **choice}
+        for name in unused:
+            yield word_of(EXCLUSIVE, **{**fields, name: rng.choice((0, LAST ^ 1 << rng.randrange(5)))})
+        if 'rs' not in choice:
+            yield word_of(EXCLUSIVE, **{**fields, 'rt2': 30, 'rs': fields['rt']})
 
 
 def undefined_cases(rng):
@@ -254,6 +268,17 @@ def unpredictable_words(rng):
         if choice['load']:
             yield word_of(PAIR, rt=same, rt2=same, rn=other, **imm, **choice)
             yield word_of(PAIR, rt=LAST, rt2=LAST, rn=rng.choice((other, LAST)), **imm, **choice)
+    yield from unpredictable_exclusives(rng)
+
+
+def unpredictable_exclusives(rng):
+    for choice in choices(EXCLUSIVE):
+        if 'rs' in choice:
+            continue
+        same, other = rng.sample(range(31), 2)
+        for rs, rt, rn in ((same, same, other), (same, other, same), (same, same, same), (LAST, LAST, other),
+                           (LAST, LAST, LAST), (same, same, LAST), (same, LAST, same)):
+            yield word_of(EXCLUSIVE, rs=rs, rt=rt, rn=rn, **choice)
 
 
 def unpredictable_cases(rng):
@@ -262,7 +287,7 @@ def unpredictable_cases(rng):
 
 
 def tainted_cases(rng):
-    for family in (PAIR, *SIZED):
+    for family in (PAIR, *SIZED, EXCLUSIVE):
         for choice in choices(family)[::2 if family != PAIR else 1]:
             word = any_word(rng, family, choice)
             yield step('answer 5, base', word, with_taint(state_for(rng, word), access_of(word).base))
@@ -308,17 +333,19 @@ def prefetch_cases(rng):
 
 def ordered_cases(rng):
     """The first and last places in a block of 16, and those that cross its end."""
-    for choice in choices(ORDERED):
+    both = [(ORDERED, choice) for choice in choices(ORDERED)]
+    both += [(EXCLUSIVE, choice) for choice in choices(EXCLUSIVE) if choice['o2'] == 1]
+    for family, choice in both:
         width = 1 << choice['size']
         places = {0, 16 - width, 17 - width, 15} if width > 1 else {0, 15}
         for place in sorted(places):
-            word = any_word(rng, ORDERED, choice)
+            word = any_word(rng, family, choice)
             block = any_address(rng, 'small', 16) // 16 * 16
             yield step('block of 6', word, state_for(rng, word, block + place))
         if width == 1:
             continue
         # 6 comes before 7 and 8, and the end of the address space is one of a block.
-        word = any_word(rng, ORDERED, choice)
+        word = any_word(rng, family, choice)
         state = state_for(rng, word, block + 17 - width)
         state.origin += 4096
         yield step('6 before 7', word, state)
@@ -352,7 +379,7 @@ def stack_word(rng, family, sp, aligned):
 
 def stack_cases(rng):
     """SP at each place in a block of 16, in every family; tainted, outside the window and read-only; and no base."""
-    for family in (PAIR, *SIZED, REGISTER):
+    for family in (PAIR, *SIZED, REGISTER, EXCLUSIVE):
         for residue in range(16):
             sp = 65536 + 16 * rng.randrange(1000) + residue
             for aligned in (True, False):
@@ -395,6 +422,10 @@ def accesses_by_length(rng):
                 yield any_word(rng, family, {'size': size, 'opc': opc, **option}, **distinct(rng, family))
     for choice in choices(PAIR):
         yield any_word(rng, PAIR, choice)
+    for choice in choices(EXCLUSIVE):
+        # Those that may be anywhere in a block; replay_exclusives.py has the others.
+        if choice['o2'] == 1:
+            yield any_word(rng, EXCLUSIVE, choice)
     yield any_word(rng, LITERAL)
 
 
@@ -470,17 +501,17 @@ def pc_cases(rng):
 
 
 def trace_cases(rng):
-    """Traces that are too short, just long enough, and longer; odd ones too."""
-    for room in (0, 1):
+    """Traces and lists of statuses that are too short, just long enough, and longer; odd ones too."""
+    for room, places in ((0, 1), (1, 1), (2, 0), (5, 0), (1, 0)):
         for word in some_words(rng):
-            yield step('answer 10', word, state_for(rng, word), room)
+            yield step('answer 10', word, state_for(rng, word), room, places)
         for word in (0x91000000, 0xb8c00020, 0xa9400020):
-            yield step('answer 10 before 2, 3 and 4', word, state_for(rng, 0x385ff020), room)
+            yield step('answer 10 before 2, 3 and 4', word, state_for(rng, 0x385ff020), room, places)
     for room in (3, 4, 5, 7):
         for word in rng.sample(list(some_words(rng)), 4):
-            yield step('longer trace', word, state_for(rng, word), room)
+            yield step('longer trace', word, state_for(rng, word), room, room % 3 + 1)
         word = any_word(rng, PAIR)
-        yield step('longer trace', word, sized(rng, state_for(rng, word), 0, 3), room)
+        yield step('longer trace', word, sized(rng, state_for(rng, word), 0, 3), room, room % 3 + 1)
 
 
 # Several flaws at once.
@@ -495,22 +526,25 @@ def flaws_of(case):
         flaws.append(2 if family is None else 3)
     elif not access.prefetch:
         address = MODEL.address_of(state, access, fields_of(family, word))
-        tests = ((4, MODEL.is_unpredictable), (5, MODEL.is_tainted), (6, MODEL.is_stack_misaligned), (6, MODEL.is_misaligned),
-                 (7, MODEL.is_outside))
+        tests = ((4, MODEL.is_unpredictable), (5, MODEL.is_tainted), (6, MODEL.is_stack_misaligned),
+                 (6, MODEL.is_misaligned), (7, MODEL.is_outside))
         flaws += [answer for answer, test in tests if test(state, access, address)]
         first = max(address, state.origin)
         if access.store and first < min(address + access.length(), state.origin + state.readonly):
             flaws.append(8)
-    return flaws + [10] * (case.room < 2 and not case.single)
+    return flaws + [10] * MODEL.is_short(case.words, case.room, case.places)
 
 
 def flawed_word(rng, flaws):
     """An allocated word that can have these flaws among 4 and 6."""
     if 4 in flaws:
-        return rng.choice(list(unpredictable_words(rng)))
+        return rng.choice(list(unpredictable_exclusives(rng) if 6 in flaws else unpredictable_words(rng)))
     if 6 in flaws:
-        return any_word(rng, ORDERED, {'size': rng.randrange(1, 4), 'opc': 0})
-    return any_word(rng, rng.choice((PAIR, UNSCALED, POST, PRE, REGISTER, UNSIGNED)))
+        # Stores.
+        size = rng.randrange(1, 4)
+        choice = exclusive_choice(size, *rng.choice(EXCLUSIVES[:2] + EXCLUSIVES[4:5]))
+        return rng.choice((any_word(rng, ORDERED, {'size': size, 'opc': 0}), any_word(rng, EXCLUSIVE, choice)))
+    return any_word(rng, rng.choice((PAIR, UNSCALED, POST, PRE, REGISTER, UNSIGNED, EXCLUSIVE)))
 
 
 def flawed_case(rng, flaws):
@@ -527,14 +561,15 @@ def flawed_case(rng, flaws):
         word = 0x91000000 if 2 in flaws else 0xb8c00020 | rng.getrandbits(10)
     if 1 in flaws:
         spoiled(state, rng.choice(bad_windows()))
-    return step('several flaws', word, state, rng.getrandbits(1) if 10 in flaws else 2)
+    room, places = rng.choice(((0, 1), (1, 1), (2, 0), (0, 0))) if 10 in flaws else (2, 1)
+    return step('several flaws', word, state, room, places)
 
 
 def flawed_cases(rng, each=3):
     """For each two answers that one step may fail both of, so many cases, and more with three or four."""
     for pair in itertools.combinations((1, 2, 3, 4, 5, 6, 7, 8, 10), 2):
-        # A word that isn't allocated has no access, and an ordered one writes nothing back.
-        if pair in ((2, 3), (4, 6)) or set(pair) & {2, 3} and not set(pair) & {1, 10}:
+        # A word that isn't allocated has no access.
+        if pair == (2, 3) or set(pair) & {2, 3} and not set(pair) & {1, 10}:
             continue
         made = 0
         while made < each:
@@ -557,21 +592,17 @@ def random_cases(rng):
         yield step('any word and state', word, state)
 
 
-def both_ways(cases):
-    """Each case as a step by itself, and some as a run too. What a trace of another length does, only a run shows."""
-    both = []
-    for i, case in enumerate(cases):
-        if case.room == 2:
-            both.append(case._replace(single=True, room=0 if i % BESIDE_TRACE else 2))
-        if case.room != 2 or case.group == EXAMPLES or i % ALSO_RUN == 0:
-            both.append(case)
-    return both
+def with_longer_lists(cases):
+    """Every third list of statuses that is just long enough gets a few places more."""
+    return [case._replace(places=case.places + 1 + i % 4)
+            if i % 3 == 0 and case.places == len(case.words) <= MOST_STATUSES - 4 else case
+            for i, case in enumerate(cases)]
 
 
 def all_steps(rng):
     cases = list(example_cases())
     for group in (done_cases, bad_window_cases, foreign_cases, undefined_cases, unpredictable_cases, tainted_cases,
-                  prefetch_cases, ordered_cases, stack_cases, outside_cases, read_only_cases, pc_cases, trace_cases, flawed_cases,
-                  random_cases):
+                  prefetch_cases, ordered_cases, stack_cases, outside_cases, read_only_cases, pc_cases, trace_cases,
+                  flawed_cases, random_cases):
         cases += group(rng)
     return cases
