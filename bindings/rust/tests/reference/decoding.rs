@@ -30,6 +30,11 @@ pub enum Family {
     PreIndex,
     Register,
     Unsigned,
+    /// The ninth family, of 02: whether the monitor is asked, and whether it acquires or releases.
+    Exclusive {
+        monitored: bool,
+        ordered: bool,
+    },
 }
 
 /// An allocated word. A field that the family doesn't have is 0.
@@ -43,6 +48,8 @@ pub struct Instruction {
     pub rt2: u8,
     pub rn: u8,
     pub rm: u8,
+    /// The status register of a store-exclusive.
+    pub rs: u8,
     pub option: u8,
     pub shifted: bool,
     /// In bytes.
@@ -67,8 +74,21 @@ impl Instruction {
         self.is_post() || matches!(self.family, Family::PreIndex | Family::Pair(Mode::Pre))
     }
 
+    /// Whether it is a load-exclusive or a store-exclusive.
+    pub fn is_monitored(&self) -> bool {
+        matches!(self.family, Family::Exclusive { monitored: true, .. })
+    }
+
+    /// Whether it is a store-exclusive.
+    pub fn has_status(&self) -> bool {
+        self.is_monitored() && self.is_store()
+    }
+
     /// Answer 4.
     pub fn is_unpredictable(&self) -> bool {
+        if self.has_status() {
+            return self.rs == self.rt || self.rs == self.rn && self.rn != 31;
+        }
         let moves_base = self.rn == self.rt || self.is_pair() && self.rn == self.rt2;
         self.writes_back() && self.rn != 31 && moves_base || self.is_pair() && !self.is_store() && self.rt == self.rt2
     }
@@ -82,7 +102,7 @@ fn signed(word: u32, high: u32, low: u32) -> i64 {
     ((word << (31 - high)) as i32 >> (31 - high + low)) as i64
 }
 
-/// The line of 01's table that the word matches.
+/// The line of 01's table, or 02's, that the word matches.
 fn family_of(word: u32) -> Option<Family> {
     if field(word, 26, 26) != 0 {
         return None;
@@ -105,6 +125,11 @@ fn family_of(word: u32) -> Option<Family> {
             _ => None,
         },
         (0b111, 0b01) => Some(Family::Unsigned),
+        (0b001, 0b00) if tail.0 == 0 => match (field(word, 23, 23), field(word, 15, 15)) {
+            (0, last) => Some(Family::Exclusive { monitored: true, ordered: last == 1 }),
+            (_, 1) => Some(Family::Exclusive { monitored: false, ordered: true }),
+            _ => None,
+        },
         _ => None,
     }
 }
@@ -128,6 +153,14 @@ fn kind_of(word: u32, family: Family) -> Option<(u32, Operation)> {
                 0b01 if loads && mode != Mode::NoAllocate => Some((2, Operation::LoadSigned64)),
                 _ => None,
             }
+        }
+        Family::Exclusive { monitored, .. } => {
+            let loads = field(word, 22, 22) == 1;
+            let has_status = monitored && !loads;
+            if field(word, 14, 10) != 31 || !has_status && field(word, 20, 16) != 31 {
+                return None;
+            }
+            Some((top, if loads { Operation::Load } else { Operation::Store }))
         }
         _ => {
             if family == Family::Register && field(word, 14, 14) == 0 {
@@ -161,6 +194,7 @@ pub fn decode(word: u32) -> Result<Instruction, u8> {
         rt2: 0,
         rn: field(word, 9, 5) as u8,
         rm: 0,
+        rs: 0,
         option: 0,
         shifted: false,
         offset: 0,
@@ -183,6 +217,8 @@ pub fn decode(word: u32) -> Result<Instruction, u8> {
         Family::Ordered | Family::Unscaled | Family::PostIndex | Family::PreIndex => {
             instruction.offset = signed(word, 20, 12);
         }
+        Family::Exclusive { .. } if instruction.has_status() => instruction.rs = field(word, 20, 16) as u8,
+        Family::Exclusive { .. } => {}
     }
     Ok(instruction)
 }

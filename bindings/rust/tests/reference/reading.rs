@@ -13,13 +13,16 @@ enum Kind {
     Ordered,
     Pair,
     NoAllocatePair,
+    Exclusive,
+    StoreExclusive,
 }
 
 /// A mnemonic, with the registers that it takes: W, X, either, or the hint of a prefetch.
 struct Name {
     text: &'static str,
     kind: Kind,
-    /// Size and opc where W, X or a hint is the first operand; for a pair only opc, and L.
+    /// Size and opc where W, X or a hint is the first operand; for a pair only opc, and L. For the ninth family size, and
+    /// bits 23, 22 and 15 side by side; a store-exclusive's first operand is its second, behind the status.
     w: Option<(u32, u32)>,
     x: Option<(u32, u32)>,
     hint: Option<(u32, u32)>,
@@ -33,7 +36,7 @@ const fn prefetch(text: &'static str, kind: Kind) -> Name {
     Name { text, kind, w: None, x: None, hint: Some((3, 2)) }
 }
 
-const NAMES: [Name; 34] = [
+const NAMES: [Name; 52] = [
     name("strb", Plain, Some((0, 0)), None),
     name("ldrb", Plain, Some((0, 1)), None),
     name("ldrsb", Plain, Some((0, 3)), Some((0, 2))),
@@ -69,6 +72,24 @@ const NAMES: [Name; 34] = [
     name("ldpsw", Pair, None, Some((1, 1))),
     name("stnp", NoAllocatePair, Some((0, 0)), Some((2, 0))),
     name("ldnp", NoAllocatePair, Some((0, 1)), Some((2, 1))),
+    name("stxrb", StoreExclusive, Some((0, 0b000)), None),
+    name("stxrh", StoreExclusive, Some((1, 0b000)), None),
+    name("stxr", StoreExclusive, Some((2, 0b000)), Some((3, 0b000))),
+    name("stlxrb", StoreExclusive, Some((0, 0b001)), None),
+    name("stlxrh", StoreExclusive, Some((1, 0b001)), None),
+    name("stlxr", StoreExclusive, Some((2, 0b001)), Some((3, 0b001))),
+    name("ldxrb", Exclusive, Some((0, 0b010)), None),
+    name("ldxrh", Exclusive, Some((1, 0b010)), None),
+    name("ldxr", Exclusive, Some((2, 0b010)), Some((3, 0b010))),
+    name("ldaxrb", Exclusive, Some((0, 0b011)), None),
+    name("ldaxrh", Exclusive, Some((1, 0b011)), None),
+    name("ldaxr", Exclusive, Some((2, 0b011)), Some((3, 0b011))),
+    name("stlrb", Exclusive, Some((0, 0b101)), None),
+    name("stlrh", Exclusive, Some((1, 0b101)), None),
+    name("stlr", Exclusive, Some((2, 0b101)), Some((3, 0b101))),
+    name("ldarb", Exclusive, Some((0, 0b111)), None),
+    name("ldarh", Exclusive, Some((1, 0b111)), None),
+    name("ldar", Exclusive, Some((2, 0b111)), Some((3, 0b111))),
 ];
 
 /// What is left of a line.
@@ -240,6 +261,12 @@ fn pair(scanner: &mut Scanner, kind: Kind, opc: u32, load: u32, wide: bool) -> O
     Some(opc << 30 | 0b101 << 27 | mode << 23 | load << 22 | offset << 15 | second << 10 | base << 5)
 }
 
+fn exclusive(size: u32, code: u32, status: u32, place: Place) -> Option<u32> {
+    let Place::Offset(base, 0) = place else { return None };
+    let rest = 0b001 << 27 | code >> 1 << 22 | (code & 1) << 15;
+    Some(size << 30 | rest | status << 16 | 31 << 10 | base << 5)
+}
+
 fn single(kind: Kind, size: u32, opc: u32, place: Place) -> Option<u32> {
     let top = size << 30 | 0b111 << 27 | opc << 22;
     let is_prefetch = (size, opc) == (3, 2);
@@ -304,11 +331,21 @@ fn word_of(text: &[u8]) -> Option<u32> {
         scanner.expect(", ")?;
         return Some(single(name.kind, size, opc, place(&mut scanner)?)? | hint);
     }
+    let mut status = 31;
+    if name.kind == StoreExclusive {
+        let (wide, number) = scanner.data()?;
+        if wide {
+            return None;
+        }
+        status = number;
+        scanner.expect(", ")?;
+    }
     let (wide, register) = scanner.data()?;
     let (size, opc) = if wide { name.x? } else { name.w? };
     scanner.expect(", ")?;
     let rest = match name.kind {
         Pair | NoAllocatePair => pair(&mut scanner, name.kind, size, opc, wide)?,
+        Exclusive | StoreExclusive => exclusive(size, opc, status, place(&mut scanner)?)?,
         _ => single(name.kind, size, opc, place(&mut scanner)?)?,
     };
     Some(rest | register)

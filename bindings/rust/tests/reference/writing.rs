@@ -16,6 +16,9 @@ fn mnemonic(instruction: &Instruction) -> String {
         return format!("{stem}{}", if signed { "sw" } else { "" });
     }
     let (store, load, prefetch) = match instruction.family {
+        Family::Exclusive { monitored: true, ordered: false } => ("stxr", "ldxr", ""),
+        Family::Exclusive { monitored: true, ordered: true } => ("stlxr", "ldaxr", ""),
+        Family::Exclusive { .. } => ("stlr", "ldar", ""),
         Family::Unscaled => ("stur", "ldur", "prfum"),
         Family::Ordered => ("stlur", "ldapur", ""),
         _ => ("str", "ldr", "prfm"),
@@ -111,7 +114,13 @@ fn place(instruction: &Instruction) -> String {
 
 /// The line of an instruction.
 pub fn line(instruction: &Instruction) -> String {
-    let mut text = format!("{} {}, ", mnemonic(instruction), operand(instruction, instruction.rt));
+    let mut text = format!("{} ", mnemonic(instruction));
+    if instruction.has_status() {
+        text += &data_register(false, instruction.rs);
+        text += ", ";
+    }
+    text += &operand(instruction, instruction.rt);
+    text += ", ";
     if instruction.is_pair() {
         text += &operand(instruction, instruction.rt2);
         text += ", ";

@@ -74,8 +74,8 @@ pub fn about_power(random: &mut Random) -> u64 {
 }
 
 /// The bits that each line of 01's table fixes, and their values: literal, pair, ordered, unscaled, post, pre,
-/// register, unsigned.
-pub const LINES: [(u32, u32); 8] = [
+/// register, unsigned; and 02's ninth family, exclusive.
+pub const LINES: [(u32, u32); 9] = [
     (0x3f00_0000, 0x1800_0000),
     (0x3e00_0000, 0x2800_0000),
     (0x3f20_0c00, 0x1900_0000),
@@ -84,7 +84,10 @@ pub const LINES: [(u32, u32); 8] = [
     (0x3f20_0c00, 0x3800_0c00),
     (0x3f20_0c00, 0x3820_0800),
     (0x3f00_0000, 0x3900_0000),
+    (0x3f20_0000, EXCLUSIVE),
 ];
+
+const EXCLUSIVE: u32 = 0x0800_0000;
 
 /// The fields that hold a register or a number in some line, as highest and lowest bit.
 const FIELDS: [(u32, u32); 8] = [(4, 0), (9, 5), (14, 10), (20, 16), (21, 15), (20, 12), (21, 10), (23, 5)];
@@ -99,6 +102,10 @@ pub fn word_of_line(random: &mut Random) -> u32 {
         let ones = ((1u64 << (high - low + 1)) - 1) as u32;
         let edge = *random.choose(&[0, 1, ones, ones - 1, ones >> 1, (ones >> 1) + 1]);
         word = word & !(ones << low) | edge << low;
+    }
+    if value == EXCLUSIVE && !random.once_in(8) {
+        // Fields that have to be ones, which are seldom so by chance.
+        word |= *random.choose(&[0x1f << 10, 0x1f << 10 | 0x1f << 16]);
     }
     word & !mask | value
 }
