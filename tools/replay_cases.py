@@ -22,8 +22,9 @@ import collections
 import os
 import random
 
+from exclusive_mutants import EXCLUSIVES
 from machine_model import EXCLUSIVE, FAMILIES, Model, fields_of
-from machine_mutants import EDGES, EXCLUSIVES, RUNS, SAME, SLIPS, STACKS, WARNED
+from machine_mutants import EDGES, RUNS, SAME, SLIPS, STACKS, WARNED
 from replay_edges import all_edges
 from replay_exclusives import all_exclusives
 from replay_format import bad_ending, case_bytes, case_lines, outcome_of, write_endings
