@@ -2,7 +2,7 @@
 
 The stored cases have to tell every one of them from the right machine, as those of machine_mutants.py.
 """
-from machine_model import EXCLUSIVE, LAST, NO_STATUS, OPEN, ORDERED, STACK, Model, fields_of
+from machine_model import EXCLUSIVE, LAST, NO_STATUS, OPEN, ORDERED, SIGNED_64, STACK, Model, fields_of
 from machine_mutants import ChangedAccess, ChangedRun
 
 
@@ -577,6 +577,14 @@ class ExclusiveKeepsUpperHalf(Model):
         return right | old >> 32 << 32 if access.family == EXCLUSIVE and access.width == 4 else right
 
 
+class ExclusiveSigned(Model):
+    """A load of the ninth family is signed."""
+
+    def extended(self, access, value, old):
+        above = SIGNED_64 if access.family == EXCLUSIVE else access.above
+        return super().extended(access._replace(above=above), value, old)
+
+
 class RunOpensFirst(Model):
     """A run starts with an open monitor."""
 
@@ -715,6 +723,6 @@ EXCLUSIVES = [
     LimitedTaken, ReleaseForeign, UnpredictableBeforeUndefined, MonitorBeforeReadOnly, MonitorBeforeWindow,
     MonitorBeforeAlignment, MonitorBeforeStack, MonitorBeforeTaint, StatusIfRefused, StoresOpen, StoresThereOpen,
     ReleaseOpens, AcquireArms, PlainNeverArms, ZeroTargetNeverArms, ArmsOnce, AcquireAligned, ExclusiveByBlock,
-    ExclusiveUnaligned, AcquireUntested, ExclusiveOf4, ExclusiveKeepsUpperHalf, RunOpensFirst, RunOpensLast,
-    StatusesPastSteps, StatusesOfAllWords, StatusOfRefused, StatusesOfStores, StatusesTogether, PlacesUntested, PlacesFirst,
-    PlacesByStep, PlacesExact, PlacesByTwo, ShortListCleared, ShortRunOpens]
+    ExclusiveUnaligned, AcquireUntested, ExclusiveOf4, ExclusiveKeepsUpperHalf, ExclusiveSigned, RunOpensFirst,
+    RunOpensLast, StatusesPastSteps, StatusesOfAllWords, StatusOfRefused, StatusesOfStores, StatusesTogether,
+    PlacesUntested, PlacesFirst, PlacesByStep, PlacesExact, PlacesByTwo, ShortListCleared, ShortRunOpens]

@@ -91,7 +91,7 @@ def confirm(cases, outcomes):
     show('steps that Unicorn confirms', counts)
     show('refusals of which it confirms', refusals)
     show('cases with no steps for it', skipped)
-    if counts['loads and stores'] < 5000:
+    if counts['loads and stores'] < 5000 or min(counts.values()) < 400:
         raise SystemExit('too few')
 
 

@@ -7,7 +7,7 @@ windows at both ends of the address space and one byte from them, with one byte 
 import itertools
 
 from machine_model import (
-    LITERAL, ORDERED, PAIR, POST, PRE, REGISTER, SPACE, UNSCALED, UNSIGNED, fields_of, word_of)
+    EXCLUSIVE, LITERAL, ORDERED, PAIR, POST, PRE, REGISTER, SPACE, UNSCALED, UNSIGNED, fields_of, word_of)
 from replay_states import MODEL, access_of, any_immediate, choices, lead_to, registers_of, sized_choices, state_for
 from replay_steps import sized, step
 
@@ -58,12 +58,12 @@ def loading_choices(rng, family):
         # Its options and S are index_cases'.
         return [{**choice, 'option': rng.choice(OPTIONS), 'scaled': rng.getrandbits(1)}
                 for choice in sized_choices() if choice['opc']]
-    return [choice for choice in choices(family) if choice.get('load', choice['opc'])]
+    return [choice for choice in choices(family) if choice.get('load', choice.get('opc'))]
 
 
 def load_cases(rng):
     """Every load of each value that is next to a sign; a pair loads two."""
-    for family in (PAIR, ORDERED, UNSCALED, POST, PRE, REGISTER, UNSIGNED):
+    for family in (PAIR, ORDERED, UNSCALED, POST, PRE, REGISTER, UNSIGNED, EXCLUSIVE):
         for choice in loading_choices(rng, family):
             yield from loads_of(rng, family, lambda: any_immediate(rng, family), choice)
     for choice in choices(LITERAL):
@@ -74,7 +74,7 @@ def loads_of(rng, family, immediate, choice):
     width = access_of(word_of(family, **choice)).width
     edges = edges_of(width)
     for i in range(len(edges)):
-        word = word_of(family, **choice, **immediate(), **apart(rng, family))
+        word = word_of(family, **{**immediate(), **apart(rng, family), **choice})
         state = state_for(rng, word)
         access = access_of(word)
         at = MODEL.address_of(state, access, fields_of(family, word)) - state.origin
