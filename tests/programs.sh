@@ -1,7 +1,7 @@
 #!/usr/bin/env bash
 # Runs the programs `list` and `assemble` on inputs that come, end and fail in every way, which the stored ones can't all do.
 # Most are cut from the stored input, and what must come is cut from the stored output, which other tools have made; the
-# rest is written out here. A compiled lock is listed, and replayed, too. `rt check list assemble replay` builds the programs.
+# rest is written out here. `rt check list assemble` builds the programs.
 set -uo pipefail
 cd "$(dirname "${BASH_SOURCE[0]}")/.." || exit 1
 room=$(mktemp -d) || exit 1
@@ -109,7 +109,7 @@ target/bin/list < "$room/given" > /dev/full 2> "$room/said"
 : > "$room/came"
 fails list "an output that is full" write
 
-# ---- a compiled lock: tools/lock_example.py makes these files
+# ---- a compiled lock, which is replayed too: tools/lock_example.py makes these files, and `rt check replay` the program
 
 cp examples/lock.bin "$room/given"
 cp tests/lock.listing "$room/expected"
