@@ -37,6 +37,7 @@ VALUE, SIZE, LAST_ADDRESS = RULES = (
     '02 stores, and Unicorn fails: the bytes are not those that the load-exclusive read',
     '02 fails, and Unicorn stores, with either status: the monitor is armed there with another size',
     '02 fails, and Unicorn stores: its open monitor has the address 2^64 - 1')
+NO_RULE = 'no rule'
 
 
 class Emulated:
@@ -121,11 +122,14 @@ class Emulated:
         kept = before.memory[at:at + access.width]
         data = 0 if access.targets[0] == LAST else before.registers[access.targets[0]] % (1 << 8 * access.width)
         expected.memory[at:at + access.width] = data.to_bytes(access.width, 'little') if stores else kept
+        at_place, same_size = before.monitor[0] == address, before.monitor[1] == access.width
         if status == 0:
-            return expected, accesses, VALUE if before.monitor == (held, access.width) else None
-        if held is None:
-            return expected, accesses, LAST_ADDRESS
-        return expected, accesses, SIZE if before.monitor[0] == address and before.monitor[1] != access.width else None
+            rule = VALUE if held == address and at_place and same_size else NO_RULE
+        elif held is None:
+            rule = LAST_ADDRESS
+        else:
+            rule = SIZE if at_place and not same_size else NO_RULE
+        return expected, accesses, rule
 
     def mend(self, state, access, address):
         """Goes on from a state behind a store-exclusive that Unicorn does otherwise."""
@@ -210,8 +214,7 @@ def compare(model, case, steps, counts):
         if access.status is not None:
             expected, accesses, rule = emulated.store_exclusive(before, state, access, address, status)
         difference = emulated.difference(expected, code, address, accesses) if taken else 'refused'
-        unruled = access.status is not None and rule is None and expected.registers != state.registers
-        if difference or unruled or rule is None and expected.memory != state.memory:
+        if difference or rule == NO_RULE:
             raise SystemExit('no rule for %08x in %s: Unicorn has %s' % (word, case.group, difference))
         if rule:
             emulated.mend(state, access, address)
