@@ -12,7 +12,7 @@ use Rattle.bits.proofs.Choices.{neither}
 use Rattle.bits.proofs.Parts.{Has}
 use Rattle.instruction.specs.declared.answer.Answer.the-variants.{BadWindow, NotInSet, Undefined, Unpredictable}
 use Rattle.instruction.specs.declared.row.Row.{Row}
-use Rattle.instruction.specs.declared.row.Row.the-variants.{NoRow, LiteralRow, PairRow, OrderedRow, UnscaledRow, PostRow, PreRow, RegisterRow, UnsignedRow}
+use Rattle.instruction.specs.declared.row.Row.the-variants.{NoRow, LiteralRow, PairRow, OrderedRow, UnscaledRow, PostRow, PreRow, RegisterRow, UnsignedRow, LoadExclusiveRow, StoreExclusiveRow, AcquireReleaseRow}
 use Rattle.instruction.specs.Table.{columnsOf, inSet, rowOf, undefined, allocated, unpredictable, instructionOf}
 use Rattle.instruction.proofs.Rows.{row-has}
 use Rattle.decoder.specs.Decoding.{decodeOf}
@@ -31,6 +31,7 @@ use Rattle.arm.specs.Choices.{badStart, armOf, armStep}
 use Rattle.arm.proofs.Steps.{Ready, Steps}
 use Rattle.arm.proofs.Families.{unscaled-step, ordered-step, post-step, pre-step, unsigned-step, indexed-step, literal-step}
 use Rattle.arm.proofs.Pairs.{pair-step}
+use Rattle.arm.proofs.Exclusives.{load-exclusive-step, store-exclusive-step, acquire-release-step}
 
 -- ---- the page of a word
 
@@ -47,6 +48,9 @@ module _ (w : Window) (m : Machine) (r : Ready w m) (word : ℕ) where
   row-step PreRow h u v e = pre-step w m r word u v e
   row-step RegisterRow h u v e = indexed-step w m r word u e
   row-step UnsignedRow h u v e = unsigned-step w m r word u e
+  row-step LoadExclusiveRow h u v e = load-exclusive-step w m r word (h .1 .1 .1 .0) (h .1 .1 .1 .1 .0) e
+  row-step StoreExclusiveRow h u v e = store-exclusive-step w m r word e
+  row-step AcquireReleaseRow h u v e = acquire-release-step w m r word (h .1 .1 .1 .0) (h .1 .1 .1 .1 .1 .0) e
 
   access-of : inSet word ≡ true → undefined word ≡ false → wordAccess word ≡ familyAccess (columnsOf (rowOf word) .family word)
   unfolding decodeOf accessOf allocated instructionOf

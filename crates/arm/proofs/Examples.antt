@@ -10,6 +10,7 @@ use Rattle.instruction.specs.Undefined.{undefinedSize, undefinedPrefetch, undef
 use Rattle.instruction.specs.Unpredictable.{baseIs, unpredictablePair}
 use Rattle.instruction.specs.Table.{inSet, rowOf, undefined, unpredictable}
 use Rattle.plan.specs.declared.window.Window.{Window}
+use Rattle.machine.specs.Monitor.{openMonitor}
 use Rattle.machine.specs.Machine.{Machine}
 use Rattle.machine.specs.Step.{performed}
 use Rattle.arm.specs.Pseudocode.{SignExtend, ZeroExtend, Add, X, setX, base, setBase, Mem}
@@ -30,7 +31,7 @@ start =
       pc = 8;
       memory = replicate 4 0 ++ (128 ∷ replicate 11 0);
       taints = record { registers = replicate 32 0; bytes = replicate 16 0 };
-      monitor = record { address = 0; size = 0 };
+      monitor = openMonitor;
     }
 
 abbrev loaded : ℕ → ℕ

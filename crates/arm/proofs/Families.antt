@@ -1,9 +1,9 @@
 -- The pages of one register, each with its family: the two form the same address (`based-form`, `index-form`,
 -- `literal-form`), and then `all-sizes` says the rest. Assumes nothing.
-use Prim.Native.Nat.{ℕ, _*_, _%_, _^_, _≤_, _<_}
+use Prim.Native.Nat.{ℕ, _+_, _*_, _%_, _^_, _≤_, _<_}
 use mathlib.Core.Path.{_≡_, refl, sym, ap, _∙_}
-use mathlib.Core.Bool.{Bool, true, false, not, _&&_, _||_}
-use native.Mathlib.Nat.{mod-eq-of-lt}
+use mathlib.Core.Bool.{Bool, true, false, not, _&&_, _||_, or-false}
+use native.Mathlib.Nat.{mod-eq-of-lt, mod-add-div}
 use native.Mathlib.Omega.{arith}
 use lib.Dec.{eqb}
 use lib.ListN.{getD, List·getD-eq-default}
@@ -31,7 +31,7 @@ use Rattle.access.specs.Addressings.{based, shiftOf, indexedMode, literalMode}
 use Rattle.access.specs.Accesses.{sizedAccess, literalMoves, literalAccess, familyAccess, wordAccess}
 use Rattle.plan.specs.declared.window.Window.{Window}
 use Rattle.plan.specs.Address.{sumOf, indexOf, shiftedOf}
-use Rattle.plan.specs.Admission.{misaligned}
+use Rattle.plan.specs.Admission.{misaligned, unaligned}
 use Rattle.plan.specs.Plans.{misalignedStack}
 use Rattle.machine.specs.Machine.{Machine, operandsOf}
 use Rattle.arm.specs.Pseudocode.{Arm, LOAD, PREFETCH, Concat, SignExtend, ZeroExtend, LSL, Add, X, setX, base, Mem, ExtendReg, Align, Operation, hint, loads, case}
@@ -40,14 +40,14 @@ use Rattle.arm.specs.Ordered.{ordered}
 use Rattle.arm.specs.Immediate.{immediate, postIndex, preIndex, unsigned}
 use Rattle.arm.specs.Indexed.{indexed}
 use Rattle.arm.specs.Literal.{literal}
-use Rattle.arm.specs.Marks.{baseMark, mark}
+use Rattle.arm.specs.Marks.{marks, mark}
 use Rattle.arm.specs.Pages.{pageOf}
-use Rattle.arm.specs.Choices.{marked, crosses, armOf}
+use Rattle.arm.specs.Choices.{marked, misplaced, armOf}
 use Rattle.arm.proofs.Bits.{add-is, imm9-is, imm12-is, imm19-is, index-is, extended-is}
 use Rattle.arm.proofs.Places.{base-is, x-is}
-use Rattle.arm.proofs.Marks.{marked-base, none-marked, mark-is}
+use Rattle.arm.proofs.Marks.{tainted-is, mark-is}
 use Rattle.arm.proofs.Steps.{Ready, Steps, hints-step, same-block}
-use Rattle.arm.proofs.Singles.{four, Form, one-load, extended-none, all-sizes}
+use Rattle.arm.proofs.Singles.{four, Placed, Form, one-load, extended-none, all-sizes}
 
 -- ---- the stack pointer
 
@@ -55,14 +55,18 @@ use Rattle.arm.proofs.Singles.{four, Form, one-load, extended-none, all
 abbrev pub strays : Machine → ℕ → Bool
 strays m n = eqb n 31 && not (eqb (getD (m .values) 31 0) (Align (getD (m .values) 31 0) 16))
 
-aligned-at : (x : ℕ) (a b : Bool) → eqb (x % 16) 0 ≡ a → eqb x (Align x 16) ≡ b → not a ≡ not b
-aligned-at x true true e f = refl
-aligned-at x false false e f = refl
-aligned-at x true false e f = absurd (eqb-false x (Align x 16) f (omega (arith, eqb-true (x % 16) 0 e)))
-aligned-at x false true e f = absurd (eqb-false (x % 16) 0 e (omega (arith, eqb-true x (Align x 16) f)))
+-- a number is a multiple if nothing is left above the largest multiple below it
+split-at : (left most x : ℕ) → left + most ≡ x → (a b : Bool) → eqb left 0 ≡ a → eqb x most ≡ b → not a ≡ not b
+split-at left most x s true true e f = refl
+split-at left most x s false false e f = refl
+split-at left most x s true false e f = absurd (eqb-false x most f (omega (arith, eqb-true left 0 e)))
+split-at left most x s false true e f = absurd (eqb-false left 0 e (omega (arith, eqb-true x most f)))
+
+pub aligned-at : (x k : ℕ) → not (eqb (x % k) 0) ≡ not (eqb x (Align x k))
+aligned-at x k = split-at (x % k) (Align x k) x (mod-add-div x k) _ _ refl refl
 
 stack-at : (m : Machine) (n : ℕ) (b : Bool) → eqb n 31 ≡ b → pick b (not (eqb (getD (m .values) n 0 % 16) 0)) false ≡ (b && not (eqb (getD (m .values) 31 0) (Align (getD (m .values) 31 0) 16)))
-stack-at m n true e = rw (eqb-true n 31 e) (aligned-at (getD (m .values) 31 0) _ _ refl refl)
+stack-at m n true e = rw (eqb-true n 31 e) (aligned-at (getD (m .values) 31 0) 16)
 stack-at m n false e = refl
 
 stack-is : (m : Machine) (n : ℕ) → misalignedStack n (getD (m .values) n 0) ≡ strays m n
@@ -106,41 +110,53 @@ module _ (w : Window) (m : Machine) (r : Ready w m) (l : Row) (word : ℕ) where
   abbrev n : ℕ
   n = field 9 5 word
 
-  base-register : base n s ≡ getD (m .values) n 0
+  pub base-register : base n s ≡ getD (m .values) n 0
   base-register = base-is s (r .real .registers) (r .real .values) n
 
   -- ---- a base and an offset
 
-  module _ (offset : ℕ) (post wback : Bool) where
+  module _ (offset : ℕ) (post : Bool) (written : ℕ) where
     abbrev a : Addressing
-    a = based n offset post (pick wback n 32)
+    a = based n offset post written
 
     based-sum : sumOf a (operandsOf a m) ≡ Add (base n s) offset
     unfolding based sumOf shiftedOf indexOf
     based-sum = rw (base-register, add-is, List·getD-eq-default (m .values) 0 {n = 32} (omega (arith, r .real .registers))) (omega arith)
 
-    based-mark : operandsOf a m .tainted ≡ (baseMark n (m .taints .registers) || false)
+    based-mark : operandsOf a m .tainted ≡ (marks (getD (m .taints .registers) n 0) || false)
     unfolding based
     based-mark =
-        let u = m .taints .registers in
-        either (taintIn u n) (taintIn u 32) ∙ ap (λ (b : Bool). taintIn u n || b) (none-marked u (r .real .marks)) ∙ ap (λ (b : Bool). b || false) (marked-base u n)
+        rw (List·getD-eq-default (m .taints .registers) 0 {n = 32} (omega (arith, r .real .marks)), tainted-is (getD (m .taints .registers) n 0))
+        (either (marks (getD (m .taints .registers) n 0)) false)
 
-    pub based-form : (ordered : Bool) → pageOf l word .wback ≡ wback → (baseMark n (m .taints .registers) || false) ≡ marked (pageOf l word) word m
-        → (wback ≡ true → ¬ (n ≡ zeroSlot (field 4 0 word)))
-        → ((k address : ℕ) → 0 < k → k ≤ 16 → misaligned ordered k address ≡ crosses (pageOf l word) address k)
-        → Form w m l word a ordered wback (strays m n) (pick post (base n s) (Add (base n s) offset)) (Add (base n s) offset)
+    pub based-placed : (exclusive ordered : Bool) → (marks (getD (m .taints .registers) n 0) || false) ≡ marked (pageOf l word) word m
+        → ((k address : ℕ) → 0 < k → k ≤ 16 → (misaligned ordered k address || unaligned exclusive k address) ≡ misplaced (pageOf l word .alignment) address k)
+        → Placed w m l word a exclusive ordered (strays m n) (pick post (base n s) (Add (base n s) offset))
     unfolding based
-    based-form ordered b e p q =
+    based-placed exclusive ordered e q =
         record {
           mark = based-mark ∙ e;
           stack = stack-is m n;
           pointer = stack-pointer m n;
           first = ap (λ (x : ℕ). pick post x (sumOf a (operandsOf a m))) (sym base-register) ∙ ap (λ (x : ℕ). pick post (base n s) x) based-sum;
-          sum = based-sum;
+          block = λ k. q k _;
+        }
+
+  module _ (offset : ℕ) (post wback : Bool) where
+    pub based-form : (ordered : Bool) → pageOf l word .wback ≡ wback → pageOf l word .status ≡ false
+        → (marks (getD (m .taints .registers) n 0) || false) ≡ marked (pageOf l word) word m
+        → (wback ≡ true → ¬ (n ≡ zeroSlot (field 4 0 word)))
+        → ((k address : ℕ) → 0 < k → k ≤ 16 → (misaligned ordered k address || unaligned false k address) ≡ misplaced (pageOf l word .alignment) address k)
+        → Form w m l word (based n offset post (pick wback n 32)) false ordered wback (strays m n) (pick post (base n s) (Add (base n s) offset)) (Add (base n s) offset)
+    unfolding based
+    based-form ordered b c e p q =
+        record {
+          placed = based-placed offset post (pick wback n 32) false ordered e q;
+          sum = based-sum offset post (pick wback n 32);
           written = refl;
           back = b;
+          status = c;
           apart = p;
-          block = λ k. q k _;
         }
 
 module _ (w : Window) (m : Machine) (r : Ready w m) (word : ℕ) where
@@ -164,18 +180,18 @@ module _ (w : Window) (m : Machine) (r : Ready w m) (word : ℕ) where
 
   pub unscaled-step : undefinedSize word ≡ false → wordAccess word ≡ familyAccess (columnsOf UnscaledRow .family word)
       → Steps w m UnscaledRow word (unscaled word (armOf w m))
-  unfolding unscaled misaligned signedIn sizedIn
+  unfolding unscaled misaligned unaligned signedIn sizedIn
   unscaled-step u e =
       let k = known-sizes word u in
-      let form = based-form w m r UnscaledRow word offset9 false false false refl refl (λ h. absurd (never h)) (λ k x p q. refl) in
+      let form = based-form w m r UnscaledRow word offset9 false false false refl refl refl (λ h. absurd (never h)) (λ k x p q. refl) in
       all-sizes w m r UnscaledRow word _ false false _ _ _ form refl size opc size-lt opc-lt (k .0) (k .1) (rw offset9-is e)
 
   pub ordered-step : undefinedPrefetch word ≡ false → wordAccess word ≡ familyAccess (columnsOf OrderedRow .family word)
       → Steps w m OrderedRow word (ordered word (armOf w m))
-  unfolding ordered misaligned signedIn sizedIn
+  unfolding ordered misaligned unaligned signedIn sizedIn
   ordered-step u e =
       let k = known-sizes word (prefetch-no word u .0) in
-      let form = based-form w m r OrderedRow word offset9 false false true refl refl (λ h. absurd (never h)) (λ k x p q. same-block x k p q) in
+      let form = based-form w m r OrderedRow word offset9 false false true refl refl refl (λ h. absurd (never h)) (λ k x p q. rw or-false (same-block x k p q)) in
       all-sizes w m r OrderedRow word _ true false _ _ _ form refl size opc size-lt opc-lt (k .0) (k .1) (rw offset9-is e)
 
   -- with writeback
@@ -185,18 +201,18 @@ module _ (w : Window) (m : Machine) (r : Ready w m) (word : ℕ) where
 
   pub post-step : undefinedPrefetch word ≡ false → unpredictableBase word ≡ false
       → wordAccess word ≡ familyAccess (columnsOf PostRow .family word) → Steps w m PostRow word (postIndex word (armOf w m))
-  unfolding immediate misaligned signedIn sizedIn
+  unfolding immediate misaligned unaligned signedIn sizedIn
   post-step u b e =
       let k = known-sizes word (prefetch-no word u .0) in
-      let form = based-form w m r PostRow word offset9 true true false refl refl (λ h. base-apart b) (λ k x p q. refl) in
+      let form = based-form w m r PostRow word offset9 true true false refl refl refl (λ h. base-apart b) (λ k x p q. refl) in
       all-sizes w m r PostRow word _ false true _ _ _ form refl size opc size-lt opc-lt (k .0) (k .1) (rw offset9-is e)
 
   pub pre-step : undefinedPrefetch word ≡ false → unpredictableBase word ≡ false
       → wordAccess word ≡ familyAccess (columnsOf PreRow .family word) → Steps w m PreRow word (preIndex word (armOf w m))
-  unfolding immediate misaligned signedIn sizedIn
+  unfolding immediate misaligned unaligned signedIn sizedIn
   pre-step u b e =
       let k = known-sizes word (prefetch-no word u .0) in
-      let form = based-form w m r PreRow word offset9 false true false refl refl (λ h. base-apart b) (λ k x p q. refl) in
+      let form = based-form w m r PreRow word offset9 false true false refl refl refl (λ h. base-apart b) (λ k x p q. refl) in
       all-sizes w m r PreRow word _ false true _ _ _ form refl size opc size-lt opc-lt (k .0) (k .1) (rw offset9-is e)
 
   -- the size of an operation is that of its word
@@ -210,13 +226,13 @@ module _ (w : Window) (m : Machine) (r : Ready w m) (word : ℕ) where
 
   pub unsigned-step : undefinedSize word ≡ false → wordAccess word ≡ familyAccess (columnsOf UnsignedRow .family word)
       → Steps w m UnsignedRow word (unsigned word (armOf w m))
-  unfolding immediate misaligned unsignedIn sizedIn
+  unfolding immediate misaligned unaligned unsignedIn sizedIn
   unsigned-step u e =
       let k = known-sizes word u in
       let offset : ℕ = LSL (ZeroExtend 12 64 (field 21 10 word)) size in
       let offset-is : field 21 10 word * 2 ^ sizeOf (sizedIn word) ≡ offset =
       rw (size-back u) (sym (imm12-is (field 21 10 word) size (part-lt 10 12 word) size-lt)) in
-      let form = based-form w m r UnsignedRow word offset false false false refl refl (λ h. absurd (never h)) (λ k x p q. refl) in
+      let form = based-form w m r UnsignedRow word offset false false false refl refl refl (λ h. absurd (never h)) (λ k x p q. refl) in
       all-sizes w m r UnsignedRow word _ false false _ _ _ form refl size opc size-lt opc-lt (k .0) (k .1) (rw (← offset-is) e)
 
   -- ---- a base and an index
@@ -270,24 +286,27 @@ module _ (w : Window) (m : Machine) (r : Ready w m) (word : ℕ) where
   index-mark =
       let u = m .taints .registers in
       either (taintIn u (field 9 5 word)) (taintIn u (zeroSlot i))
-      ∙ ap (λ (b : Bool). taintIn u (field 9 5 word) || b) (mark-is u (r .real .marks) i)
-      ∙ ap (λ (b : Bool). b || mark i u) (marked-base u (field 9 5 word))
+      ∙ rw (tainted-is (getD u (field 9 5 word) 0), mark-is u (r .real .marks) i)
 
   index-form : undefinedOption word ≡ false
       → let address = Add (base (field 9 5 word) (armOf w m)) (ExtendReg i option shift (armOf w m)) in
-      Form w m RegisterRow word indexing false false (strays m (field 9 5 word)) address address
-  unfolding misaligned
+      Form w m RegisterRow word indexing false false false (strays m (field 9 5 word)) address address
+  unfolding misaligned unaligned
   index-form u =
       record {
-        mark = index-mark;
-        stack = stack-is m (field 9 5 word);
-        pointer = stack-pointer m (field 9 5 word);
-        first = index-sum u;
+        placed =
+            record {
+              mark = index-mark;
+              stack = stack-is m (field 9 5 word);
+              pointer = stack-pointer m (field 9 5 word);
+              first = index-sum u;
+              block = λ k p q. refl;
+            };
         sum = index-sum u;
         written = refl;
         back = refl;
+        status = refl;
         apart = λ h. absurd (never h);
-        block = λ k p q. refl;
       }
 
   pub indexed-step : undefinedOption word ≡ false → wordAccess word ≡ familyAccess (columnsOf RegisterRow .family word)
@@ -308,19 +327,23 @@ module _ (w : Window) (m : Machine) (r : Ready w m) (word : ℕ) where
   unfolding literalMode sumOf shiftedOf indexOf
   literal-sum offset = rw (add-is, List·getD-eq-default (m .values) 0 {n = 32} (omega (arith, r .real .registers))) (omega arith)
 
-  literal-form : (offset : ℕ) → Form w m LiteralRow word (literalMode offset) false false false (Add (m .pc) offset) (Add (m .pc) offset)
-  unfolding literalMode misaligned misalignedStack
+  literal-form : (offset : ℕ) → Form w m LiteralRow word (literalMode offset) false false false false (Add (m .pc) offset) (Add (m .pc) offset)
+  unfolding literalMode misaligned unaligned misalignedStack
   literal-form offset =
       record {
-        mark = ap (λ (b : Bool). pick b true b) (none-marked (m .taints .registers) (r .real .marks));
-        stack = refl;
-        pointer = λ h. absurd (never h);
-        first = literal-sum offset;
+        placed =
+            record {
+              mark = rw (List·getD-eq-default (m .taints .registers) 0 {n = 32} (omega (arith, r .real .marks)));
+              stack = refl;
+              pointer = λ h. absurd (never h);
+              first = literal-sum offset;
+              block = λ k p q. refl;
+            };
         sum = literal-sum offset;
         written = refl;
         back = refl;
+        status = refl;
         apart = λ h. absurd (never h);
-        block = λ k p q. refl;
       }
 
   literal-load : (k extent width : ℕ) (g : ℕ → ℕ) → ((v : ℕ) → v < 256 ^ k → extendedOf k extent v ≡ g v) → 0 < k → k ≤ 16
@@ -329,7 +352,7 @@ module _ (w : Window) (m : Machine) (r : Ready w m) (word : ℕ) where
       Steps w m LiteralRow word (loads address k (setX (field 4 0 word) width (g (Mem address k (armOf w m))) (armOf w m)))
   unfolding literalMoves literalTransfer literalIn
   literal-load k extent width g x p q e =
-      one-load w m r LiteralRow word (literalMode offset19) false false false _ _ (literal-form offset19) refl k extent width g p q x
+      one-load w m r LiteralRow word (literalMode offset19) false false false false _ _ (literal-form offset19) refl k extent width g p q x
       (e ∙ ap (λ (o : ℕ). Moves (literalTransfer k extent (field 4 0 word)) (literalMode o)) (sym (imm19-is (field 23 5 word) (part-lt 5 19 word))))
 
   -- the page, by opc

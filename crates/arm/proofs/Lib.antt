@@ -5,6 +5,7 @@ pub mod Steps
 pub mod Singles
 pub mod Families
 pub mod Pairs
+pub mod Exclusives
 pub mod Arm
 pub mod Reals
 pub mod Runs

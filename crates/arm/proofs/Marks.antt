@@ -12,39 +12,37 @@ use Rattle.bits.specs.Fields.{field}
 use Rattle.bits.specs.Bytes.{spanOf}
 use Rattle.registers.specs.File.{zeroSlot, taintIn}
 use Rattle.memory.specs.Taints.{tainted, anyTainted, taintByte}
-use Rattle.memory.proofs.Taints.{nonzero-tainted}
 use Rattle.access.specs.declared.transfer.Transfer.{Transfer}
 use Rattle.machine.specs.Rule.{Taints, moveRule}
-use Rattle.arm.specs.Marks.{baseMark, mark, setMark, anyMarked, setMarks, marksOf}
+use Rattle.arm.specs.Marks.{marks, mark, setMark, anyMarked, setMarks, marksOf}
 use Rattle.arm.proofs.Places.{next}
 
--- ---- registers: a slot of 32 is none
+-- ---- a mark
+
+pub tainted-is : (x : ℕ) → tainted x ≡ marks x
+tainted-is zero = refl
+tainted-is (suc x) = rw (eqb·suc-zero x)
 
 byte-is : (b : Bool) → taintByte b ≡ pick b 1 0
 byte-is true = refl
 byte-is false = refl
 
-pub marked-base : (u : List ℕ) (n : ℕ) → taintIn u n ≡ baseMark n u
-marked-base u n = sym (nonzero-tainted (getD u n 0))
+-- ---- registers: a slot of 32 is none
 
 module _ (u : List ℕ) (len : length u ≡ 32) where
-  set-mark : (n : ℕ) (b : Bool) → set u (zeroSlot n) (taintByte b) ≡ setMark n b u
-  set-mark n b = go (eqb n 31)
+  pub set-mark : (n : ℕ) (b : Bool) → set u (zeroSlot n) (taintByte b) ≡ setMark n b u
+  set-mark n b = rw (byte-is b) (go (eqb n 31))
     where
-      go : (t : Bool) → set u (pick t 32 n) (taintByte b) ≡ pick t u (set u n (pick b 1 0))
-      go true = set-out u 32 (taintByte b) (omega arith)
-      go false = ap (set u n) (byte-is b)
-
-  -- no register, no mark
-  pub none-marked : taintIn u 32 ≡ false
-  none-marked = ap tainted (List·getD-eq-default u 0 {n = 32} (omega arith))
+      go : (t : Bool) → set u (pick t 32 n) (pick b 1 0) ≡ pick t u (set u n (pick b 1 0))
+      go true = set-out u 32 (pick b 1 0) (omega arith)
+      go false = refl
 
   pub mark-is : (n : ℕ) → taintIn u (zeroSlot n) ≡ mark n u
-  mark-is n = go (eqb n 31)
+  mark-is n = tainted-is (getD u (zeroSlot n) 0) ∙ go (eqb n 31)
     where
-      go : (t : Bool) → taintIn u (pick t 32 n) ≡ pick t false (baseMark n u)
-      go true = none-marked
-      go false = marked-base u n
+      go : (t : Bool) → marks (getD u (pick t 32 n) 0) ≡ pick t false (marks (getD u n 0))
+      go true = rw (List·getD-eq-default u 0 {n = 32} (omega arith))
+      go false = refl
 
   base-mark : (wback : Bool) (n : ℕ) → set u (pick wback n 32) 0 ≡ pick wback (set u n 0) u
   base-mark true n = refl
@@ -52,7 +50,7 @@ module _ (u : List ℕ) (len : length u ≡ 32) where
 
 -- ---- bytes
 
-one-byte : (x : ℕ) (b : Bool) → pick (tainted x) true b ≡ (not (eqb x 0) || b)
+one-byte : (x : ℕ) (b : Bool) → pick (tainted x) true b ≡ (marks x || b)
 one-byte zero b = refl
 one-byte (suc x) b = rw (eqb·suc-zero x)
 
@@ -73,9 +71,9 @@ set-marks origin address (suc n) b k h =
 -- ---- the rule
 
 -- the transfers of one register and of two
-abbrev pub single : Bool → Bool → ℕ → ℕ → ℕ → Transfer
-single store ordered k extent t =
-    record { store = store; ordered = ordered; bytes = k; more = 0; extent = extent; target = zeroSlot t; second = 32; exclusive = false }
+abbrev pub single : Bool → Bool → Bool → ℕ → ℕ → ℕ → Transfer
+single exclusive store ordered k extent t =
+    record { store = store; ordered = ordered; bytes = k; more = 0; extent = extent; target = zeroSlot t; second = 32; exclusive = exclusive }
 
 abbrev pub double : Bool → ℕ → ℕ → ℕ → ℕ → Transfer
 double store k extent t t2 =
@@ -108,18 +106,26 @@ module _ (wback : Bool) (origin word address : ℕ) (p : Taints) (len : length (
       → sets bytes (a - origin) (replicate k (taintByte (taintIn (p .registers) (zeroSlot n)))) ≡ setMarks origin a k (mark n (p .registers)) bytes
   stored n k a bytes l = rw (mark-is (p .registers) len n) (set-marks origin a k (mark n (p .registers)) bytes l)
 
-  pub one-marks : (store ordered : Bool) (k extent written : ℕ) → written ≡ pick wback (field 9 5 word) 32
-      → moveRule (single store ordered k extent t) written (address - origin) p ≡ marksOf false wback store origin word address k p
+  pub one-marks : (exclusive store ordered : Bool) (k extent written : ℕ) → written ≡ pick wback (field 9 5 word) 32
+      → moveRule (single exclusive store ordered k extent t) written (address - origin) p ≡ marksOf false wback false store 0 origin word address k p
   unfolding moveRule marksOf
-  one-marks true ordered k extent written e = rw e (same based-is (stored t k address (p .bytes) h))
-  one-marks false ordered k extent written e =
-      let x : Bool = anyTainted (spanOf (p .bytes) (address - origin) k) in
-      let l : length (set based (zeroSlot t) (taintByte x)) ≤ 32 = simp length-set (omega (arith, based-length)) in
-      rw (e, based-is, set-out (set based (zeroSlot t) (taintByte x)) 32 _ l)
+  one-marks exclusive true ordered k extent written e = rw e (same based-is (stored t k address (p .bytes) h))
+  one-marks exclusive false ordered k extent written e =
+      let x : ℕ = taintByte (anyTainted (spanOf (p .bytes) (address - origin) k)) in
+      let l : length (set based (zeroSlot t) x) ≤ 32 = simp length-set (omega (arith, based-length)) in
+      rw (e, based-is, set-out (set based (zeroSlot t) x) 32 _ l)
       (same (ap (λ (b : Bool). set based (zeroSlot t) (taintByte b)) (any-is origin address k (p .bytes) h) ∙ set-mark based based-length t (anyMarked origin address k (p .bytes))) refl)
 
+  -- a store-exclusive, by its status: the bytes that are made are all or none
+  pub status-marks : (k extent : ℕ) (failed : Bool)
+      → moveRule (single true true false (pick failed 0 k) extent t) (zeroSlot (field 20 16 word)) (address - origin) p
+      ≡ marksOf false false true true (pick failed 1 0) origin word address k p
+  unfolding moveRule marksOf
+  status-marks k extent true = same (set-mark (p .registers) len (field 20 16 word) false) refl
+  status-marks k extent false = same (set-mark (p .registers) len (field 20 16 word) false) (stored t k address (p .bytes) h)
+
   pub two-marks : (store : Bool) (k extent written : ℕ) → written ≡ pick wback (field 9 5 word) 32
-      → moveRule (double store k extent t t2) written (address - origin) p ≡ marksOf true wback store origin word address (2 * k) p
+      → moveRule (double store k extent t t2) written (address - origin) p ≡ marksOf true wback false store 0 origin word address (2 * k) p
   unfolding moveRule marksOf
   two-marks true k extent written e =
       let half : 2 * k / 2 ≡ k = omega arith in

@@ -1,6 +1,6 @@
 -- The page of pairs: what a load and a store of two registers leave, once over the width (`two-loads`, `two-stores`), then
 -- each opc and L (`all`), and each mode (`modes`). Assumes nothing.
-use Prim.Native.Nat.{ℕ, zero, suc, _+_, _-_, _*_, _/_, _%_, _^_, _≤_, _<_}
+use Prim.Native.Nat.{ℕ, _+_, _-_, _*_, _/_, _%_, _^_, _≤_, _<_}
 use mathlib.Core.Path.{_≡_, refl, sym, ap, _∙_}
 use mathlib.Core.Bool.{Bool, true, false, not, _&&_, _||_}
 use mathlib.Core.List.{List}
@@ -30,16 +30,17 @@ use Rattle.access.specs.Transfers.{pairTransfer}
 use Rattle.access.specs.Addressings.{based, pairedMode}
 use Rattle.access.specs.Accesses.{pairAccess, familyAccess, wordAccess}
 use Rattle.plan.specs.declared.window.Window.{Window}
-use Rattle.plan.specs.Admission.{misaligned}
+use Rattle.plan.specs.Admission.{misaligned, unaligned}
+use Rattle.machine.specs.Monitor.{statusOf, monitorAfter, writtenBack, fails}
 use Rattle.machine.specs.Machine.{Machine}
 use Rattle.arm.specs.Pseudocode.{Arm, LOAD, STORE, SignExtend, LSL, Add, X, setX, base, Mem, setMem, withRegisters, Operation, hint, CheckSPAlignment, loads, stores, case}
 use Rattle.arm.specs.Pair.{paired, pair}
 use Rattle.arm.specs.Choices.{armOf}
 use Rattle.arm.proofs.Bits.{add-small, offset-is, extended-is}
-use Rattle.arm.proofs.Places.{x-is, set-x, set-base, mem-is, withMemory, set-mem, low-bytes, joined-lt}
+use Rattle.arm.proofs.Places.{x-is, set-x, set-base, mem-is, withMemory, set-mem, mem-monitor, low-bytes, joined-lt}
 use Rattle.arm.proofs.Marks.{double, two-marks}
 use Rattle.arm.proofs.Steps.{Ready, Inside, Steps, faulty, access-step}
-use Rattle.arm.proofs.Singles.{four, back, back-registers, back-memory, Form, extended-none}
+use Rattle.arm.proofs.Singles.{two, four, back, back-registers, back-memory, back-monitor, Form, extended-none}
 use Rattle.arm.proofs.Families.{never, apart, strays, based-form}
 
 -- ---- two registers and two places
@@ -85,7 +86,7 @@ module _ (s : Arm) (len : length (s .registers) ≡ 32) where
       rw (a, one, two, e, x-is s len t (8 * k) (omega arith), x-is s len t2 (8 * k) (omega arith), low-bytes k (getD (s .registers) (zeroSlot t) 0), low-bytes k (getD (s .registers) (zeroSlot t2) 0))
 
 module _ (w : Window) (m : Machine) (r : Ready w m) (word : ℕ) (a : Addressing) (wback stray : Bool) (address next : ℕ)
-    (f : Form w m PairRow word a false wback stray address next) (other : wback ≡ true → ¬ (field 9 5 word ≡ zeroSlot (field 14 10 word))) where
+    (f : Form w m PairRow word a false false wback stray address next) (other : wback ≡ true → ¬ (field 9 5 word ≡ zeroSlot (field 14 10 word))) where
   abbrev s : Arm
   s = armOf w m
 
@@ -106,18 +107,18 @@ module _ (w : Window) (m : Machine) (r : Ready w m) (word : ℕ) (a : Addressing
 
   two-loads : (k extent width : ℕ) (g : ℕ → ℕ) → 0 < k → k ≤ 8 → ((v : ℕ) → v < 256 ^ k → extendedOf k extent v ≡ g v)
       → wordAccess word ≡ Moves (double false k extent t t2) a → Steps w m PairRow word (faulty m stray (loads address (2 * k) (loaded k width g)))
-  unfolding setX
+  unfolding setX statusOf fails writtenBack monitorAfter
   two-loads k extent width g p q ext e =
-      access-step w m (r .top) PairRow word (double false k extent t t2) a stray address (2 * k) (loaded k width g)
+      access-step w m (r .top) PairRow word (double false k extent t t2) a stray address (2 * k) 0 (loaded k width g)
       (record {
         access = e;
-        plain = refl;
         total = omega arith;
-        mark = f .mark;
-        stack = f .stack;
-        pointer = f .pointer;
-        first = f .first;
-        block = f .block (2 * k) (omega arith) (omega arith);
+        mark = f .placed .mark;
+        stack = f .placed .stack;
+        pointer = f .placed .pointer;
+        first = f .placed .first;
+        block = f .placed .block (2 * k) (omega arith) (omega arith);
+        told = refl;
         registers =
             λ h.
             let at = address - w .origin in
@@ -131,30 +132,33 @@ module _ (w : Window) (m : Machine) (r : Ready w m) (word : ℕ) (a : Addressing
             let y = ext _ (joined-lt (m .memory) (r .real .bytes) k (at + k)) ∙ ap g (sym two) in
             rw (f .sum, f .written, x, y)
             (two-registers s (r .real .registers) wback n t t2 next width (g (Mem address k s)) (g (Mem (Add address k) k s)) (f .apart) other);
-        marks = λ h. rw (f .back) (two-marks wback (w .origin) word address (m .taints) (r .real .marks) (h .from) false k extent (a .written) (f .written));
+        marks = λ h. rw (f .back, f .status) (two-marks wback (w .origin) word address (m .taints) (r .real .marks) (h .from) false k extent (a .written) (f .written));
         memory = λ h. sym (back-memory wback n next (setX t2 width (g (Mem (Add address k) k s)) (setX t width (g (Mem address k s)) s)));
+        monitor = sym (back-monitor wback n next (setX t2 width (g (Mem (Add address k) k s)) (setX t width (g (Mem address k s)) s)));
       })
       false refl
 
   two-stores : (k extent : ℕ) → 0 < k → k ≤ 8 → wordAccess word ≡ Moves (double true k extent t t2) a → Steps w m PairRow word (faulty m stray (stores address (2 * k) (stored k)))
+  unfolding statusOf fails writtenBack monitorAfter
   two-stores k extent p q e =
       let len = r .real .registers in
       let after : Arm = withMemory (filled s len k t t2 (address - w .origin)) s in
       let places : Inside w address (2 * k) → setMem (Add address k) k (X t2 (8 * k) s) (setMem address k (X t (8 * k) s) s) ≡ after =
       λ h. two-places s len k t t2 address p (h .from) (h .upto) in
-      access-step w m (r .top) PairRow word (double true k extent t t2) a stray address (2 * k) (stored k)
+      access-step w m (r .top) PairRow word (double true k extent t t2) a stray address (2 * k) 0 (stored k)
       (record {
         access = e;
-        plain = refl;
         total = omega arith;
-        mark = f .mark;
-        stack = f .stack;
-        pointer = f .pointer;
-        first = f .first;
-        block = f .block (2 * k) (omega arith) (omega arith);
+        mark = f .placed .mark;
+        stack = f .placed .stack;
+        pointer = f .placed .pointer;
+        first = f .placed .first;
+        block = f .placed .block (2 * k) (omega arith) (omega arith);
+        told = refl;
         registers = λ h. rw (f .sum, f .written, places h) (sym (back-registers after len wback n next));
-        marks = λ h. rw (f .back) (two-marks wback (w .origin) word address (m .taints) (r .real .marks) (h .from) true k extent (a .written) (f .written));
+        marks = λ h. rw (f .back, f .status) (two-marks wback (w .origin) word address (m .taints) (r .real .marks) (h .from) true k extent (a .written) (f .written));
         memory = λ h. sym (back-memory wback n next _ ∙ ap (λ (x : Arm). x .memory) (places h));
+        monitor = sym (back-monitor wback n next _ ∙ mem-monitor k (Add address k) _ _ ∙ mem-monitor k address _ s);
       })
       true refl
 
@@ -207,9 +211,9 @@ module _ (w : Window) (m : Machine) (r : Ready w m) (word : ℕ) where
     form : (offset : ℕ)
         → let n = field 9 5 word in
         let next = Add (base n (armOf w m)) offset in
-        Form w m PairRow word (based n offset postindex (pick wback n 32)) false wback (strays m n) (pick postindex (base n (armOf w m)) next) next
-    unfolding misaligned
-    form offset = based-form w m r PairRow word offset postindex wback false writing refl one (λ k x p q. refl)
+        Form w m PairRow word (based n offset postindex (pick wback n 32)) false false wback (strays m n) (pick postindex (base n (armOf w m)) next) next
+    unfolding misaligned unaligned
+    form offset = based-form w m r PairRow word offset postindex wback false writing refl refl one (λ k x p q. refl)
 
     store-words : Paged w m word wback postindex 0 0
     unfolding pairAt pairTransfer part
@@ -240,12 +244,6 @@ module _ (w : Window) (m : Machine) (r : Ready w m) (word : ℕ) where
     load-doubles e =
         two-loads w m r word _ wback _ _ _ (form (scaled 3)) other 8 8 64 (λ v. v) (omega arith) (omega arith) (λ v h. extended-none 8 v)
         (e ∙ ap (accessBy w m word wback postindex 2 1) (scaled-is 3 (omega arith)))
-
-    -- a fact of each number of one bit
-    two : (P : ℕ → Type 0) → P 0 → P 1 → (k : ℕ) → k < 2 → P k
-    two P a b zero h = a
-    two P a b (suc zero) h = b
-    two P a b (suc (suc k)) h = absurd (omega arith)
 
     all : (opc L : ℕ) → opc < 4 → L < 2 → ¬ (opc ≡ 0b11) → (opc ≡ 0b01 → L ≡ 1) → Paged w m word wback postindex opc L
     all opc L h k =

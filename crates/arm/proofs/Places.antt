@@ -73,7 +73,7 @@ mem-is s (suc n) a h l =
     rw (further (λ x k. Mem x k s) a (λ x y. refl) n l, mem-is s n (a + 1) (omega arith) (omega arith), next h) (add-comm _ _)
 
 abbrev pub withMemory : List ℕ → Arm → Arm
-withMemory b s = record { registers = s .registers; pc = s .pc; origin = s .origin; memory = b }
+withMemory b s = record { registers = s .registers; pc = s .pc; origin = s .origin; memory = b; monitor = s .monitor }
 
 pub set-mem : (s : Arm) (n a v : ℕ) → s .origin ≤ a → a + n ≤ 2 ^ 64 → setMem a n v s ≡ withMemory (sets (s .memory) (a - s .origin) (bytesOf n v)) s
 unfolding setMem bytesOf part
@@ -81,6 +81,11 @@ set-mem s zero a v h l = refl
 set-mem s (suc n) a v h l =
     let t : Arm = setByte a (v / 2 ^ 0 % 2 ^ 8) s in
     rw (further (λ x k. setMem x k (v / 2 ^ 8) t) a (λ x y. refl) n l, set-mem t n (a + 1) (v / 2 ^ 8) (omega arith) (omega arith), next h, div-one)
+
+pub mem-monitor : (n a v : ℕ) (s : Arm) → setMem a n v s .monitor ≡ s .monitor
+unfolding setMem
+mem-monitor zero a v s = refl
+mem-monitor (suc n) a v s = mem-monitor n (Add a 1) (v / 2 ^ 8) (setByte a (part 0 8 v) s)
 
 -- X gives the low bytes of its register
 pub low-bytes : (n v : ℕ) → bytesOf n (v % 2 ^ (8 * n)) ≡ bytesOf n v

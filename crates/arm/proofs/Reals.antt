@@ -10,17 +10,15 @@ use Rattle.bits.proofs.Choices.{pick-by}
 use Rattle.bits.specs.Extension.{extendedOf}
 use Rattle.decoder.specs.Decoding.{decodeOf}
 use Rattle.access.specs.declared.transfer.Transfer.{Transfer}
-use Rattle.access.specs.declared.addressing.Addressing.{Addressing}
 use Rattle.access.specs.declared.Access.{Access}
 use Rattle.access.specs.declared.Access.the-variants.{Nothing, Moves}
 use Rattle.access.proofs.Bounds.{Bounded, Within, bounded}
 use Rattle.plan.specs.declared.window.Window.{Window}
-use Rattle.plan.specs.declared.operands.Operands.{Operands}
 use Rattle.plan.specs.Address.{sumOf, addressOf}
 use Rattle.plan.proofs.Refusals.{each, first-by}
 use Rattle.access.specs.Accesses.{wordAccess}
 use Rattle.machine.specs.declared.monitor.Monitor.{Monitor}
-use Rattle.machine.specs.Monitor.{openMonitor, matches, storeExclusive, statusOf, monitorAfter, writtenBack, fails, madeOf}
+use Rattle.machine.specs.Monitor.{openMonitor, matches, storeExclusive, statusOf, writtenBack, fails, madeOf}
 use Rattle.machine.specs.Rule.{moveRule}
 use Rattle.machine.specs.Machine.{Machine, operandsOf, effectOf}
 use Rattle.machine.specs.Refusals.{refusals}
@@ -48,31 +46,13 @@ bytes-below (suc k) v at xs b = bytes-below k (v / 256) (suc at) (set xs at (v %
 
 -- ---- a step
 
--- what is made of an access is no longer than the access
-made-bounded : (t : Transfer) (status : ℕ) → Bounded t → Bounded (madeOf t status)
-made-bounded t status b =
-    record {
-      wide = pick-by (λ (n : ℕ). n ≤ t .extent) (fails t status) (λ e. omega arith) (λ e. b .wide);
-      wider = pick-by (λ (n : ℕ). n ≤ t .extent) (fails t status) (λ e. omega arith) (λ e. b .wider);
-      extent = b .extent;
-    }
-
--- a status is a small number, and the sum of an address one of 64 bits
-written-below : (t : Transfer) (address : ℕ) (r : Monitor) (a : Addressing) (o : Operands) → writtenBack t (statusOf t address r) (sumOf a o) < 2 ^ 64
-unfolding writtenBack statusOf sumOf
-written-below t address r a o =
-    let low : ℕ → Type 0 = (λ n. n < 2 ^ 64) in
-    pick-by low (t .exclusive)
-    (λ e. pick-by low (storeExclusive t) (λ f. pick-by low (matches r address (t .bytes)) (λ g. omega arith) (λ g. omega arith)) (λ f. omega arith))
-    (λ e. omega arith)
-
 module _ (m : Machine) (r : Real m) where
   loaded-below : (k extent at : ℕ) → k ≤ extent → extent ≤ 8 → extendedOf k extent (joined (spanOf (m .memory) at k)) < 2 ^ 64
   loaded-below k extent at h l = extended-below k extent _ h l (joined-lt (m .memory) (r .bytes) k at)
 
-  real-effect : (t : Transfer) → Bounded t → (written at next : ℕ) (after : Monitor) → next < 2 ^ 64 → Real (effectOf t written at next after m)
+  real-effect : (t : Transfer) → Bounded t → (written at next : ℕ) (monitor : Monitor) → next < 2 ^ 64 → Real (effectOf t written at next monitor m)
   unfolding effectOf moveRule
-  real-effect t b written at next after h =
+  real-effect t b written at next monitor h =
       let v : List ℕ = set (m .values) written next in
       let base = set-below (m .values) written next h (r .values) in
       let x : ℕ = extendedOf (t .bytes) (t .extent) (joined (spanOf (m .memory) at (t .bytes))) in
@@ -87,17 +67,36 @@ module _ (m : Machine) (r : Real m) where
         bytes = pick-by (Below 256) (t .store) (λ e. bytes-below (t .more) _ (at + t .bytes) _ bytes) (λ e. r .bytes);
       }
 
+  -- what is moved with a status, and the number that is written back
+  made-bounded : (t : Transfer) (status : ℕ) → Bounded t → Bounded (madeOf t status)
+  made-bounded t status b =
+      record {
+        wide = pick-by (λ (k : ℕ). k ≤ t .extent) (fails t status) (λ e. omega arith) (λ e. b .wide);
+        wider = pick-by (λ (k : ℕ). k ≤ t .extent) (fails t status) (λ e. omega arith) (λ e. b .wider);
+        extent = b .extent;
+      }
+
+  status-below : (t : Transfer) (address : ℕ) (r : Monitor) → statusOf t address r < 2
+  unfolding statusOf
+  status-below t address r =
+      pick-by (λ (k : ℕ). k < 2) (storeExclusive t) (λ e. pick-by (λ (k : ℕ). k < 2) (matches r address (t .bytes)) (λ f. omega arith) (λ f. omega arith)) (λ e. omega arith)
+
+  back-below : (t : Transfer) (status sum : ℕ) → status < 2 → sum < 2 ^ 64 → writtenBack t status sum < 2 ^ 64
+  unfolding writtenBack
+  back-below t status sum h l = pick-by (λ (k : ℕ). k < 2 ^ 64) (t .exclusive) (λ e. omega arith) (λ e. l)
+
   abbrev pub RealStep : Step Machine → Type 0
   RealStep (stopped answer address) = Unit {0}
   RealStep (moved n shown) = Real n
 
   real-perform : (origin : ℕ) (x : Access) → Within x → RealStep (performOf origin x m)
+  unfolding sumOf
   real-perform origin Nothing b = record { registers = r .registers; marks = r .marks; values = r .values; bytes = r .bytes }
   real-perform origin (Moves t a) b =
-      let o = operandsOf a m in
-      let address = addressOf a o in
+      let address = addressOf a (operandsOf a m) in
       let status = statusOf t address (m .monitor) in
-      real-effect (madeOf t status) (made-bounded t status b) (a .written) (address - origin) (writtenBack t status (sumOf a o)) (monitorAfter t address (m .monitor)) (written-below t address (m .monitor) a o)
+      real-effect (madeOf t status) (made-bounded t status b) (a .written) (address - origin) _ _
+      (back-below t status (sumOf a (operandsOf a m)) (status-below t address (m .monitor)) (omega arith))
 
   pub real-moved : (w : Window) (word : ℕ) → RealStep (stepOf w word m)
   unfolding stepOf

@@ -24,6 +24,6 @@ walk-as-arm w (x ∷ words) m r last =
     go f (stopped answer address) h = refl
     go f (moved n s) h = ap (ahead s) (f n h s)
 
-pub run-as-arm : (w : Window) (words : List ℕ) (m : Machine) (l : Log) → Real m → machineRun w words m l ≡ runOf (badStart w) (armStep w) words m l
+pub run-as-arm : (w : Window) (words : List ℕ) (m : Machine) (lent : Log) → Real m → machineRun w words m lent ≡ runOf (badStart w) (armStep w) words m lent
 unfolding runOf
-run-as-arm w words m l r = rw (bad-is w m, walk-as-arm w words m r (shown 0 0 0))
+run-as-arm w words m lent r = rw (bad-is w m, walk-as-arm w words m r (shown 0 0 0))

@@ -2,7 +2,7 @@
 -- size and opc, where both decodes compute (`all-sizes`). Assumes nothing.
 use Prim.Native.Nat.{ℕ, zero, suc, _+_, _-_, _*_, _/_, _^_, _≤_, _<_}
 use mathlib.Core.Path.{_≡_, refl, sym, ap, _∙_}
-use mathlib.Core.Bool.{Bool, true, false}
+use mathlib.Core.Bool.{Bool, true, false, _||_}
 use mathlib.Core.List.{List}
 use native.Mathlib.Nat.{sub-self, add-zero}
 use native.Mathlib.Omega.{arith}
@@ -22,14 +22,15 @@ use Rattle.access.specs.Transfers.{extentOf, sizedTransfer}
 use Rattle.access.specs.Accesses.{isPrefetch, sizedAccess, wordAccess}
 use Rattle.plan.specs.declared.window.Window.{Window}
 use Rattle.plan.specs.Address.{sumOf, addressOf}
-use Rattle.plan.specs.Admission.{misaligned}
+use Rattle.plan.specs.Admission.{misaligned, unaligned}
 use Rattle.plan.specs.Plans.{misalignedStack}
+use Rattle.machine.specs.Monitor.{statusOf, monitorAfter, writtenBack, fails}
 use Rattle.machine.specs.Machine.{Machine, operandsOf}
-use Rattle.arm.specs.Pseudocode.{Arm, MemOp, LOAD, STORE, PREFETCH, Extend, X, setX, setSP, setBase, Mem, setMem, withRegisters, Operation, hint, loads, stores, case}
+use Rattle.arm.specs.Pseudocode.{Arm, MemOp, LOAD, STORE, PREFETCH, Extend, X, setX, setSP, setBase, Mem, setMem, withRegisters, withMonitor, Operation, hint, loads, stores, case}
 use Rattle.arm.specs.Pages.{pageOf}
-use Rattle.arm.specs.Choices.{marked, crosses, armOf}
+use Rattle.arm.specs.Choices.{marked, misplaced, armOf}
 use Rattle.arm.proofs.Bits.{zero-extend, extended-is}
-use Rattle.arm.proofs.Places.{x-is, set-x, set-base, mem-is, withMemory, set-mem, low-bytes, joined-lt}
+use Rattle.arm.proofs.Places.{x-is, set-x, set-base, mem-is, withMemory, set-mem, mem-monitor, low-bytes, joined-lt}
 use Rattle.arm.proofs.Marks.{single, one-marks}
 use Rattle.arm.proofs.Steps.{Ready, Steps, hints-step, faulty, access-step}
 
@@ -40,6 +41,12 @@ four P a b c d (suc zero) h = b
 four P a b c d (suc (suc zero)) h = c
 four P a b c d (suc (suc (suc zero))) h = d
 four P a b c d (suc (suc (suc (suc k)))) h = absurd (omega arith)
+
+-- and of one bit
+pub two : (P : ℕ → Type 0) → P 0 → P 1 → (k : ℕ) → k < 2 → P k
+two P a b zero h = a
+two P a b (suc zero) h = b
+two P a b (suc (suc k)) h = absurd (omega arith)
 
 -- ---- writeback
 
@@ -56,6 +63,15 @@ back-memory false n next s = refl
 back-memory true n next s = go (eqb n 31)
   where
     go : (t : Bool) → pick t (setSP next s) (setX n 64 next s) .memory ≡ s .memory
+    go true = refl
+    go false = refl
+
+pub back-monitor : (wback : Bool) (n next : ℕ) (s : Arm) → back wback n next s .monitor ≡ s .monitor
+unfolding setBase setX
+back-monitor false n next s = refl
+back-monitor true n next s = go (eqb n 31)
+  where
+    go : (t : Bool) → pick t (setSP next s) (setX n 64 next s) .monitor ≡ s .monitor
     go true = refl
     go false = refl
 
@@ -81,7 +97,7 @@ module _ (s : Arm) (len : length (s .registers) ≡ 32) where
       set-out all 32 more o ∙ rw (p, q, e) (load-registers wback n t next width loaded h)
 
   module _ (k address : ℕ) (h : s .origin ≤ address) (u : address + k ≤ 2 ^ 64) where
-    store-memory : (t : ℕ) → 0 < k → sets (s .memory) (address - s .origin) (bytesOf k (getD (s .registers) (zeroSlot t) 0)) ≡ setMem address k (X t (8 * k) s) s .memory
+    pub store-memory : (t : ℕ) → 0 < k → sets (s .memory) (address - s .origin) (bytesOf k (getD (s .registers) (zeroSlot t) 0)) ≡ setMem address k (X t (8 * k) s) s .memory
     store-memory t p = rw (set-mem s k address (X t (8 * k) s) h u, x-is s len t (8 * k) (omega arith), low-bytes k)
 
     store-registers : (wback : Bool) (n next v : ℕ) {written sum : ℕ} → written ≡ pick wback n 32 → sum ≡ next
@@ -99,25 +115,77 @@ extended-none k v = rw (sub-self (largest k), add-zero v) (go (ltb (largest k / 
     go true = refl
     go false = refl
 
-zeros : (k width v : ℕ) → v < 256 ^ k → extendedOf k k v ≡ Extend false (8 * k) width v
+pub zeros : (k width v : ℕ) → v < 256 ^ k → extendedOf k k v ≡ Extend false (8 * k) width v
 zeros k width v h = rw (zero-extend (8 * k) width v) (extended-none k v)
 
 -- ---- one access
 
--- what the addressing of an access and a page agree on, with the address and the number to write back
-pub record Form (w : Window) (m : Machine) (l : Row) (word : ℕ) (a : Addressing) (ordered wback stray : Bool) (address next : ℕ) : Type 0 where
+-- what the addressing of an access and a page agree on, with the address
+pub record Placed (w : Window) (m : Machine) (l : Row) (word : ℕ) (a : Addressing) (exclusive ordered stray : Bool) (address : ℕ) : Type 0 where
   pub mark : operandsOf a m .tainted ≡ marked (pageOf l word) word m
   pub stack : misalignedStack (a .base) (operandsOf a m .base) ≡ stray
   pub pointer : stray ≡ true → operandsOf a m .base ≡ getD (m .values) 31 0
   pub first : addressOf a (operandsOf a m) ≡ address
-  pub sum : sumOf a (operandsOf a m) ≡ next
+  pub block : (k : ℕ) → 0 < k → k ≤ 16 → (misaligned ordered k address || unaligned exclusive k address) ≡ misplaced (pageOf l word .alignment) address k
+
+-- and on the number to write back, which an exclusive access has none of; the page has no status
+pub record Form (w : Window) (m : Machine) (l : Row) (word : ℕ) (a : Addressing) (exclusive ordered wback stray : Bool) (address next : ℕ) : Type 0 where
+  pub placed : Placed w m l word a exclusive ordered stray address
+  pub sum : pick exclusive 0 (sumOf a (operandsOf a m)) ≡ next
   pub written : a .written ≡ pick wback (field 9 5 word) 32
   pub back : pageOf l word .wback ≡ wback
+  pub status : pageOf l word .status ≡ false
   pub apart : wback ≡ true → ¬ (field 9 5 word ≡ zeroSlot (field 4 0 word))
-  pub block : (k : ℕ) → 0 < k → k ≤ 16 → misaligned ordered k address ≡ crosses (pageOf l word) address k
+
+-- a load is no store-exclusive
+no-store : (b : Bool) → pick b false false ≡ false
+no-store true = refl
+no-store false = refl
+
+module _ (w : Window) (m : Machine) (r : Ready w m) (l : Row) (word : ℕ) (a : Addressing) (exclusive ordered wback stray : Bool) (address next : ℕ)
+    (f : Form w m l word a exclusive ordered wback stray address next) (alone : pageOf l word .paired ≡ false) where
+  -- with the monitor that an exclusive load arms
+  abbrev armed : ℕ → Arm
+  armed k = withMonitor (pick exclusive (record { address = address; size = k }) (m .monitor)) (armOf w m)
+
+  abbrev loaded : ℕ → ℕ → (ℕ → ℕ) → Arm
+  loaded k width g = back wback (field 9 5 word) next (setX (field 4 0 word) width (g (Mem address k (armed k))) (armed k))
+
+  pub one-load : (k extent width : ℕ) (g : ℕ → ℕ) → 0 < k → k ≤ 16 → ((v : ℕ) → v < 256 ^ k → extendedOf k extent v ≡ g v)
+      → wordAccess word ≡ Moves (single exclusive false ordered k extent (field 4 0 word)) a
+      → Steps w m l word (faulty m stray (loads address k (loaded k width g)))
+  unfolding setX statusOf fails writtenBack monitorAfter
+  one-load k extent width g p q ext e =
+      let n = field 9 5 word in
+      let t = field 4 0 word in
+      access-step w m (r .top) l word (single exclusive false ordered k extent t) a stray address k 0 (loaded k width g)
+      (record {
+        access = e;
+        total = add-zero k;
+        mark = f .placed .mark;
+        stack = f .placed .stack;
+        pointer = f .placed .pointer;
+        first = f .placed .first;
+        block = f .placed .block k p q;
+        told = rw (no-store exclusive);
+        registers =
+            λ h.
+            let at = address - w .origin in
+            let v : ℕ = joined (spanOf (m .memory) at k) in
+            let x : extendedOf k extent v ≡ g (Mem address k (armed k)) =
+            ext v (joined-lt (m .memory) (r .real .bytes) k at) ∙ ap g (sym (mem-is (armed k) k address (h .from) (h .upto))) in
+            rw (no-store exclusive) (load-all (armed k) (r .real .registers) wback n t next width _ (f .written) (f .sum) x (f .apart));
+        marks =
+            λ h.
+            rw (no-store exclusive, alone, f .back, f .status)
+            (one-marks wback (w .origin) word address (m .taints) (r .real .marks) (h .from) exclusive false ordered k extent (a .written) (f .written));
+        memory = λ h. sym (back-memory wback n next (setX t width (g (Mem address k (armed k))) (armed k)));
+        monitor = sym (back-monitor wback n next (setX t width (g (Mem address k (armed k))) (armed k)));
+      })
+      false refl
 
 module _ (w : Window) (m : Machine) (r : Ready w m) (l : Row) (word : ℕ) (a : Addressing) (ordered wback stray : Bool) (address next : ℕ)
-    (f : Form w m l word a ordered wback stray address next) (alone : pageOf l word .paired ≡ false) where
+    (f : Form w m l word a false ordered wback stray address next) (alone : pageOf l word .paired ≡ false) where
   abbrev s : Arm
   s = armOf w m
 
@@ -127,62 +195,39 @@ module _ (w : Window) (m : Machine) (r : Ready w m) (l : Row) (word : ℕ) (a : 
   abbrev t : ℕ
   t = field 4 0 word
 
-  abbrev loaded : ℕ → ℕ → (ℕ → ℕ) → Arm
-  loaded k width g = back wback n next (setX t width (g (Mem address k s)) s)
-
   abbrev stored : ℕ → Arm
   stored k = back wback n next (setMem address k (X t (8 * k) s) s)
 
-  pub one-load : (k extent width : ℕ) (g : ℕ → ℕ) → 0 < k → k ≤ 16 → ((v : ℕ) → v < 256 ^ k → extendedOf k extent v ≡ g v)
-      → wordAccess word ≡ Moves (single false ordered k extent t) a → Steps w m l word (faulty m stray (loads address k (loaded k width g)))
-  unfolding setX
-  one-load k extent width g p q ext e =
-      access-step w m (r .top) l word (single false ordered k extent t) a stray address k (loaded k width g)
-      (record {
-        access = e;
-        plain = refl;
-        total = add-zero k;
-        mark = f .mark;
-        stack = f .stack;
-        pointer = f .pointer;
-        first = f .first;
-        block = f .block k p q;
-        registers =
-            λ h.
-            let at = address - w .origin in
-            let v : ℕ = joined (spanOf (m .memory) at k) in
-            let x : extendedOf k extent v ≡ g (Mem address k s) =
-            ext v (joined-lt (m .memory) (r .real .bytes) k at) ∙ ap g (sym (mem-is s k address (h .from) (h .upto))) in
-            load-all s (r .real .registers) wback n t next width _ (f .written) (f .sum) x (f .apart);
-        marks =
-            λ h.
-            rw (alone, f .back) (one-marks wback (w .origin) word address (m .taints) (r .real .marks) (h .from) false ordered k extent (a .written) (f .written));
-        memory = λ h. sym (back-memory wback n next (setX t width (g (Mem address k s)) s));
-      })
-      false refl
-
-  pub one-store : (k extent : ℕ) → 0 < k → k ≤ 16 → wordAccess word ≡ Moves (single true ordered k extent t) a → Steps w m l word (faulty m stray (stores address k (stored k)))
-  unfolding bytesOf
+  pub one-store : (k extent : ℕ) → 0 < k → k ≤ 16 → wordAccess word ≡ Moves (single false true ordered k extent t) a
+      → Steps w m l word (faulty m stray (stores address k (stored k)))
+  unfolding bytesOf statusOf fails writtenBack monitorAfter
   one-store k extent p q e =
-      access-step w m (r .top) l word (single true ordered k extent t) a stray address k (stored k)
+      access-step w m (r .top) l word (single false true ordered k extent t) a stray address k 0 (stored k)
       (record {
         access = e;
-        plain = refl;
         total = add-zero k;
-        mark = f .mark;
-        stack = f .stack;
-        pointer = f .pointer;
-        first = f .first;
-        block = f .block k p q;
+        mark = f .placed .mark;
+        stack = f .placed .stack;
+        pointer = f .placed .pointer;
+        first = f .placed .first;
+        block = f .placed .block k p q;
+        told = refl;
         registers = λ h. store-registers s (r .real .registers) k address (h .from) (h .upto) wback n next _ (f .written) (f .sum);
         marks =
             λ h.
-            rw (alone, f .back) (one-marks wback (w .origin) word address (m .taints) (r .real .marks) (h .from) true ordered k extent (a .written) (f .written));
+            rw (alone, f .back, f .status)
+            (one-marks wback (w .origin) word address (m .taints) (r .real .marks) (h .from) false true ordered k extent (a .written) (f .written));
         memory = λ h. store-memory s (r .real .registers) k address (h .from) (h .upto) t p ∙ sym (back-memory wback n next _);
+        monitor = sym (back-monitor wback n next _ ∙ mem-monitor k address _ s);
       })
       true refl
 
   -- ---- all sizes and opcs
+
+  load : (k extent width : ℕ) (g : ℕ → ℕ) → 0 < k → k ≤ 16 → ((v : ℕ) → v < 256 ^ k → extendedOf k extent v ≡ g v)
+      → wordAccess word ≡ Moves (single false false ordered k extent t) a
+      → Steps w m l word (faulty m stray (loads address k (back wback n next (setX t width (g (Mem address k s)) s))))
+  load = one-load w m r l word a false ordered wback stray address next f alone
 
   -- the page, by size and opc
   abbrev page : ℕ → ℕ → Operation
@@ -209,30 +254,30 @@ module _ (w : Window) (m : Machine) (r : Ready w m) (l : Row) (word : ℕ) (a : 
       bytes =
           four (Paged 0)
           (λ p q e. one-store 1 1 (omega arith) (omega arith) e)
-          (λ p q e. one-load 1 1 32 (Extend false 8 32) (omega arith) (omega arith) (zeros 1 32) e)
-          (λ p q e. one-load 1 8 64 (Extend true 8 64) (omega arith) (omega arith) (λ v. extended-is 0 8 v (omega arith)) e)
-          (λ p q e. one-load 1 4 32 (Extend true 8 32) (omega arith) (omega arith) (λ v. extended-is 0 4 v (omega arith)) e)
+          (λ p q e. load 1 1 32 (Extend false 8 32) (omega arith) (omega arith) (zeros 1 32) e)
+          (λ p q e. load 1 8 64 (Extend true 8 64) (omega arith) (omega arith) (λ v. extended-is 0 8 v (omega arith)) e)
+          (λ p q e. load 1 4 32 (Extend true 8 32) (omega arith) (omega arith) (λ v. extended-is 0 4 v (omega arith)) e)
 
       halves : (opc : ℕ) → opc < 4 → Paged 1 opc
       halves =
           four (Paged 1)
           (λ p q e. one-store 2 2 (omega arith) (omega arith) e)
-          (λ p q e. one-load 2 2 32 (Extend false 16 32) (omega arith) (omega arith) (zeros 2 32) e)
-          (λ p q e. one-load 2 8 64 (Extend true 16 64) (omega arith) (omega arith) (λ v. extended-is 1 8 v (omega arith)) e)
-          (λ p q e. one-load 2 4 32 (Extend true 16 32) (omega arith) (omega arith) (λ v. extended-is 1 4 v (omega arith)) e)
+          (λ p q e. load 2 2 32 (Extend false 16 32) (omega arith) (omega arith) (zeros 2 32) e)
+          (λ p q e. load 2 8 64 (Extend true 16 64) (omega arith) (omega arith) (λ v. extended-is 1 8 v (omega arith)) e)
+          (λ p q e. load 2 4 32 (Extend true 16 32) (omega arith) (omega arith) (λ v. extended-is 1 4 v (omega arith)) e)
 
       words : (opc : ℕ) → opc < 4 → Paged 2 opc
       words =
           four (Paged 2)
           (λ p q e. one-store 4 4 (omega arith) (omega arith) e)
-          (λ p q e. one-load 4 4 32 (Extend false 32 32) (omega arith) (omega arith) (zeros 4 32) e)
-          (λ p q e. one-load 4 8 64 (Extend true 32 64) (omega arith) (omega arith) (λ v. extended-is 3 8 v (omega arith)) e)
+          (λ p q e. load 4 4 32 (Extend false 32 32) (omega arith) (omega arith) (zeros 4 32) e)
+          (λ p q e. load 4 8 64 (Extend true 32 64) (omega arith) (omega arith) (λ v. extended-is 3 8 v (omega arith)) e)
           (λ p q e. absurd (p refl))
 
       doubles : (opc : ℕ) → opc < 4 → Paged 3 opc
       doubles =
           four (Paged 3)
           (λ p q e. one-store 8 8 (omega arith) (omega arith) e)
-          (λ p q e. one-load 8 8 64 (Extend false 64 64) (omega arith) (omega arith) (zeros 8 64) e)
+          (λ p q e. load 8 8 64 (Extend false 64 64) (omega arith) (omega arith) (zeros 8 64) e)
           (λ p q e. hints-step w m l word e)
           (λ p q e. absurd (q refl))

@@ -2,7 +2,7 @@
 -- effect. `hints-step` and `access-step` are what the families use. Assumes nothing.
 use Prim.Native.Nat.{ℕ, _+_, _-_, _/_, _%_, _^_, _≤_, _<_}
 use mathlib.Core.Path.{_≡_, refl, ap, _∙_}
-use mathlib.Core.Bool.{Bool, true, false, _&&_, not}
+use mathlib.Core.Bool.{Bool, true, false, _&&_, _||_, not}
 use native.Mathlib.Omega.{arith}
 use lib.Dec.{ltb, leb, eqb}
 use lib.ListN.{length, getD}
@@ -15,21 +15,20 @@ use Rattle.access.specs.declared.transfer.Transfer.{Transfer}
 use Rattle.access.specs.declared.addressing.Addressing.{Addressing}
 use Rattle.access.specs.declared.Access.the-variants.{Nothing, Moves}
 use Rattle.plan.specs.declared.window.Window.{Window}
-use Rattle.plan.specs.declared.operands.Operands.{Operands}
 use Rattle.plan.specs.Address.{sumOf, addressOf}
 use Rattle.plan.specs.Admission.{totalOf, misaligned, unaligned, outside, guarded, admitOf}
 use Rattle.plan.specs.Plans.{misalignedStack}
 use Rattle.plan.proofs.Tests.{same-test}
 use Rattle.access.specs.Accesses.{wordAccess}
-use Rattle.machine.specs.Monitor.{statusOf, monitorAfter, writtenBack, fails}
+use Rattle.machine.specs.Monitor.{statusOf, monitorAfter, writtenBack, madeOf}
 use Rattle.machine.specs.Rule.{moveRule}
 use Rattle.machine.specs.Machine.{Machine, operandsOf, basedValues, loadedValues, storedBytes, effectOf, codeOf}
-use Rattle.machine.specs.Step.{shown, Step, stopped, moved, touchOf}
+use Rattle.machine.specs.Step.{shown, Step, stopped, moved}
 use Rattle.machine.specs.route.Parts.{accessStep}
 use Rattle.arm.specs.Pseudocode.{Arm, Operation, hint, spFault, access}
 use Rattle.arm.specs.Marks.{marksOf}
 use Rattle.arm.specs.Pages.{pageOf}
-use Rattle.arm.specs.Choices.{marked, crosses, outOf, shut, afterPage, chosen}
+use Rattle.arm.specs.Choices.{marked, misplaced, outOf, shut, afterPage, chosen}
 use Rattle.arm.specs.Real.{Real}
 
 -- a machine that there is, in a window that answer 1 passes
@@ -86,47 +85,31 @@ same-block a n h k = go (ltb 16 (a % 16 + n)) refl (eqb (a / 16) ((a + n - 1) / 
 -- ---- the plan
 
 -- the tests of an access before what it comes to
-abbrev tested : Bool → Bool → Bool → Bool → Bool → ℕ → ℕ → ℕ → Machine → Step Machine
-tested tainted stray across out guard sp x code n =
+abbrev tested : Bool → Bool → Bool → Bool → Bool → ℕ → ℕ → ℕ → ℕ → Machine → Step Machine
+tested tainted stray across out guard sp x code status n =
     pick tainted (stopped TaintedAddress 0)
     (pick stray (stopped Misaligned sp)
     (pick across (stopped Misaligned x)
     (pick out (stopped OutOfWindow x)
     (pick guard (stopped ReadOnly x)
-    (moved n (shown code x 0))))))
+    (moved n (shown code x status))))))
 
-planned : (b sp x code : ℕ) (m n : Machine) (tainted stray across out guard test : Bool) → (stray ≡ true → b ≡ sp) → (out ≡ false → guard ≡ test) → (out ≡ false → m ≡ n)
-    → tested tainted stray across out guard b x code m ≡ tested tainted stray across out test sp x code n
-planned b sp x code m n true stray across out guard test p g f = refl
-planned b sp x code m n false true across out guard test p g f = rw (p refl)
-planned b sp x code m n false false true out guard test p g f = refl
-planned b sp x code m n false false false true guard test p g f = refl
-planned b sp x code m n false false false false guard test p g f = rw (g refl, f refl)
+-- the machine has two tests for 6, of which the first that holds is as good as the other
+twice : (across skew : Bool) (x : ℕ) (s : Step Machine) → pick across (stopped Misaligned x) (pick skew (stopped Misaligned x) s) ≡ pick (across || skew) (stopped Misaligned x) s
+twice true skew x s = refl
+twice false skew x s = refl
+
+planned : (b sp x code status : ℕ) (m n : Machine) (tainted stray across out guard test : Bool) → (stray ≡ true → b ≡ sp) → (out ≡ false → guard ≡ test) → (out ≡ false → m ≡ n)
+    → tested tainted stray across out guard b x code status m ≡ tested tainted stray across out test sp x code status n
+planned b sp x code status m n true stray across out guard test p g f = refl
+planned b sp x code status m n false true across out guard test p g f = rw (p refl)
+planned b sp x code status m n false false true out guard test p g f = refl
+planned b sp x code status m n false false false true guard test p g f = refl
+planned b sp x code status m n false false false false guard test p g f = rw (g refl, f refl)
 
 same-plan : (F : Bool → Bool → Bool → Bool → ℕ → Step Machine) {p p′ q q′ r r′ s s′ : Bool} {x x′ : ℕ} → p ≡ p′ → q ≡ q′ → r ≡ r′ → s ≡ s′ → x ≡ x′
     → F p q r s x ≡ F p′ q′ r′ s′ x′
 same-plan F e f g k h = rw (e, f, g, k, h)
-
--- an access that is not exclusive has no test of its own alignment, keeps the monitor and has status 0
-untested : (tainted stray across turned out guard : Bool) (sp x code : ℕ) (n : Machine) (touch : Step Machine) → turned ≡ false → touch ≡ moved n (shown code x 0)
-    → pick tainted (stopped TaintedAddress 0)
-    (pick stray (stopped Misaligned sp)
-    (pick across (stopped Misaligned x)
-    (pick turned (stopped Misaligned x)
-    (pick out (stopped OutOfWindow x)
-    (pick guard (stopped ReadOnly x)
-    touch)))))
-    ≡ tested tainted stray across out guard sp x code n
-untested tainted stray across turned out guard sp x code n touch e f = rw (e, f)
-
-aligned : (t : Transfer) (total x : ℕ) → t .exclusive ≡ false → unaligned (t .exclusive) total x ≡ false
-unfolding unaligned
-aligned t total x e = rw e
-
-touch-plain : (origin : ℕ) (t : Transfer) (written address sum : ℕ) (m : Machine) → t .exclusive ≡ false
-    → touchOf origin t written address sum m ≡ moved (effectOf t written (address - origin) sum (m .monitor) m) (shown (codeOf t) address 0)
-unfolding statusOf monitorAfter writtenBack fails
-touch-plain origin t written address sum m e = rw e
 
 -- the step of a word is that of its page
 abbrev pub Steps : Window → Machine → Row → ℕ → Operation → Type 0
@@ -141,46 +124,52 @@ abbrev pub faulty : Machine → Bool → Operation → Operation
 faulty m stray o = pick stray (spFault (getD (m .values) 31 0)) o
 
 -- what an access and a page agree on
-pub record Agreed (w : Window) (m : Machine) (l : Row) (word : ℕ) (t : Transfer) (a : Addressing) (stray : Bool) (address size : ℕ) (after : Arm) : Type 0 where
+pub record Agreed (w : Window) (m : Machine) (l : Row) (word : ℕ) (t : Transfer) (a : Addressing) (stray : Bool) (address size status : ℕ) (after : Arm) : Type 0 where
   pub access : wordAccess word ≡ Moves t a
-  pub plain : t .exclusive ≡ false
   pub total : totalOf t ≡ size
   pub mark : operandsOf a m .tainted ≡ marked (pageOf l word) word m
   pub stack : misalignedStack (a .base) (operandsOf a m .base) ≡ stray
   pub pointer : stray ≡ true → operandsOf a m .base ≡ getD (m .values) 31 0
   pub first : addressOf a (operandsOf a m) ≡ address
-  pub block : misaligned (t .ordered) size address ≡ crosses (pageOf l word) address size
+  pub block : (misaligned (t .ordered) size address || unaligned (t .exclusive) size address) ≡ misplaced (pageOf l word .alignment) address size
+  pub told : statusOf t address (m .monitor) ≡ status
   pub registers : Inside w address size
-      → let based = basedValues (a .written) (sumOf a (operandsOf a m)) (m .values) in
-      pick (t .store) based (loadedValues t (address - w .origin) based (m .memory)) ≡ after .registers
+      → let based = basedValues (a .written) (writtenBack t status (sumOf a (operandsOf a m))) (m .values) in
+      pick (t .store) based (loadedValues (madeOf t status) (address - w .origin) based (m .memory)) ≡ after .registers
   pub marks : Inside w address size
-      → moveRule t (a .written) (address - w .origin) (m .taints)
-      ≡ marksOf (pageOf l word .paired) (pageOf l word .wback) (t .store) (w .origin) word address size (m .taints)
-  pub memory : Inside w address size → pick (t .store) (storedBytes t (address - w .origin) (m .values) (m .memory)) (m .memory) ≡ after .memory
+      → moveRule (madeOf t status) (a .written) (address - w .origin) (m .taints)
+      ≡ marksOf (pageOf l word .paired) (pageOf l word .wback) (pageOf l word .status) (t .store) status (w .origin) word address size (m .taints)
+  pub memory : Inside w address size → pick (t .store) (storedBytes (madeOf t status) (address - w .origin) (m .values) (m .memory)) (m .memory) ≡ after .memory
+  pub monitor : monitorAfter t address (m .monitor) ≡ after .monitor
 
 module _ (w : Window) (m : Machine) (top : w .origin + length (m .memory) ≤ 2 ^ 64) (l : Row) (word : ℕ) (t : Transfer) (a : Addressing) (stray : Bool)
-    (address size : ℕ) (after : Arm) (g : Agreed w m l word t a stray address size after) where
+    (address size status : ℕ) (after : Arm) (g : Agreed w m l word t a stray address size status after) where
   abbrev o : Bool
   o = outOf w m address size
 
   abbrev left : Machine
-  left = afterPage w word m (pageOf l word) (t .store) address size after
+  left = afterPage w word m (pageOf l word) (t .store) address size status after
 
-  effect : o ≡ false → effectOf t (a .written) (address - w .origin) (sumOf a (operandsOf a m)) (m .monitor) m ≡ left
+  -- what the machine leaves of an access at x with a status
+  abbrev made : ℕ → ℕ → Machine
+  made x status =
+      effectOf (madeOf t status) (a .written) (x - w .origin) (writtenBack t status (sumOf a (operandsOf a m))) (monitorAfter t x (m .monitor)) m
+
+  effect : o ≡ false → made address status ≡ left
   unfolding effectOf
   effect e =
       let h = inside w m address size top e in
-      rw (g .registers h, g .memory h, g .marks h)
+      rw (g .registers h, g .memory h, g .marks h, g .monitor)
 
   guard : o ≡ false → guarded (t .store) address w ≡ shut w (t .store) address
   guard e = guard-is w (t .store) address (inside w m address size top e .from)
 
   -- the tests of the plan, each at the page's address and bytes
-  across : misaligned (t .ordered) (totalOf t) (addressOf a (operandsOf a m)) ≡ crosses (pageOf l word) address size
-  across =
-      ap (λ (x : ℕ). misaligned (t .ordered) (totalOf t) x) (g .first)
-      ∙ ap (λ (k : ℕ). misaligned (t .ordered) k address) (g .total)
-      ∙ g .block
+  abbrev displaced : ℕ → ℕ → Bool
+  displaced k x = misaligned (t .ordered) k x || unaligned (t .exclusive) k x
+
+  across : displaced (totalOf t) (addressOf a (operandsOf a m)) ≡ misplaced (pageOf l word .alignment) address size
+  across = ap (displaced (totalOf t)) (g .first) ∙ ap (λ (k : ℕ). displaced k address) (g .total) ∙ g .block
 
   out : outside (totalOf t) (addressOf a (operandsOf a m)) (w .origin) (length (m .memory)) ≡ o
   out =
@@ -189,23 +178,22 @@ module _ (w : Window) (m : Machine) (top : w .origin + length (m .memory) ≤ 2 
       ∙ out-is w m address size
 
   step : accessStep (w .origin) (admitOf w (length (m .memory))) (wordAccess word) m
-      ≡ tested (marked (pageOf l word) word m) stray (crosses (pageOf l word) address size) o (shut w (t .store) address) (getD (m .values) 31 0) address (codeOf t) left
+      ≡ tested (marked (pageOf l word) word m) stray (misplaced (pageOf l word .alignment) address size) o (shut w (t .store) address) (getD (m .values) 31 0) address (codeOf t) status left
   unfolding accessStep admitOf
   step =
-      let p : Operands = operandsOf a m in
-      let x : ℕ = addressOf a p in
-      let next : ℕ = sumOf a p in
+      let x = addressOf a (operandsOf a m) in
       ap (λ x. accessStep (w .origin) (admitOf w (length (m .memory))) x m) (g .access)
-      ∙ untested (p .tainted) (misalignedStack (a .base) (p .base)) (misaligned (t .ordered) (totalOf t) x) (unaligned (t .exclusive) (totalOf t) x) (outside (totalOf t) x (w .origin) (length (m .memory))) (guarded (t .store) x w) (p .base) x (codeOf t)
-      (effectOf t (a .written) (x - w .origin) next (m .monitor) m) (touchOf (w .origin) t (a .written) x next m) (aligned t (totalOf t) x (g .plain)) (touch-plain (w .origin) t (a .written) x next m (g .plain))
-      ∙ same-plan (λ tainted stray across out x. tested tainted stray across out (guarded (t .store) x w) (operandsOf a m .base) x (codeOf t) (effectOf t (a .written) (x - w .origin) next (m .monitor) m)) (g .mark) (g .stack) across out (g .first)
-      ∙ planned (operandsOf a m .base) (getD (m .values) 31 0) address (codeOf t) (effectOf t (a .written) (address - w .origin) next (m .monitor) m) left (marked (pageOf l word) word m) stray
-      (crosses (pageOf l word) address size) o (guarded (t .store) address w) (shut w (t .store) address) (g .pointer) guard effect
+      ∙ ap (λ (s : Step Machine). pick (operandsOf a m .tainted) (stopped TaintedAddress 0) (pick (misalignedStack (a .base) (operandsOf a m .base)) (stopped Misaligned (operandsOf a m .base)) s))
+      (twice (misaligned (t .ordered) (totalOf t) x) (unaligned (t .exclusive) (totalOf t) x) x _)
+      ∙ same-plan (λ tainted stray across out x. tested tainted stray across out (guarded (t .store) x w) (operandsOf a m .base) x (codeOf t) (statusOf t x (m .monitor)) (made x (statusOf t x (m .monitor)))) (g .mark) (g .stack) across out (g .first)
+      ∙ ap (λ (status : ℕ). tested (marked (pageOf l word) word m) stray (misplaced (pageOf l word .alignment) address size) o (guarded (t .store) address w) (operandsOf a m .base) address (codeOf t) status (made address status)) (g .told)
+      ∙ planned (operandsOf a m .base) (getD (m .values) 31 0) address (codeOf t) status (made address status) left (marked (pageOf l word) word m) stray
+      (misplaced (pageOf l word .alignment) address size) o (guarded (t .store) address w) (shut w (t .store) address) (g .pointer) guard effect
 
   -- with the test of the stack pointer, and what the page then does
-  paged : (b store : Bool) → t .store ≡ store → stray ≡ b → Steps w m l word (faulty m b (access store address size after))
+  paged : (b store : Bool) → t .store ≡ store → stray ≡ b → Steps w m l word (faulty m b (access store address size status after))
   paged true store e f = rw (g .total, e, f) at step
   paged false store e f = rw (g .total, e, f) at step
 
-  pub access-step : (store : Bool) → t .store ≡ store → Steps w m l word (faulty m stray (access store address size after))
+  pub access-step : (store : Bool) → t .store ≡ store → Steps w m l word (faulty m stray (access store address size status after))
   access-step store e = paged stray store e refl

@@ -1,9 +1,9 @@
 -- A step by Arm's pages, with what 01 decides where Arm leaves a choice: "Answer numbers", 1 to 8 in their order and in
--- 01's words, with 02's CR 1. Where Arm says undefined or unpredictable, 01's tables of words (instruction/specs) decide before the page.
+-- 01's words, with 02's CR 1 and CR 3. Where Arm says undefined or unpredictable, 01's tables of words (instruction/specs) decide before the page.
 use Prim.Native.Nat.{ℕ, _+_, _-_, _/_, _%_, _^_}
-use mathlib.Core.Bool.{Bool, _&&_, _||_, not}
+use mathlib.Core.Bool.{Bool, false, _&&_, _||_, not}
 use lib.Dec.{eqb, ltb, leb}
-use lib.ListN.{length}
+use lib.ListN.{length, getD}
 use Rattle.bits.specs.Choice.{pick}
 use Rattle.bits.specs.Fields.{field}
 use Rattle.instruction.specs.declared.answer.Answer.the-variants.{BadWindow, NotInSet, Undefined, Unpredictable, TaintedAddress, Misaligned, OutOfWindow, ReadOnly}
@@ -11,9 +11,9 @@ use Rattle.instruction.specs.Table.{inSet, rowOf, undefined, unpredictable}
 use Rattle.plan.specs.declared.window.Window.{Window}
 use Rattle.machine.specs.Machine.{Machine}
 use Rattle.machine.specs.Step.{shown, Step, stopped, moved}
-use Rattle.arm.specs.Pseudocode.{Arm, Operation, hint, spFault, access}
-use Rattle.arm.specs.Pages.{Page, pageOf}
-use Rattle.arm.specs.Marks.{baseMark, mark, marksOf}
+use Rattle.arm.specs.Pseudocode.{Arm, Operation, hint, spFault, access, Align}
+use Rattle.arm.specs.Pages.{Alignment, anywhere, oneBlock, multiple, Page, pageOf}
+use Rattle.arm.specs.Marks.{marks, mark, marksOf}
 
 -- 1: origin + len above 2^64, r above len, mark length not len, or PC not a multiple of 4
 unfoldable pub badStart : Window → Machine → Bool
@@ -26,12 +26,15 @@ badStart w m =
 -- 5: base or index register marked (not for prefetch or literal)
 abbrev pub marked : Page → ℕ → Machine → Bool
 marked page word m =
-    (page .based && baseMark (field 9 5 word) (m .taints .registers))
+    (page .based && marks (getD (m .taints .registers) (field 9 5 word) 0))
     || (page .indexed && mark (field 20 16 word) (m .taints .registers))
 
--- 6: ordered access not wholly inside one 16-byte aligned block: its first and its last byte are in two
-abbrev pub crosses : Page → ℕ → ℕ → Bool
-crosses page address size = page .ordered && not (eqb (address / 16) ((address + size - 1) / 16))
+-- 6: ordered access not wholly inside one 16-byte aligned block: its first and its last byte are in two; "an exclusive's address
+-- not a multiple of the size", where Arm has an alignment fault
+abbrev pub misplaced : Alignment → ℕ → ℕ → Bool
+misplaced anywhere address size = false
+misplaced oneBlock address size = not (eqb (address / 16) ((address + size - 1) / 16))
+misplaced multiple address size = not (eqb address (Align address size))
 
 -- 7: access, as whole numbers, not inside origin to origin + len
 abbrev pub outOf : Window → Machine → ℕ → ℕ → Bool
@@ -45,31 +48,33 @@ shut w store address = store && ltb (address - w .origin) (w .readonly)
 abbrev pub after : ℕ → ℕ
 after pc = (pc + 4) % 2 ^ 64
 
--- what a page leaves, with the marks of 01's rule. None of these pages touches the monitor (02, CR 3) or has a status
-abbrev pub afterPage : Window → ℕ → Machine → Page → Bool → ℕ → ℕ → Arm → Machine
-afterPage w word m page store address size s =
+-- what a page leaves, with the marks of the rule
+abbrev pub afterPage : Window → ℕ → Machine → Page → Bool → ℕ → ℕ → ℕ → Arm → Machine
+afterPage w word m page store address size status s =
     record {
       values = s .registers;
       pc = after (m .pc);
       memory = s .memory;
-      taints = marksOf (page .paired) (page .wback) store (w .origin) word address size (m .taints);
-      monitor = m .monitor;
+      taints = marksOf (page .paired) (page .wback) (page .status) store status (w .origin) word address size (m .taints);
+      monitor = s .monitor;
     }
 
 -- a prefetch changes nothing but PC, with code and address 0. An access has 5 to 8 before it, and the fault of SP's alignment is
--- 6 with SP's address, "after 5 and before the ordered test" (02, CR 1); its code is the bytes touched, plus 64 for a store
+-- 6 with SP's address, "after 5 and before the ordered test" (02, CR 1); its code is the bytes touched, plus 64 for a store, and
+-- "the trace shows a failed store like a successful one" (CR 3). What the page leaves counts when all tests are passed: so "a
+-- refused step keeps the monitor"
 abbrev pub chosen : Window → ℕ → Machine → Page → Operation → Step Machine
 chosen w word m page hint = moved (record { values = m .values; pc = after (m .pc); memory = m .memory; taints = m .taints; monitor = m .monitor }) (shown 0 0 0)
 chosen w word m page (spFault sp) = pick (marked page word m) (stopped TaintedAddress 0) (stopped Misaligned sp)
-chosen w word m page (access store address size s) =
+chosen w word m page (access store address size status s) =
     pick (marked page word m) (stopped TaintedAddress 0)
-    (pick (crosses page address size) (stopped Misaligned address)
+    (pick (misplaced (page .alignment) address size) (stopped Misaligned address)
     (pick (outOf w m address size) (stopped OutOfWindow address)
     (pick (shut w store address) (stopped ReadOnly address)
-    (moved (afterPage w word m page store address size s) (shown (size + pick store 64 0) address 0)))))
+    (moved (afterPage w word m page store address size status s) (shown (size + pick store 64 0) address status)))))
 
 abbrev pub armOf : Window → Machine → Arm
-armOf w m = record { registers = m .values; pc = m .pc; origin = w .origin; memory = m .memory }
+armOf w m = record { registers = m .values; pc = m .pc; origin = w .origin; memory = m .memory; monitor = m .monitor }
 
 -- 1 to 4, then the page of the word's row
 unfoldable pub armStep : Window → ℕ → Machine → Step Machine

@@ -5,6 +5,8 @@ pub mod Immediate
 pub mod Indexed
 pub mod Literal
 pub mod Pair
+pub mod Exclusive
+pub mod AcquireRelease
 pub mod Marks
 pub mod Pages
 pub mod Choices

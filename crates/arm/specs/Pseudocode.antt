@@ -7,6 +7,7 @@ use lib.Dec.{eqb, ltb}
 use lib.ListN.{getD, set}
 use Rattle.bits.specs.Choice.{pick}
 use Rattle.bits.specs.Fields.{field}
+use Rattle.machine.specs.declared.monitor.Monitor.{Monitor}
 
 -- ---- bits
 
@@ -38,15 +39,17 @@ Add x y = field 63 0 (x + y)
 
 -- ---- registers and memory
 
--- what the pages read and write: X0 to X30 and then SP; the program counter; and bytes, the first at address `origin`
+-- what the pages read and write: X0 to X30 and then SP; the program counter; bytes, the first at address `origin`; and the
+-- exclusives monitor
 pub record Arm : Type 0 where
   pub registers : List ℕ
   pub pc : ℕ
   pub origin : ℕ
   pub memory : List ℕ
+  pub monitor : Monitor
 
 abbrev pub withRegisters : List ℕ → Arm → Arm
-withRegisters r s = record { registers = r; pc = s .pc; origin = s .origin; memory = s .memory }
+withRegisters r s = record { registers = r; pc = s .pc; origin = s .origin; memory = s .memory; monitor = s .monitor }
 
 -- the low bits of X0 to X30, and zeros for 31
 unfoldable pub X : ℕ → ℕ → Arm → ℕ
@@ -75,7 +78,8 @@ Mem address zero s = 0
 Mem address (suc n) s = Concat (Mem (Add address 1) n s) 8 (getD (s .memory) (address - s .origin) 0)
 
 abbrev pub setByte : ℕ → ℕ → Arm → Arm
-setByte address b s = record { registers = s .registers; pc = s .pc; origin = s .origin; memory = set (s .memory) (address - s .origin) b }
+setByte address b s =
+    record { registers = s .registers; pc = s .pc; origin = s .origin; memory = set (s .memory) (address - s .origin) b; monitor = s .monitor }
 
 unfoldable pub setMem : ℕ → ℕ → ℕ → Arm → Arm
 setMem address zero v s = s
@@ -89,6 +93,26 @@ ExtendReg m option shift s =
     let len = pick (ltb (64 - shift) length) (64 - shift) length in
     Extend (eqb (field 2 2 option) 1) (len + shift) 64 (Concat (field (len - 1) 0 (X m 64 s)) shift 0)
 
+-- ---- the exclusives monitor. Arm leaves to an implementation which bytes around an address it covers, and what else clears it.
+-- 02's CR 3 takes "an address and a size", no bytes where it is open, and only exclusive accesses touch it
+
+abbrev pub withMonitor : Monitor → Arm → Arm
+withMonitor r s = record { registers = s .registers; pc = s .pc; origin = s .origin; memory = s .memory; monitor = r }
+
+abbrev pub SetExclusiveMonitors : ℕ → ℕ → Arm → Arm
+SetExclusiveMonitors address size s = withMonitor (record { address = address; size = size }) s
+
+abbrev pub ClearExclusiveLocal : Arm → Arm
+ClearExclusiveLocal s = SetExclusiveMonitors 0 0 s
+
+-- "exactly if the monitor has the same address and size"
+abbrev pub ExclusiveMonitorsPass : ℕ → ℕ → Arm → Bool
+ExclusiveMonitorsPass address size s = eqb (s .monitor .address) address && eqb (s .monitor .size) size
+
+-- after a write that was let through: it is always made here
+abbrev pub ExclusiveMonitorsStatus : ℕ
+ExclusiveMonitorsStatus = 0
+
 -- ---- what a page does
 
 pub data MemOp : Type 0 where
@@ -97,11 +121,11 @@ pub data MemOp : Type 0 where
   PREFETCH : MemOp
 
 -- a hint, which changes nothing; an SP alignment fault, with SP; or one access, a store or not, by the address of its first
--- byte, its bytes, and the state that it leaves
+-- byte, its bytes, its status, and the state that it leaves
 pub data Operation : Type 0 where
   hint : Operation
   spFault : ℕ → Operation
-  access : Bool → ℕ → ℕ → Arm → Operation
+  access : Bool → ℕ → ℕ → ℕ → Arm → Operation
 
 -- the largest multiple of y that is not above x
 abbrev pub Align : ℕ → ℕ → ℕ
@@ -112,10 +136,14 @@ abbrev pub CheckSPAlignment : ℕ → Arm → Operation → Operation
 CheckSPAlignment n s o = pick (eqb n 31 && not (eqb (SP s) (Align (SP s) 16))) (spFault (SP s)) o
 
 abbrev pub stores : ℕ → ℕ → Arm → Operation
-stores address size s = access true address size s
+stores address size s = access true address size 0 s
 
 abbrev pub loads : ℕ → ℕ → Arm → Operation
-loads address size s = access false address size s
+loads address size s = access false address size 0 s
+
+-- only a store-exclusive has a status
+abbrev pub storesExclusive : ℕ → ℕ → ℕ → Arm → Operation
+storesExclusive address size status s = access true address size status s
 
 abbrev pub case : MemOp → Operation → Operation → Operation → Operation
 case STORE store load prefetch = store

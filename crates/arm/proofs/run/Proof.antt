@@ -17,8 +17,7 @@ run-spec =
     (λ c. search needs)
     (λ c. search needs)
     (λ c.
-    let ran = c .before .before .before .before .before .before .before .before in
-    let real = ran .before .before .before .before .before in
-    let a = real .before .before .before .before .before .before .before .before .args in
+    let a = c .before .before .before .before .before .before .before .before .before .before .before .before .before .before .before .before .before .before .before .before .before .args in
     let m = machineOf (a .state) (a .memory .now) (a .taint .now) in
-    rw (← run-as-arm (a .window) (a .words .now) m (log (a .trace .now) (a .statuses .now)) (real .real .ensures)) (ran .run .ensures .0)))
+    let real = c .before .before .before .before .before .before .before .before .before .before .before .before .before .real .ensures in
+    rw (← run-as-arm (a .window) (a .words .now) m (log (a .trace .now) (a .statuses .now)) real) (c .before .before .before .before .before .before .before .before .run .ensures .0)))

@@ -1,0 +1,43 @@
+-- LDXR, LDAXR, STXR and STLXR, of bytes, halfwords, words and doublewords: DDI 0602. What is acquired and released, between
+-- processors, is not part of this machine: bit 15 changes nothing.
+--     size 001000 0 L 0 Rs o0 11111 Rn Rt
+use Prim.Native.Nat.{ℕ, _*_, _/_, _^_}
+use lib.Dec.{eqb}
+use Rattle.bits.specs.Choice.{pick}
+use Rattle.bits.specs.Fields.{field}
+use Rattle.arm.specs.Pseudocode.{Arm, ZeroExtend, X, setX, base, Mem, setMem, Operation, SetExclusiveMonitors, ClearExclusiveLocal, ExclusiveMonitorsPass, ExclusiveMonitorsStatus, CheckSPAlignment, loads, storesExclusive}
+
+-- L = 1
+unfoldable pub loadExclusive : ℕ → Arm → Operation
+loadExclusive word s =
+    let size = field 31 30 word in
+    -- decode
+    let n = field 9 5 word in
+    let t = field 4 0 word in
+    let elsize = 8 * 2 ^ size in
+    let regsize : ℕ = pick (eqb elsize 64) 64 32 in
+    -- operation
+    let dbytes = elsize / 8 in
+    let address = base n s in
+    let armed = SetExclusiveMonitors address dbytes s in
+    let loaded = Mem address dbytes armed in
+    CheckSPAlignment n s (loads address dbytes (setX t regsize (ZeroExtend elsize regsize loaded) armed))
+
+-- L = 0. The monitor is cleared where it is asked, whatever it says
+unfoldable pub storeExclusive : ℕ → Arm → Operation
+storeExclusive word s =
+    let size = field 31 30 word in
+    -- decode
+    let n = field 9 5 word in
+    let t = field 4 0 word in
+    let rs = field 20 16 word in
+    let elsize = 8 * 2 ^ size in
+    -- operation
+    let dbytes = elsize / 8 in
+    let address = base n s in
+    let value = X t elsize s in
+    let pass = ExclusiveMonitorsPass address dbytes s in
+    let asked = ClearExclusiveLocal s in
+    let after = pick pass (setMem address dbytes value asked) asked in
+    let status : ℕ = pick pass ExclusiveMonitorsStatus 0b1 in
+    CheckSPAlignment n s (storesExclusive address dbytes status (setX rs 32 (ZeroExtend 1 32 status) after))
