@@ -1,9 +1,9 @@
-// A case of the input, little-endian: eight numbers, the 32 registers and a byte of taint for each, the words,
-// memory, and its taint bytes. It is read piece by piece into buffers that its sizes are tested against.
+// A case of the input, little-endian: ten numbers, the 32 registers and a byte of taint for each, the words, memory, and
+// its taint bytes. It is read piece by piece into buffers that its sizes are tested against.
 use crate::input;
 use crate::show;
 use execution::Ran;
-use instruction::Answer;
+use machine::Monitor;
 use machine::State;
 use machine::Window;
 ghost use Prim.Native.Nat.{_≤_};
@@ -16,28 +16,32 @@ const MOST_BYTES: usize = 4096;
 
 const MOST_TRACE: usize = 1024;
 
-// The eight numbers that a case starts with: four sizes, the window without its length, the program counter, and
-// whether the case is one step of its first word: 0 is a run of all words.
+const MOST_STATUSES: usize = 512;
+
+// The ten numbers that a case starts with: five sizes, the window without its length, the program counter, and the
+// monitor's address and size.
 struct Head {
     words: usize,
     memory: usize,
     taint: usize,
     trace: usize,
+    statuses: usize,
     origin: u64,
     readonly: u64,
     pc: u64,
-    single: u64,
+    address: u64,
+    size: u64,
 }
 
 // Replays the next case of the input, and says whether to go on: not where the input ends, nor after a case
 // that is cut short or too large, nor after a write that failed.
 pub fn replay(number: u64, output: &mut [u8]) -> bool {
-    let mut bytes = [0u8; 64];
+    let mut bytes = [0u8; 80];
     let n = input::read(&mut bytes);
     if n == 0 {
         return false;
     }
-    if n < 64 {
+    if n < 80 {
         show::refusal(output, number, b"cut short");
         return false;
     }
@@ -46,6 +50,7 @@ pub fn replay(number: u64, output: &mut [u8]) -> bool {
         || head.memory > MOST_BYTES
         || head.taint > MOST_BYTES
         || head.trace > MOST_TRACE
+        || head.statuses > MOST_STATUSES
     {
         show::refusal(output, number, b"too large");
         return false;
@@ -59,26 +64,30 @@ fn head_of(bytes: &[u8]) -> Head {
         memory: input::number(bytes, 8) as usize,
         taint: input::number(bytes, 16) as usize,
         trace: input::number(bytes, 24) as usize,
-        origin: input::number(bytes, 32),
-        readonly: input::number(bytes, 40),
-        pc: input::number(bytes, 48),
-        single: input::number(bytes, 56),
+        statuses: input::number(bytes, 32) as usize,
+        origin: input::number(bytes, 40),
+        readonly: input::number(bytes, 48),
+        pc: input::number(bytes, 56),
+        address: input::number(bytes, 64),
+        size: input::number(bytes, 72),
     }
 }
 
 // A case within the limits. Its buffers are cut to its sizes.
 fn replay_sized(number: u64, head: Head, output: &mut [u8]) -> bool
-    requires { ⌜ (head .words ≤ 512) × (head .memory ≤ 4096) × (head .taint ≤ 4096) × (head .trace ≤ 1024) ⌝ }
+    requires { ⌜ (head .words ≤ 512) × (head .memory ≤ 4096) × (head .taint ≤ 4096) × (head .trace ≤ 1024) × (head .statuses ≤ 512) ⌝ }
 {
     // The registers with their taints, and 512 words.
     let mut start = [0u8; 2336];
     let mut memory = io::buffer();
     let mut taint = io::buffer();
     let mut trace = [u64::MAX; 1024];
+    let mut statuses = [u8::MAX; 512];
     let start_end = 288 + 4 * head.words;
     let memory_end = head.memory;
     let taint_end = head.taint;
     let trace_end = head.trace;
+    let statuses_end = head.statuses;
     replay_in(
         number,
         head,
@@ -86,6 +95,7 @@ fn replay_sized(number: u64, head: Head, output: &mut [u8]) -> bool
         &mut memory[0..memory_end],
         &mut taint[0..taint_end],
         &mut trace[0..trace_end],
+        &mut statuses[0..statuses_end],
         output,
     )
 }
@@ -98,6 +108,7 @@ fn replay_in(
     memory: &mut [u8],
     taint: &mut [u8],
     trace: &mut [u64],
+    statuses: &mut [u8],
     output: &mut [u8],
 ) -> bool
     requires { ⌜ head .words ≤ 512 ⌝ }
@@ -106,8 +117,24 @@ fn replay_in(
         show::refusal(output, number, b"cut short");
         return false;
     }
-    let ran = replay_words(head, start, memory, taint, trace);
-    show::case(output, number, ran, memory, taint, trace)
+    replay_read(number, head, start, memory, taint, trace, statuses, output)
+}
+
+// A case that is read.
+fn replay_read(
+    number: u64,
+    head: Head,
+    start: &[u8],
+    memory: &mut [u8],
+    taint: &mut [u8],
+    trace: &mut [u64],
+    statuses: &mut [u8],
+    output: &mut [u8],
+) -> bool
+    requires { ⌜ head .words ≤ 512 ⌝ }
+{
+    let ran = replay_words(head, start, memory, taint, trace, statuses);
+    show::case(output, number, ran, memory, taint, trace, statuses)
 }
 
 // Says whether the input had as much.
@@ -127,6 +154,7 @@ fn replay_words(
     memory: &mut [u8],
     taint: &mut [u8],
     trace: &mut [u64],
+    statuses: &mut [u8],
 ) -> Ran
     requires { ⌜ head .words ≤ 512 ⌝ }
 {
@@ -134,36 +162,23 @@ fn replay_words(
     let state = State {
         registers: input::registers(start),
         pc: head.pc,
+        monitor: Monitor {
+            address: head.address,
+            size: head.size,
+        },
     };
     let window = Window {
         origin: head.origin,
         readonly: head.readonly,
     };
     let words = input::words(start, count);
-    if head.single != 0 {
-        return step_word(words[0], state, window, memory, taint);
-    }
-    execution::run(&words[0..count], state, window, memory, taint, trace)
-}
-
-// One step, told as a run of one word would be. It has no trace to write to. Where a case has no words, its first
-// is 0.
-fn step_word(word: u32, state: State, window: Window, memory: &mut [u8], taint: &mut [u8]) -> Ran {
-    let stepped = machine::step(word, state, window, memory, taint);
-    let after = stepped.state;
-    let answer = stepped.answer;
-    let shown = stepped.shown;
-    Ran {
-        state: after,
-        steps: steps_done(answer),
-        answer,
-        shown,
-    }
-}
-
-fn steps_done(answer: Answer) -> usize {
-    if instruction::answer_number(answer) == 0 {
-        return 1;
-    }
-    0
+    execution::run(
+        &words[0..count],
+        state,
+        window,
+        memory,
+        taint,
+        trace,
+        statuses,
+    )
 }

@@ -32,7 +32,7 @@ fn word(bytes: &[u8], at: usize) -> u32 {
 pub fn registers(bytes: &[u8]) -> Registers {
     let mut file = Registers {
         value: [0; 32],
-        taint: [false; 32],
+        taint: [0; 32],
     };
     let mut n = 0;
     while n < 32 {

@@ -1,6 +1,7 @@
 // The lines of a case, put into the output one behind the other and written at once. The largest case takes less
 // than 40,000 bytes, for which the output has room.
 use execution::Ran;
+use machine::Monitor;
 use registers::Registers;
 
 // Says whether the lines were written.
@@ -11,14 +12,18 @@ pub fn case(
     memory: &[u8],
     taint: &[u8],
     trace: &[u64],
+    statuses: &[u8],
 ) -> bool {
     let state = ran.state;
     let registers = state.registers;
+    let monitor = state.monitor;
     let ran_end = put_ran(output, number, ran);
     let registers_end = put_registers(output, ran_end, registers);
     let memory_end = put_bytes(output, registers_end, b"memory\t", memory);
     let taint_end = put_bytes(output, memory_end, b"taint\t", taint);
-    let end = put_trace(output, taint_end, trace);
+    let trace_end = put_trace(output, taint_end, trace);
+    let monitor_end = put_monitor(output, trace_end, monitor);
+    let end = put_bytes(output, monitor_end, b"statuses\t", statuses);
     console::write(output, end)
 }
 
@@ -97,4 +102,11 @@ fn put_trace(output: &mut [u8], at: usize, trace: &[u64]) -> usize {
         i += 1;
     }
     ascii::put_byte(output, end, b'\n')
+}
+
+fn put_monitor(output: &mut [u8], at: usize, monitor: Monitor) -> usize {
+    let name_end = ascii::put_text(output, at, b"monitor");
+    let address_end = put_field(output, name_end, monitor.address);
+    let size_end = put_field(output, address_end, monitor.size);
+    ascii::put_byte(output, size_end, b'\n')
 }
