@@ -15,11 +15,11 @@ if [ ${#missing[@]} -gt 0 ]; then
     apt-get install -y --no-install-recommends "${missing[@]}"
 fi
 
+source tools/cargo.sh
 if [ -z "${MILESTARLING_LIB:-}" ]; then
-    rt staticlib host
+    bash tools/library.sh
 fi
 
 make -C bindings/bench
-export CARGO_TARGET_DIR="$PWD/target/cargo"
 cd bindings/rust
 cargo run --release --offline --example bench

@@ -1,19 +1,19 @@
 #!/usr/bin/env bash
-# Tests the Rust package over the static library, with Rust 1.70 or later: it has no dependencies, so that neither a
-# network nor a place to keep packages is needed. The library is built first, so that no older one is tested, unless
-# MILESTARLING_LIB names another directory that has libhost.a. Arguments go to `cargo test`.
+# Tests the Rust package and its command over the static library, with Rust 1.70 or later: the package has no
+# dependencies, so that neither a network nor a place to keep packages is needed. The library is built first where it
+# has changed, so that no older one is tested, unless MILESTARLING_LIB names another directory that has
+# libmilestarling.a. Arguments go to `cargo test`.
 set -euo pipefail
 cd "$(dirname "${BASH_SOURCE[0]}")/.."
-
+source tools/cargo.sh
 if [ -z "${MILESTARLING_LIB:-}" ]; then
-    rt staticlib host
+    bash tools/library.sh
+else
+    echo "bindings: the library is that of MILESTARLING_LIB, $MILESTARLING_LIB"
 fi
-# A cargo of rustup's looks for its compiler below HOME, which may be another than the one that it was put in.
-beside="$(dirname "$(command -v cargo)")/../../.rustup"
-if [ -z "${RUSTUP_HOME:-}" ] && [ ! -d "${HOME:-}/.rustup" ] && [ -d "$beside" ]; then
-    export RUSTUP_HOME="$beside"
-fi
-# All that cargo writes stands here.
-export CARGO_TARGET_DIR="$PWD/target/cargo" CARGO_HOME="$PWD/target/cargo/home"
+plugins=("$PWD"/examples/plugin/{compare,compare_early,look_up}.bin)
+expected=$PWD/tests/plugin.expected
 cd bindings/rust
 cargo test --release --offline "$@"
+cargo run --quiet --release --offline --example plugin "${plugins[@]}" | diff - "$expected"
+echo "bindings: the example plugin.rs wrote what tests/plugin.expected has"

@@ -1,4 +1,4 @@
-//! Finds the static library `libhost.a`.
+//! Finds the static library `libmilestarling.a`.
 
 use std::env;
 use std::path::PathBuf;
@@ -10,15 +10,15 @@ fn main() {
         Some(named) => PathBuf::from(named),
         None => package.join("../../target/staticlib"),
     };
-    let archive = directory.join("libhost.a");
+    let archive = directory.join("libmilestarling.a");
     // The linker's own complaint wouldn't say where the library comes from.
     assert!(
         archive.is_file(),
-        "{} isn't there: make it by `rt staticlib host` at the top of the repository, or name its directory in \
+        "{} isn't there: make it by `bash tools/library.sh` at the top of the repository, or name its directory in \
          MILESTARLING_LIB",
         archive.display()
     );
     println!("cargo:rerun-if-changed={}", archive.display());
     println!("cargo:rustc-link-search=native={}", directory.display());
-    println!("cargo:rustc-link-lib=static=host");
+    println!("cargo:rustc-link-lib=static=milestarling");
 }

@@ -133,7 +133,7 @@ impl Load {
         let window = milestarling::Window::at(WINDOW.origin).readonly(WINDOW.readonly);
         let mut machine = Machine::new(window, &mut self.memory[..], &mut self.taint[..]);
         for (register, &value) in Register::all().zip(&self.state.registers) {
-            machine.registers[register] = value;
+            machine.registers.set(register, value, false);
         }
         machine.registers.set_pc(PC);
         for &word in &self.words {

@@ -1,3 +1,4 @@
+use crate::Instruction;
 use std::error::Error;
 use std::fmt;
 
@@ -12,6 +13,7 @@ use std::fmt;
 /// assert_eq!(Answer::TaintedAddress.to_string(), "the address would come from a secret value");
 /// ```
 #[derive(Clone, Copy, Debug, PartialEq, Eq, PartialOrd, Ord, Hash)]
+#[non_exhaustive]
 #[repr(u8)]
 pub enum Answer {
     /// It was done.
@@ -44,7 +46,7 @@ pub enum Answer {
 
 impl Answer {
     /// All answers, in the order of their numbers.
-    pub const ALL: [Answer; 13] = [
+    pub const ALL: &'static [Answer] = &[
         Answer::Done,
         Answer::BadWindow,
         Answer::NotInSet,
@@ -83,11 +85,11 @@ impl Answer {
 
     /// The answer of a number that the library gave. It is proved to give no others.
     pub(crate) fn of_reply(number: u64) -> Answer {
-        Answer::try_from(number).expect("libhost.a is of another version: it gave an unknown answer")
+        Answer::try_from(number).expect("libmilestarling.a is of another version: it gave an unknown answer")
     }
 }
 
-/// What is wrong, in words for a help desk.
+/// What is wrong, in the words that `docs/ANSWERS.md` and the C header have too.
 impl fmt::Display for Answer {
     fn fmt(&self, f: &mut fmt::Formatter<'_>) -> fmt::Result {
         f.pad(match self {
@@ -97,7 +99,9 @@ impl fmt::Display for Answer {
             Answer::Undefined => "the word is an undefined load or store",
             Answer::Unpredictable => "the word names the same register twice where it must not",
             Answer::TaintedAddress => "the address would come from a secret value",
-            Answer::Misaligned => "SP as the base isn't a multiple of 16, or the ordered access crosses the border of a 16-byte block",
+            Answer::Misaligned => {
+                "SP as the base isn't a multiple of 16, or the ordered access crosses the border of a 16-byte block"
+            }
             Answer::OutOfWindow => "the access isn't wholly inside the memory window",
             Answer::ReadOnly => "the store touches read-only memory",
             Answer::NoSuchText => "the text isn't the line of any load or store",
@@ -146,7 +150,8 @@ impl From<Answer> for u64 {
 
 /// An answer other than [`Answer::Done`], as an error.
 ///
-/// Of a run it says how many steps were done before it: their effects stay, and the refused step has none.
+/// It names the word that was refused, where a word was. Of a run it says how many steps were done before it: their
+/// effects stay, and the refused step has none.
 ///
 /// ```
 /// use milestarling::{Answer, Machine, Window};
@@ -155,24 +160,40 @@ impl From<Answer> for u64 {
 /// let refusal = machine.step(0xf9400020).unwrap_err(); // ldr x0, [x1], with 0 in x1
 /// assert_eq!(refusal.answer(), Answer::OutOfWindow);
 /// assert_eq!(refusal.address(), Some(0));
-/// assert_eq!(refusal.to_string(), "refused (7): the access isn't wholly inside the memory window, at address 0x0");
+/// assert_eq!(refusal.word(), Some(0xf9400020));
+/// assert_eq!(
+///     refusal.to_string(),
+///     "refused (7): the access isn't wholly inside the memory window, at address 0x0, by f9400020, `ldr x0, [x1]`",
+/// );
 /// ```
 #[derive(Clone, Copy, Debug, PartialEq, Eq)]
 pub struct Refusal {
     answer: Answer,
     steps: usize,
     address: u64,
+    word: Option<u32>,
 }
 
 impl Refusal {
-    /// Of a call that does no steps.
+    /// Of a call that does no steps and has no word.
     pub(crate) fn new(answer: Answer) -> Refusal {
         Refusal::after(0, answer, 0)
     }
 
     pub(crate) fn after(steps: usize, answer: Answer, address: u64) -> Refusal {
         debug_assert!(answer.is_refusal());
-        Refusal { answer, steps, address }
+        Refusal { answer, steps, address, word: None }
+    }
+
+    /// This refusal of a word, unless it is one of the whole call.
+    pub(crate) fn of_word(self, word: Option<&u32>) -> Refusal {
+        let of_call = matches!(self.answer, Answer::BadWindow | Answer::NoRoom);
+        Refusal { word: word.copied().filter(|_| !of_call), ..self }
+    }
+
+    /// The word that was refused; none where no word was, as with a text, a window or a buffer.
+    pub fn word(&self) -> Option<u32> {
+        self.word
     }
 
     /// Why.
@@ -193,11 +214,24 @@ impl Refusal {
     }
 }
 
+impl Refusal {
+    /// The address of an access that isn't inside the window.
+    pub(crate) fn outside(&self) -> Option<u64> {
+        (self.answer == Answer::OutOfWindow).then_some(self.address)
+    }
+}
+
 impl fmt::Display for Refusal {
     fn fmt(&self, f: &mut fmt::Formatter<'_>) -> fmt::Result {
         write!(f, "refused ({}): {}", self.answer.number(), self.answer)?;
         if let Some(address) = self.address() {
             write!(f, ", at address {address:#x}")?;
+        }
+        if let Some(word) = self.word {
+            write!(f, ", by {word:08x}")?;
+            if let Ok(instruction) = Instruction::new(word) {
+                write!(f, ", `{instruction}`")?;
+            }
         }
         match self.steps {
             0 => Ok(()),

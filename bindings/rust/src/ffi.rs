@@ -1,4 +1,4 @@
-//! The only unsafe code: the six functions of `libhost.a`, and their safe forms over slices.
+//! The only unsafe code: the six functions of `libmilestarling.a`, and their safe forms over slices.
 
 #![allow(unsafe_code)]
 

@@ -67,22 +67,186 @@ impl fmt::Display for Access {
     }
 }
 
-/// Registers, and memory with its taints.
+/// One region of memory with its taints, on which steps and runs are done for any [`Registers`].
 ///
-/// `M` and `T` are whatever holds the bytes: a `Vec<u8>` or an array that the machine owns, or a `&mut [u8]` that is
-/// lent to it. In the taint buffer any byte but 0 means tainted; a store leaves 0 or 1.
+/// `M` and `T` are whatever holds the bytes: a `Vec<u8>` or an array that is owned, or a `&mut [u8]` that is lent. In the
+/// taint buffer any byte but 0 means tainted; a store leaves 0 or 1.
+///
+/// ```
+/// use milestarling::{Answer, Memory, Register, Registers, Window};
+///
+/// # fn main() -> Result<(), milestarling::Refusal> {
+/// let (mut bytes, mut taint) = ([0; 16], [0; 16]);
+/// let mut memory = Memory::new(Window::at(4096).readonly(8), &mut bytes[..], &mut taint[..]);
+/// memory.write(4104, b"key", true)?;
+///
+/// let mut registers = Registers::new();
+/// registers.set(Register::X1, 4096, false);
+/// memory.step(&mut registers, 0xf9400420)?; // ldr x0, [x1, #8]
+/// assert!(registers.is_tainted(Register::X0));
+/// # Ok(())
+/// # }
+/// ```
+#[derive(Clone)]
+pub struct Memory<M, T> {
+    /// Where it is.
+    pub window: Window,
+    bytes: M,
+    taint: T,
+}
+
+impl<M: AsRef<[u8]> + AsMut<[u8]>, T: AsRef<[u8]> + AsMut<[u8]>> Memory<M, T> {
+    /// Memory of these bytes. Nothing is tested here: a window that doesn't fit is answered by each step and run with
+    /// [`Answer::BadWindow`].
+    pub fn new(window: Window, bytes: M, taint: T) -> Memory<M, T> {
+        Memory { window, bytes, taint }
+    }
+
+    /// The bytes.
+    pub fn bytes(&self) -> &[u8] {
+        self.bytes.as_ref()
+    }
+
+    /// A taint byte for each byte.
+    pub fn taint(&self) -> &[u8] {
+        self.taint.as_ref()
+    }
+
+    /// The bytes and their taint bytes, to be changed by the host, both at once.
+    pub fn parts_mut(&mut self) -> (&mut [u8], &mut [u8]) {
+        (self.bytes.as_mut(), self.taint.as_mut())
+    }
+
+    /// Gives back what holds the bytes and the taint bytes.
+    pub fn into_parts(self) -> (M, T) {
+        (self.bytes, self.taint)
+    }
+
+    /// Whether there is a byte at an address.
+    pub fn holds(&self, address: u64) -> bool {
+        self.place(address).is_some()
+    }
+
+    fn place(&self, address: u64) -> Option<usize> {
+        let place = usize::try_from(address.checked_sub(self.window.origin)?).ok()?;
+        (place < self.bytes().len()).then_some(place)
+    }
+
+    /// Puts bytes at an address, with their taint. It is the host's call: the read-only beginning may be filled too.
+    ///
+    /// # Errors
+    ///
+    /// [`Answer::OutOfWindow`] where not all of them have a place, and [`Answer::BadWindow`] where the taint buffer has
+    /// another length than the bytes. Nothing is changed then.
+    pub fn write(&mut self, address: u64, bytes: &[u8], tainted: bool) -> Result<(), Refusal> {
+        if self.taint().len() != self.bytes().len() {
+            return Err(Refusal::new(Answer::BadWindow));
+        }
+        if bytes.is_empty() {
+            return Ok(());
+        }
+        let places = self.place(address).and_then(|start| Some(start..start.checked_add(bytes.len())?));
+        let Some(places) = places.filter(|places| places.end <= self.bytes().len()) else {
+            return Err(Refusal::after(0, Answer::OutOfWindow, address));
+        };
+        self.bytes.as_mut()[places.clone()].copy_from_slice(bytes);
+        self.taint.as_mut()[places].fill(tainted.into());
+        Ok(())
+    }
+
+    /// Does one word.
+    ///
+    /// # Errors
+    ///
+    /// Answers 1 to 8. Nothing is changed then.
+    pub fn step(&mut self, registers: &mut Registers, word: u32) -> Result<Access, Refusal> {
+        self.run(registers, &[word], &mut [Access::default()]).map(|run| run.last)
+    }
+
+    /// Does a step for each word, up to the first refusal, and writes what each did into the trace.
+    ///
+    /// The rest of the trace stays as it was.
+    ///
+    /// # Errors
+    ///
+    /// Answer 1 or 10 (the trace is shorter than the words) before anything is done, else 2 to 8 of the step that was
+    /// refused: [`Refusal::steps`] says how many were done, and those stay done, and [`Refusal::word`] which it was.
+    pub fn run(&mut self, registers: &mut Registers, words: &[u32], trace: &mut [Access]) -> Result<Run, Refusal> {
+        let reply = ffi::run(
+            words,
+            &mut registers.values,
+            &mut registers.taints,
+            self.window.origin,
+            self.window.readonly,
+            self.bytes.as_mut(),
+            self.taint.as_mut(),
+            ffi::rows(trace),
+        );
+        // There are no more steps than words.
+        let steps = reply.steps as usize;
+        match Answer::of_reply(reply.answer) {
+            Answer::Done => Ok(Run { steps, last: Access { code: reply.code, address: reply.address } }),
+            answer => Err(Refusal::after(steps, answer, reply.address).of_word(words.get(steps))),
+        }
+    }
+}
+
+/// Memory may hold secrets, so only its length is shown.
+impl<M: AsRef<[u8]>, T> fmt::Debug for Memory<M, T> {
+    fn fmt(&self, f: &mut fmt::Formatter<'_>) -> fmt::Result {
+        f.debug_struct("Memory")
+            .field("window", &self.window)
+            .field("length", &self.bytes.as_ref().len())
+            .finish_non_exhaustive()
+    }
+}
+
+/// Does one word on whichever of several regions has its address.
+///
+/// It is first tried with no memory at all, which finds out the address and changes nothing, and then in the region that
+/// holds it. An access that runs on from one region into the next is outside both, and is refused with 7.
+///
+/// ```
+/// use milestarling::{step_in, Answer, Memory, Register, Registers, Window};
+///
+/// let mut regions = [
+///     Memory::new(Window::at(0x1000).readonly(16), vec![1; 16], vec![0; 16]), // constants
+///     Memory::new(Window::at(0x8000), vec![2; 64], vec![0; 64]),              // a stack
+/// ];
+/// let mut registers = Registers::new();
+/// registers.set(Register::X1, 0x1000, false);
+/// registers.set(Register::SP, 0x8040, false);
+/// assert!(step_in(&mut regions, &mut registers, 0xf9400020).is_ok()); // ldr x0, [x1]
+/// assert!(step_in(&mut regions, &mut registers, 0xa9bf7bfd).is_ok()); // stp x29, x30, [sp, #-16]!
+/// let refusal = step_in(&mut regions, &mut registers, 0xf9000020).unwrap_err(); // str x0, [x1]
+/// assert_eq!(refusal.answer(), Answer::ReadOnly);
+/// ```
+///
+/// # Errors
+///
+/// Answers 1 to 8. Nothing is changed then.
+pub fn step_in<M: AsRef<[u8]> + AsMut<[u8]>, T: AsRef<[u8]> + AsMut<[u8]>>(
+    regions: &mut [Memory<M, T>],
+    registers: &mut Registers,
+    word: u32,
+) -> Result<Access, Refusal> {
+    let tried = Memory::new(Window::default(), [], []).step(registers, word);
+    let Err(refusal) = tried else { return tried };
+    match regions.iter_mut().find(|region| refusal.outside().is_some_and(|address| region.holds(address))) {
+        Some(region) => region.step(registers, word),
+        None => tried,
+    }
+}
+
+/// Registers and one region of memory.
 ///
 /// ```
 /// use milestarling::{Access, Answer, Machine, Register, Window};
 ///
 /// # fn main() -> Result<(), milestarling::Refusal> {
-/// let mut memory = [0; 16];
-/// let mut taint = [0; 16];
-/// memory[8..11].copy_from_slice(b"key");
-/// taint[8..11].fill(1);
-///
-/// let mut machine = Machine::new(Window::at(4096).readonly(8), &mut memory[..], &mut taint[..]);
-/// machine.registers[Register::X1] = 4096;
+/// let mut machine = Machine::new(Window::at(4096).readonly(8), vec![0; 16], vec![0; 16]);
+/// machine.memory.write(4104, b"key", true)?;
+/// machine.registers.set(Register::X1, 4096, false);
 ///
 /// let access = machine.step(0xf9400420)?; // ldr x0, [x1, #8]
 /// assert_eq!(access, Access { code: 8, address: 4104 });
@@ -95,66 +259,40 @@ impl fmt::Display for Access {
 /// # Ok(())
 /// # }
 /// ```
-#[derive(Clone)]
-pub struct Machine<M, T> {
+#[derive(Clone, Debug)]
+pub struct Machine<M: AsRef<[u8]>, T> {
     /// The registers.
     pub registers: Registers,
-    /// Where memory is.
-    pub window: Window,
-    memory: M,
-    taint: T,
+    /// The memory.
+    pub memory: Memory<M, T>,
 }
 
 impl<M: AsRef<[u8]> + AsMut<[u8]>, T: AsRef<[u8]> + AsMut<[u8]>> Machine<M, T> {
-    /// A machine with all registers 0. Nothing is tested here: a window that doesn't fit is answered by each step and
-    /// run with [`Answer::BadWindow`].
-    pub fn new(window: Window, memory: M, taint: T) -> Machine<M, T> {
-        Machine { registers: Registers::new(), window, memory, taint }
+    /// A machine with all registers 0, and memory as of [`Memory::new`].
+    pub fn new(window: Window, bytes: M, taint: T) -> Machine<M, T> {
+        Machine { registers: Registers::new(), memory: Memory::new(window, bytes, taint) }
     }
 
-    /// Memory.
-    pub fn memory(&self) -> &[u8] {
-        self.memory.as_ref()
-    }
-
-    /// Memory, to be changed by the host.
-    pub fn memory_mut(&mut self) -> &mut [u8] {
-        self.memory.as_mut()
-    }
-
-    /// A taint byte for each byte of memory.
-    pub fn taint(&self) -> &[u8] {
-        self.taint.as_ref()
-    }
-
-    /// The taint bytes, to be changed by the host.
-    pub fn taint_mut(&mut self) -> &mut [u8] {
-        self.taint.as_mut()
-    }
-
-    /// Does one word.
+    /// Does one word, as [`Memory::step`] does.
     ///
     /// # Errors
     ///
     /// Answers 1 to 8. Nothing is changed then.
     pub fn step(&mut self, word: u32) -> Result<Access, Refusal> {
-        self.run(&[word], &mut [Access::default()]).map(|run| run.last)
+        self.memory.step(&mut self.registers, word)
     }
 
-    /// Does a step for each word, up to the first refusal, and writes what each did into the trace.
-    ///
-    /// The rest of the trace stays as it was.
+    /// Does a step for each word, up to the first refusal, as [`Memory::run`] does.
     ///
     /// # Errors
     ///
-    /// Answer 1 or 10 (the trace is shorter than the words) before anything is done, else 2 to 8 of the step that was
-    /// refused: [`Refusal::steps`] says how many were done, and those stay done.
+    /// Those of [`Memory::run`].
     ///
     /// ```
     /// use milestarling::{Access, Answer, Machine, Register, Window};
     ///
     /// let mut machine = Machine::new(Window::at(4096), vec![1; 32], vec![0; 32]);
-    /// machine.registers[Register::SP] = 4128;
+    /// machine.registers.set(Register::SP, 4128, false);
     /// let words = [
     ///     0xa9bf7bfd, // stp x29, x30, [sp, #-16]!
     ///     0xf84107e0, // ldr x0, [sp], #16
@@ -167,43 +305,13 @@ impl<M: AsRef<[u8]> + AsMut<[u8]>, T: AsRef<[u8]> + AsMut<[u8]>> Machine<M, T> {
     /// assert_eq!(trace[1].to_string(), "load of 8 at 0x1010");
     /// ```
     pub fn run(&mut self, words: &[u32], trace: &mut [Access]) -> Result<Run, Refusal> {
-        let reply = ffi::run(
-            words,
-            &mut self.registers.values,
-            &mut self.registers.taints,
-            self.window.origin,
-            self.window.readonly,
-            self.memory.as_mut(),
-            self.taint.as_mut(),
-            ffi::rows(trace),
-        );
-        // There are no more steps than words.
-        let steps = reply.steps as usize;
-        match Answer::of_reply(reply.answer) {
-            Answer::Done => Ok(Run { steps, last: Access { code: reply.code, address: reply.address } }),
-            answer => Err(Refusal::after(steps, answer, reply.address)),
-        }
-    }
-
-    /// Gives back what holds memory and taints.
-    pub fn into_parts(self) -> (Registers, M, T) {
-        (self.registers, self.memory, self.taint)
-    }
-}
-
-/// Memory may hold secrets, so only its length is shown.
-impl<M: AsRef<[u8]>, T> fmt::Debug for Machine<M, T> {
-    fn fmt(&self, f: &mut fmt::Formatter<'_>) -> fmt::Result {
-        f.debug_struct("Machine")
-            .field("registers", &self.registers)
-            .field("window", &self.window)
-            .field("bytes", &self.memory.as_ref().len())
-            .finish_non_exhaustive()
+        self.memory.run(&mut self.registers, words, trace)
     }
 }
 
 /// A run whose words were all done.
 #[derive(Clone, Copy, Debug, PartialEq, Eq)]
+#[non_exhaustive]
 pub struct Run {
     /// How many steps were done: one for each word.
     pub steps: usize,

@@ -65,7 +65,7 @@ impl Instruction {
         // An allocated word is one whose text only lacks room.
         match Answer::of_reply(ffi::text(word, &mut []).answer) {
             Answer::NoRoom => Ok(Instruction(word)),
-            answer => Err(Refusal::new(answer)),
+            answer => Err(Refusal::new(answer).of_word(Some(&word))),
         }
     }
 

@@ -1,6 +1,8 @@
 //! 01's own examples, and the package's types, by their safe names.
 
-use milestarling::{listing, Access, Answer, Instruction, Machine, Refusal, Register, Registers, Window};
+use milestarling::{
+    listing, raw, step_in, words, Access, Answer, Instruction, Machine, Memory, Refusal, Register, Registers, Window,
+};
 use std::array::from_fn;
 use std::error::Error;
 
@@ -38,8 +40,8 @@ fn example_of_a_listing() {
 /// Origin 4096, len 16, r 4, X1 = 4101, byte 128 at 4100, and other bytes elsewhere.
 fn example() -> Machine<Vec<u8>, Vec<u8>> {
     let mut machine = Machine::new(Window::at(4096).readonly(4), (1..=16).collect(), vec![0; 16]);
-    machine.memory_mut()[4] = 128;
-    machine.registers[Register::X1] = 4101;
+    machine.memory.write(4100, &[128], false).unwrap();
+    machine.registers.set(Register::X1, 4101, false);
     machine
 }
 
@@ -48,7 +50,7 @@ fn examples_of_loads() {
     for (word, value) in [(0x385f_f020, 128), (0x38df_f020, 4294967168), (0x389f_f020, 128u64.wrapping_neg())] {
         let mut machine = example();
         assert_eq!(machine.step(word), Ok(Access { code: 1, address: 4100 }));
-        assert_eq!(machine.registers[Register::X0], value);
+        assert_eq!(machine.registers.get(Register::X0).0, value);
         assert_eq!(machine.registers.pc(), 4);
     }
 }
@@ -57,7 +59,7 @@ fn examples_of_loads() {
 fn examples_of_refusals() {
     let at = |word, address| {
         let mut machine = example();
-        machine.registers[Register::X1] = address;
+        machine.registers.set(Register::X1, address, false);
         machine.step(word).map_err(|refusal| refusal.answer())
     };
     let load = 0xf940_0020; // ldr x0, [x1]
@@ -71,7 +73,7 @@ fn examples_of_refusals() {
     let mut machine = Machine::new(Window::at(16u64.wrapping_neg()), (1..=16).collect::<Vec<u8>>(), vec![0; 16]);
     // ldurb, ldurh and ldapurh w0, [x1, #-1], with 0 in x1
     assert_eq!(machine.step(0x385f_f020), Ok(Access { code: 1, address: u64::MAX }));
-    assert_eq!(machine.registers[Register::X0], 16);
+    assert_eq!(machine.registers.get(Register::X0).0, 16);
     assert_eq!(machine.step(0x785f_f020).unwrap_err().answer(), Answer::OutOfWindow);
     assert_eq!(machine.step(0x595f_f020).unwrap_err().answer(), Answer::Misaligned);
 }
@@ -81,12 +83,12 @@ fn examples_of_refusals() {
 fn a_stack_pointer_is_aligned() {
     for sp in 4096..4104 {
         let mut machine = example();
-        machine.registers[Register::SP] = sp;
+        machine.registers.set(Register::SP, sp, false);
         let before = machine.registers.clone();
         let stepped = machine.step(0xf841_07e0);
         if sp == 4096 {
             assert_eq!(stepped, Ok(Access { code: 8, address: sp }));
-            assert_eq!(machine.registers[Register::SP], 4112);
+            assert_eq!(machine.registers.get(Register::SP).0, 4112);
         } else {
             let refusal = stepped.unwrap_err();
             assert_eq!((refusal.answer(), refusal.address()), (Answer::Misaligned, Some(sp)));
@@ -100,9 +102,9 @@ fn lent_memory_is_changed_in_place() {
     let (mut memory, mut taint): ([u8; 16], [u8; 16]) = (from_fn(|at| 50 + at as u8), from_fn(|at| 7 + at as u8));
     let (mut left, mut left_taint) = (memory, taint);
     let mut machine = Machine::new(Window::at(0), &mut memory[..], &mut taint[..]);
-    machine.registers[Register::X0] = 0x0102;
+    machine.registers.set(Register::X0, 0x0102, false);
     assert_eq!(machine.step(0x7900_0020), Ok(Access { code: 66, address: 0 })); // strh w0, [x1]
-    let (registers, ..) = machine.into_parts();
+    let registers = machine.registers;
     left[..2].copy_from_slice(&[2, 1]);
     left_taint[..2].fill(0);
     assert_eq!((registers.pc(), memory, taint), (4, left, left_taint));
@@ -118,8 +120,10 @@ fn a_run_keeps_what_was_done_before_a_refusal() {
     assert_eq!((refusal.answer(), refusal.steps(), refusal.address()), (Answer::NotInSet, 2, None));
     assert_eq!(trace[..2], [Access { code: 1, address: 4100 }, Access { code: 65, address: 4101 }]);
     assert_eq!(trace[2..], rest[2..]);
-    assert_eq!((machine.registers[Register::X1], machine.registers.pc()), (4102, 8));
-    assert_eq!(refusal.to_string(), "refused (2): the word is no load or store that this machine takes, after 2 steps");
+    assert_eq!((machine.registers.get(Register::X1).0, machine.registers.pc()), (4102, 8));
+    assert_eq!(refusal.word(), Some(0));
+    let said = "refused (2): the word is no load or store that this machine takes, by 00000000, after 2 steps";
+    assert_eq!(refusal.to_string(), said);
 }
 
 #[test]
@@ -128,9 +132,9 @@ fn a_run_not_begun_changes_nothing() {
     let before = machine.registers.clone();
     let refusal = machine.run(&[0x385f_f020; 2], &mut [Access::default()]).unwrap_err();
     assert_eq!((refusal.answer(), refusal.steps()), (Answer::NoRoom, 0));
-    machine.window.readonly = 17;
+    machine.memory.window.readonly = 17;
     assert_eq!(machine.run(&[], &mut []).unwrap_err().answer(), Answer::BadWindow);
-    machine.window.readonly = 16;
+    machine.memory.window.readonly = 16;
     assert_eq!(machine.run(&[], &mut []).map(|run| (run.steps, run.last)), Ok((0, Access::default())));
     assert!(machine.registers == before);
 }
@@ -138,8 +142,8 @@ fn a_run_not_begun_changes_nothing() {
 #[test]
 fn answers_have_their_numbers() {
     let numbers = [0, 1, 2, 3, 4, 5, 6, 7, 8, 9, 10, 11, 16];
-    assert_eq!(Answer::ALL.map(Answer::number), numbers);
-    for answer in Answer::ALL {
+    assert_eq!(Answer::ALL.iter().map(|answer| answer.number()).collect::<Vec<u8>>(), numbers);
+    for &answer in Answer::ALL {
         assert_eq!(Answer::try_from(u64::from(answer)), Ok(answer));
         assert_eq!(answer.is_refusal(), answer != Answer::Done);
         assert!(!answer.to_string().is_empty());
@@ -163,11 +167,154 @@ fn a_refusal_is_an_error() {
 #[test]
 fn a_tainted_value_is_not_shown() {
     let mut registers = Registers::new();
-    registers[Register::X3] = 0x5ec3e7;
+    registers.set(Register::X3, 0x5ec3e7, false);
     assert!(format!("{registers:?}").contains("5ec3e7"));
-    registers.set_tainted(Register::X3, true);
+    registers.set(Register::X3, 0x5ec3e7, true);
     assert!(!format!("{registers:?}").contains("5ec3e7"));
     let mut machine = example();
     machine.registers = registers;
     assert!(!format!("{machine:?}").contains("5ec3e7"));
+}
+
+/// `docs/ANSWERS.md` and the C header say the same of each answer.
+#[test]
+fn answers_are_said_in_one_way() {
+    let stored = include_str!("../../../docs/ANSWERS.md");
+    let table = stored.split("| Answer | Text |\n|---|---|\n").nth(1).expect("the table of texts");
+    let said: String = Answer::ALL.iter().map(|answer| format!("| {} | {answer} |\n", answer.number())).collect();
+    assert_eq!(table, said);
+}
+
+#[test]
+fn a_value_goes_with_its_taint() {
+    let mut registers = Registers::new();
+    for register in Register::all() {
+        for tainted in [true, false] {
+            registers.set(register, 5, tainted);
+            assert_eq!(registers.get(register), (5, tainted));
+            assert_eq!((registers.known(register), registers.is_tainted(register)), ((!tainted).then_some(5), tainted));
+        }
+        assert_eq!(register.to_string().parse(), Ok(register));
+    }
+    for name in ["x31", "X0", "x01", "wsp", "", "x+1"] {
+        assert!(name.parse::<Register>().is_err(), "{name}");
+    }
+    assert_eq!(registers.pc(), 0);
+    registers.set_pc(1 << 63);
+    assert_eq!(registers.get(Register::SP), (5, false));
+    let (values, taints) = registers.as_raw_mut();
+    (values[3], taints[3]) = (9, 200);
+    assert_eq!(registers.get(Register::X3), (9, true));
+    let (values, taints) = registers.as_raw_mut();
+    let same = Registers::from_raw(*values, *taints);
+    assert!(same == registers);
+}
+
+/// The host's mistake that the documents warn of, and the same with the taint carried.
+#[test]
+fn a_host_that_drops_a_taint_shows_the_secret() {
+    let run = |letter: u8, carried: bool| {
+        let mut memory = Memory::new(Window::at(0x1000), vec![0; 32], vec![0; 32]);
+        memory.write(0x1000, &[letter], true).unwrap();
+        let mut registers = Registers::new();
+        registers.set(Register::X0, 0x1000, false);
+        registers.set(Register::X7, 0x1010, false);
+        memory.step(&mut registers, 0x3940_0001).unwrap(); // ldrb w1, [x0]
+        let (value, tainted) = registers.get(Register::X1);
+        registers.set(Register::X2, value & 15, tainted && carried);
+        memory.step(&mut registers, 0x3862_68e3).map_err(|refusal| refusal.answer())
+        // ldrb w3, [x7, x2]
+    };
+    assert_eq!(run(b's', false), Ok(Access { code: 1, address: 0x1013 }));
+    assert_eq!(run(b'o', false), Ok(Access { code: 1, address: 0x101f }));
+    assert_eq!(run(b's', true), Err(Answer::TaintedAddress));
+}
+
+#[test]
+fn bytes_are_put_with_their_taint() {
+    let mut memory = Memory::new(Window::at(u64::MAX - 7).readonly(8), [0; 8], [9; 8]);
+    assert!(memory.write(u64::MAX - 1, &[1, 2], false).is_ok());
+    assert!(memory.write(u64::MAX - 7, &[3], true).is_ok());
+    assert_eq!((memory.bytes(), memory.taint()), (&[3, 0, 0, 0, 0, 0, 1, 2][..], &[1, 9, 9, 9, 9, 9, 0, 0][..]));
+    assert!(memory.write(5, &[], true).is_ok());
+    for (address, bytes) in [(u64::MAX, &[1, 2][..]), (u64::MAX - 8, &[1, 2]), (0, &[1]), (u64::MAX - 7, &[0; 9])] {
+        let before = memory.clone();
+        let refusal = memory.write(address, bytes, false).unwrap_err();
+        assert_eq!((refusal.answer(), refusal.address()), (Answer::OutOfWindow, Some(address)));
+        assert_eq!((before.bytes(), before.taint()), (memory.bytes(), memory.taint()));
+    }
+    let mut short = Memory::new(Window::at(0), [0; 8], [0; 7]);
+    assert_eq!(short.write(0, &[1], false).unwrap_err().answer(), Answer::BadWindow);
+}
+
+#[test]
+fn a_step_finds_its_region() {
+    let region =
+        |origin, readonly, byte| Memory::new(Window::at(origin).readonly(readonly), vec![byte; 32], vec![0; 32]);
+    let mut regions = [region(0x1000, 32, 1), region(0x1020, 0, 2), region(16u64.wrapping_neg() - 16, 0, 3)];
+    let mut registers = Registers::new();
+    let mut at = |address, word| {
+        registers.set(Register::X1, address, false);
+        let done = step_in(&mut regions, &mut registers, word).map_err(|refusal| refusal.answer());
+        done.map(|access| (access.address, registers.get(Register::X0).0 as u8))
+    };
+    let (load, store) = (0xf940_0020, 0xf900_0020); // ldr and str x0, [x1]
+    assert_eq!(at(0x1018, load), Ok((0x1018, 1)));
+    assert_eq!(at(0x1020, load), Ok((0x1020, 2)));
+    assert_eq!(at(0x1019, load), Err(Answer::OutOfWindow));
+    assert_eq!(at(0x1039, load), Err(Answer::OutOfWindow));
+    assert_eq!(at(0xfff, load), Err(Answer::OutOfWindow));
+    assert_eq!(at(8u64.wrapping_neg(), load), Ok((8u64.wrapping_neg(), 3)));
+    assert_eq!(at(0x1000, store), Err(Answer::ReadOnly));
+    assert_eq!(at(0x1020, store), Ok((0x1020, 3)));
+    assert_eq!(at(0, 0xf980_0020), Ok((0, 3))); // prfm pldl1keep, [x1]
+    assert_eq!(at(0, 0), Err(Answer::NotInSet));
+    assert_eq!(regions[1].bytes()[..9], [3, 3, 3, 3, 3, 3, 3, 3, 2]);
+    let mut none: [Memory<Vec<u8>, Vec<u8>>; 0] = [];
+    assert_eq!(step_in(&mut none, &mut Registers::new(), load).unwrap_err().answer(), Answer::OutOfWindow);
+}
+
+#[test]
+fn an_image_is_gone_through_word_by_word() {
+    let image: Vec<u8> =
+        [0xf940_0420_u32, 0, 0xb8c0_0020].iter().flat_map(|word| word.to_le_bytes()).chain([7, 8]).collect();
+    let found = words(&image, u64::MAX - 3);
+    assert_eq!((found.len(), found.rest()), (3, &[7, 8][..]));
+    let answers: Vec<_> = found.map(|(at, word, read)| (at, word, read.map_err(|refusal| refusal.answer()))).collect();
+    let load = Instruction::new(0xf940_0420).unwrap();
+    let expected = [
+        (u64::MAX - 3, 0xf940_0420, Ok(load)),
+        (0, 0, Err(Answer::NotInSet)),
+        (4, 0xb8c0_0020, Err(Answer::Undefined)),
+    ];
+    assert_eq!(answers, expected);
+    assert!(words(&[1, 2, 3], 0).next().is_none());
+}
+
+#[test]
+fn a_refusal_names_its_word() {
+    assert_eq!(Instruction::new(0xb8c0_0020).unwrap_err().word(), Some(0xb8c0_0020));
+    assert_eq!("ldr".parse::<Instruction>().unwrap_err().word(), None);
+    let mut machine = example();
+    let refusal = machine.run(&[0x385f_f020, 0xb8c0_0020], &mut [Access::default(); 2]).unwrap_err();
+    let said = "refused (3): the word is an undefined load or store, by b8c00020, after 1 step";
+    assert_eq!((refusal.word(), refusal.to_string().as_str()), (Some(0xb8c0_0020), said));
+    machine.memory.window.readonly = 17;
+    assert_eq!(machine.step(0x385f_f020).unwrap_err().word(), None);
+    assert_eq!(machine.run(&[0x385f_f020], &mut []).unwrap_err().word(), None);
+}
+
+/// The registers of a host go through the plain function as they go through a step.
+#[test]
+fn registers_are_those_of_every_entry() {
+    let mut ours = example();
+    let mut theirs = ours.clone();
+    ours.step(0x385f_f020).unwrap();
+    let (values, taints) = theirs.registers.as_raw_mut();
+    let (bytes, taint) = theirs.memory.parts_mut();
+    let reply = raw::run(&[0x385f_f020], values, taints, 4096, 4, bytes, taint, &mut [0; 2]);
+    assert_eq!((reply.answer, reply.steps), (0, 1));
+    assert!(ours.registers == theirs.registers);
+    let (bytes, taint) = ours.memory.into_parts();
+    assert_eq!((&bytes[..], &taint[..]), (theirs.memory.bytes(), theirs.memory.taint()));
 }

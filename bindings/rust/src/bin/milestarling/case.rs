@@ -1,0 +1,146 @@
+//! `milestarling run`: a case in a readable form.
+
+use crate::input::{Failure, Source};
+use crate::{hexadecimal, number};
+use milestarling::{Access, Instruction, Machine, Register, Registers, Window};
+use std::io::{self, Write};
+
+/// The most bytes of memory that a case may have.
+const MEMORY_MAX: usize = 1 << 30;
+
+/// What a case says.
+#[derive(Default)]
+struct Case {
+    registers: Registers,
+    window: Window,
+    bytes: Vec<u8>,
+    taint: Vec<u8>,
+    words: Vec<u32>,
+}
+
+impl Case {
+    /// Takes one line.
+    fn statement(&mut self, line: &str) -> Result<(), String> {
+        // Letters may end in spaces.
+        let line = line.trim_start();
+        if line.trim().is_empty() || line.starts_with('#') {
+            return Ok(());
+        }
+        let (name, rest) = first_word(line);
+        match (name, rest) {
+            ("origin", rest) => self.window.origin = number(rest.trim())?,
+            ("readonly", rest) => self.window.readonly = number(rest.trim())?,
+            ("word", rest) => self.words.push(hexadecimal(rest.trim())?),
+            ("pc", rest) => self.registers.set_pc(number(rest.trim())?),
+            ("tainted", rest) => {
+                let (name, value) = first_word(rest);
+                if !self.put(name, value, true)? {
+                    return Err("tainted are bytes, letters, zeros, x0 to x30 or sp".into());
+                }
+            }
+            (name, value) if self.put(name, value, false)? => {}
+            _ => {
+                let read: Result<Instruction, _> = line.trim_end().parse();
+                self.words.push(read.map_err(|refusal| refusal.to_string())?.word());
+            }
+        }
+        Ok(())
+    }
+
+    /// Puts what may be tainted, and says whether the name is that of such a thing.
+    fn put(&mut self, name: &str, value: &str, tainted: bool) -> Result<bool, String> {
+        match name {
+            "bytes" => {
+                let bytes = value.split_whitespace().map(byte).collect::<Result<Vec<u8>, _>>()?;
+                self.add(bytes.len() as u64, bytes.into_iter(), tainted)?;
+            }
+            "letters" => self.add(value.len() as u64, value.bytes(), tainted)?,
+            "zeros" => {
+                let length = number(value.trim())?;
+                self.add(length, std::iter::repeat(0).take(length as usize), tainted)?;
+            }
+            _ => match name.parse::<Register>() {
+                Ok(register) => self.registers.set(register, number(value.trim())?, tainted),
+                Err(_) => return Ok(false),
+            },
+        }
+        Ok(true)
+    }
+
+    fn add(&mut self, length: u64, bytes: impl Iterator<Item = u8>, tainted: bool) -> Result<(), String> {
+        if length > (MEMORY_MAX - self.bytes.len()) as u64 {
+            return Err(format!("memory of more than {MEMORY_MAX} bytes"));
+        }
+        self.bytes.extend(bytes);
+        self.taint.resize(self.bytes.len(), tainted.into());
+        Ok(())
+    }
+}
+
+fn first_word(line: &str) -> (&str, &str) {
+    line.split_once(char::is_whitespace).unwrap_or((line, ""))
+}
+
+fn byte(digits: &str) -> Result<u8, String> {
+    let fits = digits.len() == 2 && digits.bytes().all(|digit| digit.is_ascii_hexdigit());
+    let byte = fits.then(|| u8::from_str_radix(digits, 16).ok()).flatten();
+    byte.ok_or_else(|| format!("`{digits}` is no byte of two hexadecimal digits"))
+}
+
+pub fn run(mut source: Source, secrets: bool, output: &mut impl Write) -> Result<(), Failure> {
+    let mut case = Case::default();
+    let mut number = 0;
+    while let Some(line) = source.line()? {
+        number += 1;
+        case.statement(&line).map_err(|said| source.wrong(format!("line {number}: {said}")))?;
+    }
+    let Case { registers, window, bytes, taint, words } = case;
+    let mut machine = Machine::new(window, bytes, taint);
+    machine.registers = registers;
+    let mut trace = vec![Access::default(); words.len()];
+    let ran = machine.run(&words, &mut trace);
+    let steps = ran.map_or_else(|refusal| refusal.steps(), |run| run.steps);
+    let mut show = || -> io::Result<()> {
+        for (step, (&word, access)) in words.iter().zip(&trace).take(steps).enumerate() {
+            let instruction = Instruction::new(word).map_or_else(|_| "-".into(), |found| found.to_string());
+            writeln!(output, "step {}: {access}, by {word:08x}, `{instruction}`", step + 1)?;
+        }
+        match ran {
+            Ok(_) => writeln!(output, "done, after {steps} steps")?,
+            Err(refusal) => writeln!(output, "{refusal}")?,
+        }
+        show_registers(&machine.registers, secrets, output)?;
+        let at = machine.memory.window.origin;
+        show_memory(at, machine.memory.bytes(), machine.memory.taint(), secrets, output)
+    };
+    show().map_err(Failure::write)?;
+    ran.map(|_| ()).map_err(|_| Failure::Refused)
+}
+
+fn show_registers(registers: &Registers, secrets: bool, output: &mut impl Write) -> io::Result<()> {
+    for register in Register::all() {
+        match registers.get(register) {
+            (0, false) => {}
+            (value, false) => writeln!(output, "{register} {value:#x}")?,
+            (value, true) if secrets => writeln!(output, "tainted {register} {value:#x}")?,
+            (_, true) => writeln!(output, "tainted {register}")?,
+        }
+    }
+    writeln!(output, "pc {:#x}", registers.pc())
+}
+
+/// Sixteen bytes a line. With secrets a tainted byte has a star behind it.
+fn show_memory(at: u64, bytes: &[u8], taint: &[u8], secrets: bool, output: &mut impl Write) -> io::Result<()> {
+    for (row, (bytes, taint)) in bytes.chunks(16).zip(taint.chunks(16)).enumerate() {
+        write!(output, "{:#x}:", at.wrapping_add(16 * row as u64))?;
+        for (byte, &taint) in bytes.iter().zip(taint) {
+            match (taint, secrets) {
+                (0, _) => write!(output, " {byte:02x}")?,
+                (_, false) => write!(output, " **")?,
+                (_, true) => write!(output, " {byte:02x}*")?,
+            }
+        }
+        writeln!(output)?;
+    }
+    Ok(())
+}

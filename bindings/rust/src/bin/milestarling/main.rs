@@ -1,0 +1,174 @@
+//! The command `milestarling`: the library for people at a terminal.
+
+mod case;
+mod elf;
+mod input;
+mod list;
+
+use input::{say, Failure, Source};
+use milestarling::{listing, Instruction};
+use std::env;
+use std::ffi::OsString;
+use std::io::{self, BufWriter, IsTerminal, Write};
+use std::process::ExitCode;
+
+const HELP: &str = "\
+milestarling: the loads and stores of an AArch64 emulator
+
+  milestarling list [FILE] [--at ADDRESS]
+      Lists little-endian words: a line for each with the word, its text or `-`, and
+      its answer 0, 2 (not a load or store of the set), 3 (undefined) or 4
+      (unpredictable), parted by tabs; and a line `short` for bytes that are left over.
+      With --at each line begins with its address, counted from this one, and a tab.
+      Of an ELF file the executable load segments are listed, with their own addresses.
+
+  milestarling word [HEX..]
+      Lists words that are given by up to eight hexadecimal digits.
+
+  milestarling text [LINE..]
+      Lists the words whose texts these lines are. A line is one argument:
+      milestarling text 'ldr x0, [x1, #8]'
+
+  milestarling run [FILE] [--secrets]
+      Runs a case and shows each step, and then the registers that aren't 0 and memory.
+      What is tainted is shown as `tainted` and `**`, and by --secrets as it is. A case
+      has one statement a line, with numbers in decimal or after 0x in hexadecimal:
+
+        # WORDS              a comment
+        origin NUMBER        the address of memory's first byte, at first 0
+        readonly NUMBER      how many bytes at the start of memory can't be stored to,
+                             at first 0
+        bytes HEX..          more bytes of memory, two digits each
+        letters LETTERS      more bytes of memory: the rest of the line
+        zeros NUMBER         more bytes of memory, so many and all 0
+        x0 NUMBER            the value of x0 to x30, sp or pc, at first 0
+        tainted STATEMENT    bytes, letters, zeros or a register that are tainted
+        word HEX             one more word to run
+        ldr x0, [x1, #8]     one more word to run, by its text: any line that begins
+                             with none of these names
+
+  milestarling --help | --version
+
+Where no file or word is named, or the file is `-`, standard input is read. The answers
+are those of docs/ANSWERS.md. What is wrong is said on standard error. The status is 0
+where all went well, 1 where something was refused or failed, and 2 where the command
+was called wrongly.
+";
+
+fn main() -> ExitCode {
+    let words: Vec<OsString> = env::args_os().skip(1).collect();
+    let mut output = BufWriter::new(io::stdout().lock());
+    let done = command(&words, &mut output);
+    // What was written before a failure is put out before it is said.
+    let done = done.and(output.flush().map_err(Failure::write));
+    match done {
+        Ok(()) => ExitCode::SUCCESS,
+        Err(failure) => {
+            if let Some(said) = failure.said() {
+                say(said);
+            }
+            ExitCode::from(failure.status())
+        }
+    }
+}
+
+fn command(words: &[OsString], output: &mut impl Write) -> Result<(), Failure> {
+    let words: Vec<&str> = words
+        .iter()
+        .map(|word| word.to_str().ok_or_else(|| Failure::Usage(format!("{word:?} isn't UTF-8"))))
+        .collect::<Result<_, _>>()?;
+    let Some((&name, rest)) = words.split_first() else {
+        return Err(Failure::Usage("say what to do: list, word, text or run; --help tells more".into()));
+    };
+    if name == "--help" || name == "-h" || name == "help" || rest.contains(&"--help") {
+        return output.write_all(HELP.as_bytes()).map_err(Failure::write);
+    }
+    match name {
+        "--version" => writeln!(output, "milestarling {}", env!("CARGO_PKG_VERSION")).map_err(Failure::write),
+        "list" => {
+            let (files, at) = option(rest, "--at")?;
+            list::list(Source::of(&files)?, at.map(|at| number(at).map_err(Failure::Usage)).transpose()?, output)
+        }
+        "run" => {
+            let (secrets, files): (Vec<&str>, Vec<&str>) = rest.iter().partition(|&&word| word == "--secrets");
+            case::run(Source::of(&files)?, !secrets.is_empty(), output)
+        }
+        "word" => each(rest, true, output, |word| Ok(listing(&hexadecimal(word)?.to_le_bytes()))),
+        "text" => each(rest, false, output, |line| {
+            let read: Result<Instruction, _> = line.parse();
+            read.map(|instruction| listing(&instruction.word().to_le_bytes())).map_err(|refusal| refusal.to_string())
+        }),
+        _ => Err(Failure::Usage(format!("`{name}` is no command: list, word, text or run; --help tells more"))),
+    }
+}
+
+/// The words without an option that has a value, and its value.
+fn option<'a>(words: &[&'a str], name: &str) -> Result<(Vec<&'a str>, Option<&'a str>), Failure> {
+    let (mut others, mut value, mut words) = (Vec::new(), None, words.iter());
+    while let Some(&word) = words.next() {
+        if word != name {
+            others.push(word);
+        } else if value.replace(*words.next().ok_or_else(|| Failure::Usage(format!("{name} needs a value")))?).is_some()
+        {
+            return Err(Failure::Usage(format!("{name} is given twice")));
+        }
+    }
+    Ok((others, value))
+}
+
+/// Writes what is made of each argument, or of each line of standard input where there is none (of each word of it where
+/// `split`). One that is refused is said, and those behind it are still made.
+fn each(
+    arguments: &[&str],
+    split: bool,
+    output: &mut impl Write,
+    made: impl Fn(&str) -> Result<String, String>,
+) -> Result<(), Failure> {
+    let mut refused = false;
+    let mut one = |place: &str, word: &str, output: &mut dyn Write| -> Result<(), Failure> {
+        match made(word) {
+            Ok(line) => output.write_all(line.as_bytes()).map_err(Failure::write),
+            Err(said) => {
+                refused = true;
+                say(format_args!("{place}`{word}`: {said}"));
+                Ok(())
+            }
+        }
+    };
+    for word in arguments {
+        one("", word, output)?;
+    }
+    if arguments.is_empty() {
+        let (mut source, mut number) = (Source::of(&[])?, 0);
+        while let Some(line) = source.line()? {
+            number += 1;
+            let place = format!("line {number}: ");
+            let words: Vec<&str> = if split { line.split_whitespace().collect() } else { vec![&line] };
+            words.into_iter().try_for_each(|word| one(&place, word, output))?;
+            // Whoever types a line waits for what is made of it.
+            if io::stdin().is_terminal() {
+                output.flush().map_err(Failure::write)?;
+            }
+        }
+    }
+    if refused {
+        return Err(Failure::Refused);
+    }
+    Ok(())
+}
+
+/// A word of up to eight hexadecimal digits.
+fn hexadecimal(word: &str) -> Result<u32, String> {
+    let digits = word.strip_prefix("0x").unwrap_or(word);
+    let fits = (1..=8).contains(&digits.len()) && digits.bytes().all(|digit| digit.is_ascii_hexdigit());
+    let number = fits.then(|| u32::from_str_radix(digits, 16).ok()).flatten();
+    number.ok_or_else(|| "a word has one to eight hexadecimal digits".into())
+}
+
+/// A number of 64 bits, in decimal or after 0x in hexadecimal.
+fn number(word: &str) -> Result<u64, String> {
+    let (digits, radix) = word.strip_prefix("0x").map_or((word, 10), |digits| (digits, 16));
+    // A sign is no digit, though Rust takes one.
+    let number = (!digits.starts_with(['+', '-'])).then(|| u64::from_str_radix(digits, radix).ok()).flatten();
+    number.ok_or_else(|| format!("`{word}` is no number of 64 bits"))
+}

@@ -1,0 +1,272 @@
+//! The command `milestarling`: what it writes, what it says, and its status.
+
+use std::fs::{self, File};
+use std::io::Write;
+use std::path::{Path, PathBuf};
+use std::process::{Command, Stdio};
+
+/// What a call wrote, said and ended with.
+#[derive(Debug, PartialEq, Eq)]
+struct Ended {
+    wrote: String,
+    said: String,
+    status: Option<i32>,
+}
+
+impl Ended {
+    /// All went well, and it wrote this.
+    fn well(wrote: &str) -> Ended {
+        Ended { wrote: wrote.into(), said: String::new(), status: Some(0) }
+    }
+
+    /// It wrote nothing, and said something that has this in it.
+    fn fails(&self, status: i32, said: &str) {
+        assert!(self.said.starts_with("milestarling: ") && self.said.contains(said), "{said}: {self:?}");
+        assert_eq!((self.status, self.wrote.as_str()), (Some(status), ""), "{said}");
+    }
+}
+
+fn command(words: &[&str]) -> Command {
+    let mut command = Command::new(env!("CARGO_BIN_EXE_milestarling"));
+    command.args(words);
+    command
+}
+
+fn call(words: &[&str], input: &[u8]) -> Ended {
+    let mut child = command(words)
+        .stdin(Stdio::piped())
+        .stdout(Stdio::piped())
+        .stderr(Stdio::piped())
+        .spawn()
+        .expect("the command is there");
+    let mut stdin = child.stdin.take().unwrap();
+    let input = input.to_vec();
+    // It may end before it has read all.
+    let writer = std::thread::spawn(move || drop(stdin.write_all(&input)));
+    let output = child.wait_with_output().unwrap();
+    writer.join().unwrap();
+    let text = |bytes| String::from_utf8(bytes).unwrap();
+    Ended { wrote: text(output.stdout), said: text(output.stderr), status: output.status.code() }
+}
+
+/// A file of the repository.
+fn stored(name: &str) -> String {
+    Path::new(env!("CARGO_MANIFEST_DIR")).join("../..").join(name).to_str().unwrap().into()
+}
+
+/// A file that is made for one test.
+fn made(name: &str, content: &[u8]) -> PathBuf {
+    let path = Path::new(env!("CARGO_TARGET_TMPDIR")).join(name);
+    fs::write(&path, content).unwrap();
+    path
+}
+
+const EXAMPLE: [u8; 13] = [0x20, 0xf0, 0x5f, 0x38, 0x00, 0x00, 0x00, 0x91, 0x21, 0x84, 0x40, 0xf8, 0xff];
+const LISTED: &str = "385ff020\tldurb w0, [x1, #-1]\t0\n91000000\t-\t2\nf8408421\tldr x1, [x1], #8\t4\nshort\t-\t1\n";
+
+#[test]
+fn lists_a_file_or_standard_input() {
+    assert_eq!(call(&["list"], &EXAMPLE), Ended::well(LISTED));
+    assert_eq!(call(&["list", "-"], &EXAMPLE), Ended::well(LISTED));
+    let path = made("example.bin", &EXAMPLE);
+    assert_eq!(call(&["list", path.to_str().unwrap()], b""), Ended::well(LISTED));
+    assert_eq!(call(&["list"], b""), Ended::well(""));
+    let expected = fs::read_to_string(stored("crates/list/stdout")).unwrap();
+    assert_eq!(call(&["list", &stored("crates/list/stdin")], b""), Ended::well(&expected));
+    for cut in 0..EXAMPLE.len() {
+        assert_eq!(call(&["list"], &EXAMPLE[..cut]), Ended::well(&milestarling::listing(&EXAMPLE[..cut])));
+    }
+}
+
+#[test]
+fn lists_with_addresses() {
+    let addresses = ["fffffffffffffffc", "0", "4", "8"];
+    let listed: String = addresses.iter().zip(LISTED.lines()).map(|(at, line)| format!("{at}\t{line}\n")).collect();
+    for at in ["0xfffffffffffffffc", "18446744073709551612"] {
+        assert_eq!(call(&["list", "--at", at], &EXAMPLE), Ended::well(&listed));
+    }
+    call(&["list", "--at"], b"").fails(2, "--at needs a value");
+    call(&["list", "--at", "1", "--at", "2"], b"").fails(2, "twice");
+    for wrong in ["x", "-1", "+1", "", "0x", "18446744073709551616", "0x10000000000000000"] {
+        call(&["list", "--at", wrong], b"").fails(2, "is no number of 64 bits");
+    }
+}
+
+/// An ELF file with segments of a type, flags, an address and bytes.
+fn elf(segments: &[(u32, u32, u64, &[u8])]) -> Vec<u8> {
+    let mut file = vec![0; 64];
+    file[..6].copy_from_slice(b"\x7fELF\x02\x01");
+    file[18] = 183;
+    file[32] = 64;
+    file[54] = 56;
+    file[56] = segments.len() as u8;
+    let mut offset = 64 + 56 * segments.len() as u64;
+    for (kind, flags, address, bytes) in segments {
+        file.extend(kind.to_le_bytes());
+        file.extend(flags.to_le_bytes());
+        let length = bytes.len() as u64;
+        for number in [offset, *address, *address, length, length, 4] {
+            file.extend(number.to_le_bytes());
+        }
+        offset += length;
+    }
+    segments.iter().for_each(|segment| file.extend(segment.3));
+    file
+}
+
+#[test]
+fn lists_the_executable_segments_of_an_elf_file() {
+    let load = [0x20, 0x04, 0x40, 0xf9];
+    let store = [0x20, 0x04, 0x00, 0xf9, 1];
+    let file = elf(&[(1, 4, 0, &load), (1, 5, 0x1000, &load), (6, 5, 0x2000, &load), (1, 1, 0x3000, &store)]);
+    let listed = "1000\tf9400420\tldr x0, [x1, #8]\t0\n3000\tf9000420\tstr x0, [x1, #8]\t0\n3004\tshort\t-\t1\n";
+    assert_eq!(call(&["list"], &file), Ended::well(listed));
+    call(&["list", "--at", "0"], &file).fails(2, "addresses of its own");
+
+    // Cut anywhere it is said to be damaged; a file of fewer than four bytes is no ELF file yet.
+    for cut in 4..file.len() {
+        call(&["list"], &file[..cut]).fails(1, "a damaged ELF file");
+    }
+    let with = |place: usize, byte: u8| {
+        let mut file = file.clone();
+        file[place] = byte;
+        call(&["list"], &file)
+    };
+    for (place, byte) in [(4, 1), (5, 2), (18, 62), (19, 1)] {
+        with(place, byte).fails(1, "not a 64-bit little-endian one for AArch64");
+    }
+    with(54, 55).fails(1, "55 bytes each");
+    with(39, 0xff).fails(1, "its table of program headers lies behind its end");
+    with(64 + 56 + 15, 0xff).fails(1, "an executable segment lies behind its end");
+    with(64 + 56 + 39, 0xff).fails(1, "an executable segment lies behind its end");
+    call(&["list"], &elf(&[(1, 4, 0, &load)])).fails(1, "without an executable load segment");
+    call(&["list"], &elf(&[])).fails(1, "objcopy -O binary");
+}
+
+#[test]
+fn a_failed_read_or_write_is_no_end() {
+    call(&["list", "/no/such/file"], b"").fails(1, "/no/such/file: ");
+    let directory = env!("CARGO_MANIFEST_DIR");
+    for name in ["list", "run"] {
+        call(&[name, directory], b"").fails(1, "read: ");
+    }
+    for name in ["list", "run", "word", "text"] {
+        let output = command(&[name]).stdin(File::open(directory).unwrap()).output().unwrap();
+        assert!(output.stdout.is_empty() && output.status.code() == Some(1), "{name}");
+        assert!(String::from_utf8(output.stderr).unwrap().contains("read: "), "{name}");
+    }
+    for words in [&["list", &stored("crates/list/stdin")][..], &["--help"], &["word", "f9400420"]] {
+        let full = File::options().write(true).open("/dev/full").unwrap();
+        let output = command(words).stdin(Stdio::null()).stdout(full).output().unwrap();
+        assert_eq!(output.status.code(), Some(1), "{words:?}");
+        assert!(String::from_utf8(output.stderr).unwrap().starts_with("milestarling: write: "), "{words:?}");
+    }
+}
+
+#[test]
+fn words_and_texts() {
+    let line = "f9400420\tldr x0, [x1, #8]\t0\n";
+    assert_eq!(call(&["word", "f9400420", "0xF9400420"], b""), Ended::well(&line.repeat(2)));
+    assert_eq!(
+        call(&["word"], b"f9400420 f9400420\n\n91000000"),
+        Ended::well(&format!("{line}{line}91000000\t-\t2\n"))
+    );
+    assert_eq!(call(&["text", "ldr x0, [x1, #8]"], b""), Ended::well(line));
+    assert_eq!(call(&["text"], b"ldr x0, [x1, #8]\nldr x0, [x1, #8]"), Ended::well(&line.repeat(2)));
+
+    // What is wrong is said, and what comes behind it is still done.
+    let ended = call(&["word", "f94004200", "", "xyz", "f9400420"], b"");
+    assert_eq!((ended.wrote.as_str(), ended.said.lines().count(), ended.status), (line, 3, Some(1)));
+    let ended = call(&["text"], b"ldr x0, [x1, #8]\r\nldr x0, [x1, #8]\n\n");
+    assert_eq!((ended.wrote.as_str(), ended.said.lines().count(), ended.status), (line, 2, Some(1)));
+    assert!(ended.said.starts_with("milestarling: line 1: `ldr x0, [x1, #8]\r`: refused (9): "), "{ended:?}");
+    call(&["text"], b"\xff\n").fails(1, "isn't UTF-8");
+}
+
+const CASE: &str = "\
+# A plugin that looks up a letter of a password.
+origin 0x1000
+readonly 8
+tainted letters sesame42
+zeros 4
+bytes 01 02 fe ff
+x0 4096
+x1 0x1008
+tainted x3 7
+sp 0x1010
+pc 0x8000
+
+ldrb w2, [x0]
+  strb w2, [x1]
+word 386268a4
+";
+
+#[test]
+fn runs_a_case() {
+    let ended = call(&["run"], CASE.as_bytes());
+    let expected = "\
+step 1: load of 1 at 0x1000, by 39400002, `ldrb w2, [x0]`
+step 2: store of 1 at 0x1008, by 39000022, `strb w2, [x1]`
+refused (5): the address would come from a secret value, by 386268a4, `ldrb w4, [x5, x2]`, after 2 steps
+x0 0x1000
+x1 0x1008
+tainted x2
+tainted x3
+sp 0x1010
+pc 0x8008
+0x1000: ** ** ** ** ** ** ** ** ** 00 00 00 01 02 fe ff
+";
+    assert_eq!(ended, Ended { wrote: expected.into(), said: String::new(), status: Some(1) });
+
+    let path = made("case", CASE.replace("word 386268a4", "").as_bytes());
+    let ended = call(&["run", "--secrets", path.to_str().unwrap()], b"");
+    assert!(
+        ended.wrote.contains("\ndone, after 2 steps\n") && ended.wrote.contains("\ntainted x2 0x73\n"),
+        "{ended:?}"
+    );
+    assert!(ended.wrote.ends_with("0x1000: 73* 65* 73* 61* 6d* 65* 34* 32* 73* 00 00 00 01 02 fe ff\n"), "{ended:?}");
+    assert_eq!(ended.status, Some(0));
+    assert_eq!(call(&["run"], b""), Ended::well("done, after 0 steps\npc 0x0\n"));
+    assert_eq!(call(&["run"], b"prfm pldl1keep, [x1]\n").status, Some(0));
+}
+
+#[test]
+fn a_wrong_case_is_named_by_its_line() {
+    let wrong = [
+        ("origin", "is no number"),
+        ("orign 1", "refused (9)"),
+        ("x31 1", "refused (9)"),
+        ("x0 1 2", "is no number"),
+        ("bytes 1", "no byte of two hexadecimal digits"),
+        ("bytes +1", "no byte of two hexadecimal digits"),
+        ("tainted pc 4", "tainted are"),
+        ("tainted", "tainted are"),
+        ("zeros 1073741825", "more than 1073741824 bytes"),
+        ("zeros 18446744073709551615", "more than 1073741824 bytes"),
+        ("word 123456789", "one to eight hexadecimal digits"),
+        ("ldr x0, [x1, #9]", "refused (9)"),
+    ];
+    for (line, said) in wrong {
+        let ended = call(&["run"], format!("# first\n{line}\n").as_bytes());
+        ended.fails(1, said);
+        assert!(ended.said.contains("standard input: line 2: "), "{ended:?}");
+    }
+}
+
+#[test]
+fn says_how_it_is_called() {
+    let help = call(&["--help"], b"");
+    assert!(help.status == Some(0) && help.said.is_empty());
+    for name in ["list", "word", "text", "run"] {
+        assert!(help.wrote.contains(&format!("milestarling {name} [")), "{name}");
+        assert_eq!(call(&[name, "--help"], b""), help);
+    }
+    let widest = help.wrote.lines().map(|line| line.chars().count()).max().unwrap();
+    assert!(widest <= 90, "{widest}");
+    assert_eq!(call(&["--version"], b""), Ended::well(concat!("milestarling ", env!("CARGO_PKG_VERSION"), "\n")));
+    call(&[], b"").fails(2, "list, word, text or run");
+    call(&["lists"], b"").fails(2, "`lists` is no command");
+    call(&["list", "a", "b"], b"").fails(2, "one file at a time");
+    call(&["list", "--as", "b"], b"").fails(2, "one file at a time");
+    call(&["run", "--secret"], b"").fails(2, "is no option");
+}

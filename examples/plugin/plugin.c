@@ -1,0 +1,31 @@
+/*
+ * Three pieces of a login plugin, which the host examples/plugin.c and the Rust example plugin.rs run. build.sh compiles
+ * each into a file of its own.
+ */
+typedef unsigned char letter;
+
+/* Whether two passwords of one length differ: every letter is looked at, and nothing is decided before the end. */
+unsigned compare(const letter *given, const letter *stored, unsigned long length)
+{
+    unsigned differs = 0;
+    do
+        differs |= *given++ ^ *stored++;
+    while (--length);
+    return differs;
+}
+
+/* The same, but it stops at the first letter that differs: how long it runs tells how many are right. */
+unsigned compare_early(const letter *given, const letter *stored, unsigned long length)
+{
+    do
+        if (*given++ != *stored++)
+            return 1;
+    while (--length);
+    return 0;
+}
+
+/* What a table has for a letter: where it is looked up tells four bits of the letter. */
+unsigned look_up(const letter *given, const letter *table)
+{
+    return table[*given & 15];
+}
