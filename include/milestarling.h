@@ -1,22 +1,53 @@
 /*
- * Milestarling for C: the loads and stores of an AArch64 emulator, their text, and their listing.
+ * Milestarling for C and C++: the loads and stores of an AArch64 emulator, their text, and their listing.
  *
- * Build the library with `rt staticlib host`, and link target/staticlib/libhost.a.
+ * `bash tools/library.sh` builds target/staticlib/libmilestarling.a, for x86-64 Linux with glibc; `bash tools/install.sh
+ * PREFIX` puts it, this header and a file for pkg-config below a prefix. It calls nothing but memcpy and memset.
  *
- * A slice is a pointer and the number of its elements. The pointer is never null, even where the length is 0, and
- * a slice that isn't const overlaps no other slice of the call. Beyond that no function has a condition to meet.
+ * The host's own duty: taints (documents 01 and 02 call them marks) follow a value through the loads and stores that are
+ * done here, and nowhere else. A host that computes between two calls (add, and, mov, ..) must carry them itself: the
+ * result is tainted where an operand is. And it must not branch on a tainted value, nor take one for an address of its
+ * own. A host that loads a letter of a password into x1, sets x2 = x1 & 15 without setting x2's taint, and then runs
+ * `ldrb w3, [x7, x2]`, gets answer 0 and a trace whose address tells the password. With x2's taint set it gets answer 5.
+ * examples/plugin.c is a host that does its duty.
  *
- * The host's own duty: taints follow a value through the loads and stores that are done here, and nowhere else. A host
- * that computes between two calls (add, and, mov, ..) must carry them itself: the result is tainted where an operand
- * is. And it must not branch on a tainted value, nor take one for an address of its own. A host that loads a letter of
- * a password into x1, sets x2 = x1 & 15 without setting x2's taint, and then runs `ldrb w3, [x7, x2]`, gets answer 0
- * and a trace whose address tells the password. With x2's taint set it gets answer 5.
+ * A slice is a pointer and the number of its elements. The pointer is never null, even where the length is 0. A slice
+ * that isn't const overlaps no other slice of the call: to run a word that stands in memory, copy the word out first and
+ * hand in the copy. Beyond that no function has a condition to meet.
+ *
+ * Threads: nothing here is static, and a call touches what it is lent and nothing else. So calls that are lent different
+ * registers, memory and output may go on at the same time; those that are lent the same need a lock of the host's.
+ *
+ * The last part of this file has the same run over structs, whose parts can't be taken for each other.
  */
 #ifndef MILESTARLING_H
 #define MILESTARLING_H
 
 #include <stddef.h>
 #include <stdint.h>
+
+#ifdef __cplusplus
+extern "C" {
+#endif
+
+#define MILESTARLING_VERSION_MAJOR 0
+#define MILESTARLING_VERSION_MINOR 1
+#define MILESTARLING_VERSION_PATCH 0
+#define MILESTARLING_VERSION "0.1.0"
+
+/* The numbers of the registers that cross, x0 to x30, sp and pc; where sp and pc stand among them; their taint bytes. */
+#define MILESTARLING_REGISTERS 33
+#define MILESTARLING_SP 31
+#define MILESTARLING_PC 32
+#define MILESTARLING_REGISTER_TAINTS 32
+
+/* The numbers of a trace for each word, and what a store's code has above the number of its bytes. */
+#define MILESTARLING_TRACE_NUMBERS 2
+#define MILESTARLING_STORE_CODE 64
+
+/* The bytes of a word, and the most bytes of the line for bytes that are left over. */
+#define MILESTARLING_WORD_BYTES 4
+#define MILESTARLING_SHORT_MAX 10
 
 /* The most bytes that the text of a word has, and a line of a listing with its newline. Both are reached, by f8aa5940. */
 #define MILESTARLING_TEXT_MAX 35
@@ -92,8 +123,8 @@ struct milestarling_lister_reply {
 /*
  * Does a step for each word, in order, up to the first that is refused. A refused step changes nothing.
  *
- * registers        33 numbers: x0 to x30, sp, pc
- * register_taints  32 bytes, for x0 to x30 and sp: on the way in any byte but 0 is a taint, on the way out each is 0 or 1
+ * registers        MILESTARLING_REGISTERS numbers: x0 to x30, sp, pc
+ * register_taints  MILESTARLING_REGISTER_TAINTS bytes, for x0 to x30 and sp: on the way in any byte but 0 is a taint, on the way out each is 0 or 1
  * origin           the address of memory's first byte
  * readonly         how many bytes at the start of memory aren't stored to
  * taint            a byte for each byte of memory, tainted where it isn't 0
@@ -124,7 +155,7 @@ struct milestarling_word_reply milestarling_word(const uint8_t *text, size_t tex
 /*
  * Writes the listing of little-endian words to the start of an output: a line for each with the word, its text and
  * its answer 0, 2, 3 or 4, and a line for bytes that are left over. Answers 0 or 10; the output changes only with 0.
- * MILESTARLING_LINE_MAX bytes for each word, and 10 for bytes left over, always suffice; a shorter output is measured
+ * MILESTARLING_LINE_MAX bytes for each word, and MILESTARLING_SHORT_MAX for bytes left over, always suffice; a shorter output is measured
  * first.
  */
 struct milestarling_text_reply milestarling_list(
@@ -146,9 +177,122 @@ struct milestarling_lister_reply milestarling_lister_push(
 
 /*
  * The end of such a listing: writes the line for bytes left over, if there are any, to the start of an output, and
- * closes the lister. Answers as above; 10 bytes always suffice.
+ * closes the lister. Answers as above; MILESTARLING_SHORT_MAX bytes always suffice.
  */
 struct milestarling_lister_reply milestarling_lister_close(
     struct milestarling_lister lister, uint8_t *output, size_t output_length);
+
+/* ---- The same run over structs. A struct of zeros, {0} in C and {} in C++, is new registers, and memory of no bytes. */
+
+/* A value for each of x0 to x30, sp and pc, and a taint for each but pc: milestarling_set sets both. */
+struct milestarling_registers {
+    uint64_t value[MILESTARLING_REGISTERS];
+    uint8_t taint[MILESTARLING_REGISTER_TAINTS];
+};
+
+/* Sets x0 to x30 (0 to 30) or sp (31), with its taint. Any other number changes nothing. */
+static inline void milestarling_set(struct milestarling_registers *registers, unsigned number, uint64_t value, int tainted)
+{
+    if (number < MILESTARLING_REGISTER_TAINTS) {
+        registers->value[number] = value;
+        registers->taint[number] = (uint8_t)(tainted != 0);
+    }
+}
+
+/* The value of x0 to x30 or sp; 0 for any other number. Ask for its taint too before it is branched on or shown. */
+static inline uint64_t milestarling_value(const struct milestarling_registers *registers, unsigned number)
+{
+    return number < MILESTARLING_REGISTER_TAINTS ? registers->value[number] : 0;
+}
+
+/* Whether x0 to x30 or sp is tainted; 0 for any other number. */
+static inline int milestarling_tainted(const struct milestarling_registers *registers, unsigned number)
+{
+    return number < MILESTARLING_REGISTER_TAINTS && registers->taint[number] != 0;
+}
+
+/* Memory, with a taint byte for each of its bytes and its place: the address of its first byte, and how many of its
+   first bytes aren't stored to. With length 0 the pointers may be null. */
+struct milestarling_memory {
+    uint8_t *bytes;
+    uint8_t *taint;
+    size_t length;
+    uint64_t origin;
+    uint64_t readonly;
+};
+
+/* What a step that was done did: the code, as in the trace, and the address. */
+struct milestarling_access {
+    uint64_t code;
+    uint64_t address;
+};
+
+/*
+ * milestarling_run over these structs. The trace has trace_length accesses, of which those of the steps done are
+ * written; it and the words may be null where there are none.
+ */
+static inline struct milestarling_run_reply milestarling_memory_run(
+    struct milestarling_memory memory, struct milestarling_registers *registers,
+    const uint32_t *words, size_t words_length,
+    struct milestarling_access *trace, size_t trace_length)
+{
+    const uint32_t no_words[1] = {0};
+    uint64_t no_trace[1] = {0};
+    uint8_t no_bytes[1] = {0}, no_taint[1] = {0};
+    return milestarling_run(
+        words_length != 0 ? words : no_words, words_length,
+        registers->value, MILESTARLING_REGISTERS, registers->taint, MILESTARLING_REGISTER_TAINTS,
+        memory.origin, memory.readonly,
+        memory.length != 0 ? memory.bytes : no_bytes, memory.length,
+        memory.length != 0 ? memory.taint : no_taint, memory.length,
+        trace_length != 0 ? &trace->code : no_trace, MILESTARLING_TRACE_NUMBERS * trace_length);
+}
+
+/* One step. The reply has its code and address; steps is 1 where it is done and 0 where it is refused. */
+static inline struct milestarling_run_reply milestarling_memory_step(
+    struct milestarling_memory memory, struct milestarling_registers *registers, uint32_t word)
+{
+    struct milestarling_access trace[1] = {{0, 0}};
+    return milestarling_memory_run(memory, registers, &word, 1, trace, 1);
+}
+
+/* An answer in words, those of docs/ANSWERS.md. */
+static inline const char *milestarling_answer_text(uint64_t answer)
+{
+    switch (answer) {
+    case MILESTARLING_DONE:
+        return "done";
+    case MILESTARLING_BAD_WINDOW:
+        return "the memory window, the number of its taint bytes or the program counter is wrong";
+    case MILESTARLING_NOT_IN_SET:
+        return "the word is no load or store that this machine takes";
+    case MILESTARLING_UNDEFINED:
+        return "the word is an undefined load or store";
+    case MILESTARLING_UNPREDICTABLE:
+        return "the word names the same register twice where it must not";
+    case MILESTARLING_TAINTED_ADDRESS:
+        return "the address would come from a secret value";
+    case MILESTARLING_MISALIGNED:
+        return "SP as the base isn't a multiple of 16, or the ordered access crosses the border of a 16-byte block";
+    case MILESTARLING_OUT_OF_WINDOW:
+        return "the access isn't wholly inside the memory window";
+    case MILESTARLING_READ_ONLY:
+        return "the store touches read-only memory";
+    case MILESTARLING_NO_SUCH_TEXT:
+        return "the text isn't the line of any load or store";
+    case MILESTARLING_NO_ROOM:
+        return "the buffer or the trace lent is too short";
+    case MILESTARLING_NO_SUCH_INSTRUCTION:
+        return "no word has this instruction";
+    case MILESTARLING_CLOSED:
+        return "the lister is closed, or is said to hold more than three bytes";
+    default:
+        return "this number is no answer's";
+    }
+}
+
+#ifdef __cplusplus
+}
+#endif
 
 #endif

@@ -1,19 +1,71 @@
 #!/usr/bin/env bash
-# Builds the library for C hosts from nothing but this repository, and runs the C examples with it. Structs cross by value,
-# so that each is compiled without optimizing and with it.
+# Builds the library for C and C++ hosts from nothing but this repository, and tries it: the examples, the header in each
+# version of both languages and with each compiler that is there, the program that the README prints, and what
+# tools/install.sh puts below a prefix. Structs cross by value, so that each example is compiled without optimizing and
+# with it.
 set -eo pipefail
 cd "$(dirname "${BASH_SOURCE[0]}")/.."
-rt staticlib host
+bash tools/library.sh
 room=$(mktemp -d)
 trap 'rm -rf "$room"' EXIT
+strict=(-pedantic -Wall -Wextra -Werror)
+archive=target/staticlib/libmilestarling.a
 
-try() { # EXAMPLE EXPECTED
+try() { # EXAMPLE EXPECTED [WORDS...]
+    local example=$1 expected=$2 compiler=(cc -std=c11)
+    shift 2
+    case $example in *.cpp) compiler=(c++ -std=c++11) ;; esac
     for level in -O0 -O2; do
-        cc "$level" -std=c11 -pedantic -Wall -Wextra -Werror -Iinclude -o "$room/$1" "examples/$1.c" target/staticlib/libhost.a
-        "$room/$1" | diff - "$2"
+        "${compiler[@]}" "$level" "${strict[@]}" -Iinclude -o "$room/example" "examples/$example" "$archive"
+        "$room/example" "$@" | diff - "$expected"
     done
 }
 
-try login tests/host.expected
-try stream tests/stream.expected
-echo "host: the C examples wrote what tests/host.expected and tests/stream.expected have"
+try login.c tests/host.expected
+try login.cpp tests/host.expected
+try stream.c tests/stream.expected
+try plugin.c tests/plugin.expected examples/plugin/compare.bin examples/plugin/compare_early.bin examples/plugin/look_up.bin
+echo "host: the examples wrote what tests/*.expected have"
+
+# The header's texts are those of docs/ANSWERS.md, and its version is the Rust package's.
+sed -n '/^| Answer | Text |$/,$p' docs/ANSWERS.md | tail -n +3 > "$room/said"
+version=$(sed -n 's/^version = "\(.*\)"$/\1/p' bindings/rust/Cargo.toml)
+echo "$version $version" >> "$room/said"
+versions=0
+for compiler in gcc g++ clang clang++; do
+    command -v "$compiler" > /dev/null || continue
+    case $compiler in
+    *++) standards="c++11 c++14 c++17 c++20" language=c++ ;;
+    *) standards="c99 c11 c17" language=c ;;
+    esac
+    for standard in $standards; do
+        "$compiler" -x "$language" "-std=$standard" "${strict[@]}" -Wconversion -Iinclude -o "$room/header" \
+            tests/header.c -x none "$archive"
+        "$room/header" | diff - "$room/said"
+        versions=$((versions + 1))
+    done
+done
+echo "host: the header was compiled without a warning in $versions versions of C and C++"
+
+# The library needs nothing beside it but memcpy.
+needed=$(nm -u "$archive" | awk 'NF == 2 { print $2 }' | sort -u | paste -s -d ' ')
+[ "$needed" = memcpy ] || { echo "host: the library needs $needed"; exit 1; }
+
+# The program that the README prints for C, as it is printed.
+sed -n '/^\*\*From C and C++\*\*/,/^    }$/ s/^    //p' README.md > "$room/readme.c"
+cc -std=c11 "${strict[@]}" -Iinclude -o "$room/readme" "$room/readme.c" "$archive"
+printf 'done: code 8, address 4104\nx1 is tainted\n' | diff - <("$room/readme")
+echo "host: the README's program was compiled and run"
+
+# An installed library, found by pkg-config where that is there.
+bash tools/install.sh "$room/prefix" > /dev/null
+export PKG_CONFIG_PATH=$room/prefix/lib/pkgconfig
+flags="-I$room/prefix/include -L$room/prefix/lib -lmilestarling"
+if command -v pkg-config > /dev/null; then
+    flags=$(pkg-config --cflags --libs milestarling)
+    [ "$(pkg-config --modversion milestarling)" = "$version" ]
+fi
+# shellcheck disable=SC2086
+cc -o "$room/installed" examples/login.c $flags
+"$room/installed" | diff - tests/host.expected
+echo "host: an installed library was linked by ${flags//$room\//}"

@@ -1,0 +1,166 @@
+/*
+ * A host that runs compiled plugins: it does their arithmetic and branches itself, and leaves loads and stores to the
+ * library. So it has the duty that the header names: it carries taints through what it computes, and refuses a branch
+ * on a tainted value. It knows just the words that a compiler made of examples/plugin/plugin.c.
+ *
+ *     plugin examples/plugin/compare.bin
+ *
+ * runs the file with two passwords, and prints what a log would have of each run: the trace, and how it ended.
+ */
+#include <inttypes.h>
+#include <stdio.h>
+#include <string.h>
+
+#include "milestarling.h"
+
+enum { LENGTH = 8, GIVEN = 0x1000, STORED = 0x1010, END = 0x7ffffffc, LIMIT = 1000 };
+
+/* Registers, and the flags that a branch looks at: Z alone here, with its taint. */
+struct host {
+    struct milestarling_registers registers;
+    int zero, zero_tainted;
+};
+
+/* A value with its taint. What is computed of two is tainted where one of them is. */
+struct value {
+    uint64_t bits;
+    int tainted;
+};
+
+/* Register 31 is the zero register in all words here but add and sub of a number, where it is SP. */
+static struct value get(const struct host *host, unsigned number, int is_sp)
+{
+    struct value value = {0, 0};
+    if (number != 31 || is_sp) {
+        value.bits = milestarling_value(&host->registers, number);
+        value.tainted = milestarling_tainted(&host->registers, number);
+    }
+    return value;
+}
+
+/* Sets a register to a result of 64 or 32 bits, and with flags those too. */
+static void put(struct host *host, uint32_t word, struct value result, int flags, int is_sp)
+{
+    if (!(word >> 31))
+        result.bits &= 0xffffffff;
+    if (flags) {
+        host->zero = result.bits == 0;
+        host->zero_tainted = result.tainted;
+    }
+    if ((word & 31) != 31 || (is_sp && !flags))
+        milestarling_set(&host->registers, word & 31, result.bits, result.tainted);
+}
+
+/* A signed field of a word, times 4. */
+static uint64_t offset(uint32_t word, unsigned low, unsigned bits)
+{
+    uint64_t field = (word >> low) & ((1u << bits) - 1), sign = (uint64_t)1 << (bits - 1);
+    return ((field ^ sign) - sign) * 4;
+}
+
+/* Does one word that is no load or store, and returns what is wrong, or NULL. */
+static const char *compute(struct host *host, uint32_t word)
+{
+    uint64_t *pc = &host->registers.value[MILESTARLING_PC];
+    unsigned operation = (word >> 29) & 3;
+    int flags = operation & 1, subtract = operation & 2;
+    struct value a = get(host, (word >> 5) & 31, 0), b = get(host, (word >> 16) & 31, 0), result;
+    result.tainted = a.tainted || b.tainted;
+    if ((word & 0x1f00fc00) == 0x0a000000) {            /* and, orr, eor of registers, not shifted */
+        result.bits = operation == 0 ? a.bits & b.bits : operation == 1 ? a.bits | b.bits : a.bits ^ b.bits;
+        if (operation == 3 || (word & 0x00200000))
+            return "a word that this host doesn't know";
+        put(host, word, result, 0, 0);
+    } else if ((word & 0x1fe0fc00) == 0x0b000000) {     /* add, sub, cmp of registers, not shifted */
+        result.bits = subtract ? a.bits - b.bits : a.bits + b.bits;
+        put(host, word, result, flags, 0);
+    } else if ((word & 0x1fc00000) == 0x11000000) {     /* add, sub, cmp of a register and a number */
+        a = get(host, (word >> 5) & 31, 1);
+        result.bits = subtract ? a.bits - ((word >> 10) & 0xfff) : a.bits + ((word >> 10) & 0xfff);
+        result.tainted = a.tainted;
+        put(host, word, result, flags, 1);
+    } else if ((word & 0xffff0000) == 0x92400000 && (word & 0xfc00) != 0xfc00) { /* and with the lowest so many bits */
+        result.bits = a.bits & (((uint64_t)2 << ((word >> 10) & 63)) - 1);
+        result.tainted = a.tainted;
+        put(host, word, result, 0, 1);
+    } else if ((word & 0x7fe00000) == 0x52800000) {     /* mov of a number */
+        result.bits = (word >> 5) & 0xffff;
+        result.tainted = 0;
+        put(host, word, result, 0, 0);
+    } else if ((word & 0xff00001e) == 0x54000000) {     /* b.eq, b.ne */
+        if (host->zero_tainted)
+            return "a branch on a tainted value";
+        *pc += host->zero != (int)(word & 1) ? offset(word, 5, 19) : 4;
+        return NULL;
+    } else if ((word & 0xfffffc1f) == 0xd65f0000) {     /* ret */
+        if (a.tainted)
+            return "a return to a tainted address";
+        *pc = a.bits;
+        return NULL;
+    } else {
+        return "a word that this host doesn't know";
+    }
+    *pc += 4;
+    return NULL;
+}
+
+/* Runs a plugin's words until it returns, and prints the trace. The words are copied out of the image one by one. */
+static void run(const uint8_t *image, size_t size, const char *password)
+{
+    uint8_t bytes[32] = {0}, taint[32] = {0};
+    struct milestarling_memory memory = {.bytes = bytes, .taint = taint, .length = sizeof bytes, .origin = GIVEN};
+    struct host host;
+    memset(&host, 0, sizeof host);
+    memcpy(bytes, password, LENGTH);
+    memcpy(bytes + (STORED - GIVEN), "sesame42", LENGTH);
+    memset(taint, 1, sizeof taint);
+    milestarling_set(&host.registers, 0, GIVEN, 0);
+    milestarling_set(&host.registers, 1, STORED, 0);
+    milestarling_set(&host.registers, 2, LENGTH, 0);
+    milestarling_set(&host.registers, 30, END, 0);
+    for (int i = 0; i < LIMIT; i++) {
+        uint64_t pc = host.registers.value[MILESTARLING_PC];
+        if (pc == END) {
+            printf(" returned, x0 is %s\n", milestarling_tainted(&host.registers, 0) ? "tainted" : "known");
+            return;
+        }
+        if (pc % 4 != 0 || size < 4 || pc > size - 4) {
+            printf(" no word at %" PRIu64 "\n", pc);
+            return;
+        }
+        uint32_t word = image[pc] | (uint32_t)image[pc + 1] << 8 | (uint32_t)image[pc + 2] << 16 | (uint32_t)image[pc + 3] << 24;
+        struct milestarling_run_reply reply = milestarling_memory_step(memory, &host.registers, word);
+        const char *refused = NULL;
+        if (reply.answer == MILESTARLING_DONE)
+            printf(" %" PRIu64 "@%" PRIx64, reply.code, reply.address);
+        else if (reply.answer == MILESTARLING_NOT_IN_SET)
+            refused = compute(&host, word);
+        else
+            refused = milestarling_answer_text(reply.answer);
+        if (refused != NULL) {
+            printf(" refused at %" PRIx64 ": %s\n", pc, refused);
+            return;
+        }
+    }
+    printf(" more than %d words\n", LIMIT);
+}
+
+int main(int count, char **names)
+{
+    for (int i = 1; i < count; i++) {
+        uint8_t image[4096];
+        FILE *file = fopen(names[i], "rb");
+        size_t size = file == NULL ? 0 : fread(image, 1, sizeof image, file);
+        if (file == NULL || ferror(file)) {
+            perror(names[i]);
+            return 1;
+        }
+        fclose(file);
+        const char *name = strrchr(names[i], '/');
+        for (int other = 0; other < 2; other++) {
+            printf("%s:", name == NULL ? names[i] : name + 1);
+            run(image, size, other ? "open1234" : "sesame42");
+        }
+    }
+    return 0;
+}
