@@ -1,6 +1,6 @@
 #!/usr/bin/env bash
-# Times the Rust package over the static library beside its peers. They come from Debian packages, which are installed
-# where they aren't there; that needs root. The library is built first, so that no older one is timed.
+# Times the Rust package over the static library beside its peers. They come from Debian packages: what isn't there is named,
+# and is installed with --install, which needs root. The library is built first, so that no older one is timed.
 set -euo pipefail
 cd "$(dirname "${BASH_SOURCE[0]}")/.."
 
@@ -12,6 +12,10 @@ for package in "${packages[@]}"; do
     fi
 done
 if [ ${#missing[@]} -gt 0 ]; then
+    if [ "${1:-}" != --install ]; then
+        echo "bench: the peers need more packages. As root: apt-get install --no-install-recommends ${missing[*]}" >&2
+        exit 1
+    fi
     apt-get install -y --no-install-recommends "${missing[@]}"
 fi
 

@@ -1,7 +1,8 @@
 #!/usr/bin/env bash
-# Runs the programs `list` and `assemble` on inputs that come, end and fail in every way, which the stored ones can't all do.
+# Runs the programs `list` and `assemble` on inputs that come, end and fail in every way, which the stored ones can't all do,
+# and the demo.
 # Most are cut from the stored input, and what must come is cut from the stored output, which other tools have made; the
-# rest is written out here. `rt check list assemble` builds the programs.
+# rest is written out here. `rt check list assemble replay` builds the programs.
 set -uo pipefail
 cd "$(dirname "${BASH_SOURCE[0]}")/.." || exit 1
 room=$(mktemp -d) || exit 1
@@ -155,6 +156,23 @@ for bytes in 29 30 31 34 35 36 106 107 255 256 257 4095 4096 4097 70000; do
     try_lines "$long\n$GOOD\n" "$NO_ANSWER$GOOD_ANSWER" "a line of $bytes bytes and a good one"
     try_lines "$GOOD\n$long" "$GOOD_ANSWER$NO_ANSWER" "a good line, and one of $bytes bytes without its newline"
 done
+
+# ---- what the demo hands to the programs, and what the README shows of it
+
+for input in list:words:lines replay:cases:outcomes; do
+    IFS=: read -r program given expected <<< "$input"
+    cp "examples/login.$given" "$room/given"
+    cp "examples/login.$expected" "$room/expected"
+    try "$program" "examples/login.$given"
+done
+
+tried=$((tried + 1))
+sed -n '/^    bash examples\/demo.sh$/,/^[^ ]/ s/^    //p' README.md | tail -n +2 > "$room/expected"
+if ! bash examples/demo.sh 2> "$room/said" | grep . | cmp - "$room/expected"; then
+    echo "programs: the demo doesn't write what the README shows; it said:"
+    cat "$room/said"
+    failed=$((failed + 1))
+fi
 
 # ---- the verdict
 

@@ -230,6 +230,15 @@ pc 0x8008
     assert_eq!(call(&["run"], b"prfm pldl1keep, [x1]\n").status, Some(0));
 }
 
+/// The README shows the beginning of what the example writes.
+#[test]
+fn runs_the_example() {
+    let ended = call(&["run", &stored("examples/login.case")], b"");
+    let shown: String = ended.wrote.lines().take(3).map(|line| format!("    {line}\n")).collect();
+    assert!(fs::read_to_string(stored("README.md")).unwrap().contains(&shown), "{shown}");
+    assert_eq!(ended.status, Some(1));
+}
+
 #[test]
 fn a_wrong_case_is_named_by_its_line() {
     let wrong = [
