@@ -11,9 +11,29 @@ if [ -z "${MILESTARLING_LIB:-}" ]; then
 else
     echo "bindings: the library is that of MILESTARLING_LIB, $MILESTARLING_LIB"
 fi
+room=$(mktemp -d)
+trap 'rm -rf "$room"' EXIT
 plugins=("$PWD"/examples/plugin/{compare,compare_early,look_up}.bin)
 expected=$PWD/tests/plugin.expected
 cd bindings/rust
 cargo test --release --offline "$@"
 cargo run --quiet --release --offline --example plugin "${plugins[@]}" | diff - "$expected"
 echo "bindings: the example plugin.rs wrote what tests/plugin.expected has"
+
+# What the README prints for Rust, as it is printed, in a function that may fail; it lists no bytes.
+{
+    echo 'fn main() -> Result<(), Box<dyn std::error::Error>> {'
+    sed -n '/^\*\*From Rust\*\*/,/^\*\*From Rattle\*\*/ s/^    //p' ../../README.md
+    echo 'Ok(()) }'
+} > "$room/readme.rs"
+cargo build --quiet --release --offline --lib
+rustc --edition 2021 -D warnings -L "dependency=$CARGO_TARGET_DIR/release/deps" \
+    --extern "milestarling=$CARGO_TARGET_DIR/release/libmilestarling.rlib" -o "$room/readme" "$room/readme.rs"
+"$room/readme" < /dev/null | diff - <(echo "load of 8 at 0x1008")
+echo "bindings: what the README prints for Rust was compiled and run"
+
+if [ -z "${MILESTARLING_LIB:-}" ]; then
+    bash ../../tools/install.sh --command "$room/prefix" > "$room/said" 2>&1 || { cat "$room/said"; exit 1; }
+    "$room/prefix/bin/milestarling" word f9400420 | diff - <(printf 'f9400420\tldr x0, [x1, #8]\t0\n')
+    echo "bindings: an installed command lists a word"
+fi

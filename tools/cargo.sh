@@ -2,7 +2,7 @@
 # missing or too old Rust is said by name.
 rust_needed=1.70
 if ! command -v cargo > /dev/null; then
-    echo "cargo isn't there: the Rust package needs Rust $rust_needed or later (https://rustup.rs, or Debian's cargo)" >&2
+    echo "cargo isn't there: the Rust package needs Rust $rust_needed or later, from https://rustup.rs" >&2
     exit 1
 fi
 # A cargo of rustup's looks for its compiler below HOME, which may be another than the one that it was put in.
