@@ -10,7 +10,7 @@ mod reference;
 #[path = "../tests/support/mod.rs"]
 mod support;
 
-use milestarling::{list, raw, Machine, Register, LINE_MAX};
+use milestarling::{list, raw, Machine, Memory, Register, TaintedBytes, LINE_MAX};
 use reference::decoding::{decode, Family, Operation};
 use reference::running::{self, State, Window};
 use std::collections::BTreeMap;
@@ -131,7 +131,8 @@ impl Load {
     /// One pass by the safe type, a step for each word.
     fn by_machine(&mut self) -> u64 {
         let window = milestarling::Window::at(WINDOW.origin).readonly(WINDOW.readonly);
-        let mut machine = Machine::new(window, &mut self.memory[..], &mut self.taint[..]);
+        let lent = TaintedBytes { bytes: &mut self.memory[..], taint: &mut self.taint[..] };
+        let mut machine = Machine::new(Memory::new(window, lent));
         for (register, &value) in Register::all().zip(&self.state.registers) {
             machine.registers.set(register, value, false);
         }

@@ -8,7 +8,7 @@
 //!
 //! runs the file with two passwords, and prints what a log would have of each run: the trace, and how it ended.
 
-use milestarling::{Answer, Memory, Register, Registers, Window};
+use milestarling::{Answer, Memory, Register, Registers, TaintedBytes, Window};
 use std::io::{self, Write};
 use std::path::Path;
 use std::{env, fs};
@@ -112,7 +112,7 @@ impl Host {
 
 /// Runs a plugin's words until it returns, and writes the trace.
 fn run(words: &[u32], password: &[u8; 8], log: &mut impl Write) -> io::Result<()> {
-    let mut memory = Memory::new(Window::at(GIVEN), [0; 32], [1; 32]);
+    let mut memory = Memory::new(Window::at(GIVEN), TaintedBytes { bytes: [0; 32], taint: [1; 32] });
     let mut host = Host { registers: Registers::new(), zero: (0, false) };
     memory.write(GIVEN, password, true).expect("it has a place");
     memory.write(STORED, b"sesame42", true).expect("it has a place");

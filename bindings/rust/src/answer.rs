@@ -154,9 +154,9 @@ impl From<Answer> for u64 {
 /// effects stay, and the refused step has none.
 ///
 /// ```
-/// use milestarling::{Answer, Machine, Window};
+/// use milestarling::{Answer, Machine, Memory, Window};
 ///
-/// let mut machine = Machine::new(Window::at(4096), vec![0; 16], vec![0; 16]);
+/// let mut machine = Machine::new(Memory::zeroed(Window::at(4096), 16));
 /// let refusal = machine.step(0xf9400020).unwrap_err(); // ldr x0, [x1], with 0 in x1
 /// assert_eq!(refusal.answer(), Answer::OutOfWindow);
 /// assert_eq!(refusal.address(), Some(0));

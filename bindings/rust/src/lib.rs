@@ -23,10 +23,10 @@
 //! # An example
 //!
 //! ```
-//! use milestarling::{Instruction, Machine, Register, Window};
+//! use milestarling::{Instruction, Machine, Memory, Register, Window};
 //!
 //! # fn main() -> Result<(), milestarling::Refusal> {
-//! let mut machine = Machine::new(Window::at(4096), vec![0; 64], vec![0; 64]);
+//! let mut machine = Machine::new(Memory::zeroed(Window::at(4096), 64));
 //! machine.registers.set(Register::SP, 4096 + 64, false);
 //! machine.registers.set(Register::X19, 0x1234, false);
 //!
@@ -53,7 +53,7 @@ mod text;
 
 pub use answer::{Answer, Refusal, UnknownAnswer};
 pub use image::{words, Words};
-pub use machine::{step_in, Access, Machine, Memory, Run, Window};
+pub use machine::{step_in, Access, Machine, Memory, Run, TaintedBytes, Window};
 pub use registers::{Register, Registers, UnknownRegister};
 pub use stream::{Lister, ListingWriter};
 pub use text::{list, listing, Instruction, LINE_MAX};

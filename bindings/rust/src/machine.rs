@@ -67,17 +67,28 @@ impl fmt::Display for Access {
     }
 }
 
+/// Bytes, and a taint byte for each, where any but 0 means tainted: by name, so that neither is taken for the other.
+///
+/// `M` and `T` are whatever holds them: a `Vec<u8>` or an array that is owned, or a `&mut [u8]` that is lent.
+#[derive(Clone, Copy)]
+pub struct TaintedBytes<M, T> {
+    /// The bytes.
+    pub bytes: M,
+    /// Their taint bytes.
+    pub taint: T,
+}
+
 /// One region of memory with its taints, on which steps and runs are done for any [`Registers`].
 ///
-/// `M` and `T` are whatever holds the bytes: a `Vec<u8>` or an array that is owned, or a `&mut [u8]` that is lent. In the
-/// taint buffer any byte but 0 means tainted; a store leaves 0 or 1.
+/// It owns its bytes and their taint bytes, or they are lent to it. A store leaves 0 or 1 in a taint byte.
 ///
 /// ```
-/// use milestarling::{Answer, Memory, Register, Registers, Window};
+/// use milestarling::{Memory, Register, Registers, TaintedBytes, Window};
 ///
 /// # fn main() -> Result<(), milestarling::Refusal> {
 /// let (mut bytes, mut taint) = ([0; 16], [0; 16]);
-/// let mut memory = Memory::new(Window::at(4096).readonly(8), &mut bytes[..], &mut taint[..]);
+/// let lent = TaintedBytes { bytes: &mut bytes[..], taint: &mut taint[..] };
+/// let mut memory = Memory::new(Window::at(4096).readonly(8), lent);
 /// memory.write(4104, b"key", true)?;
 ///
 /// let mut registers = Registers::new();
@@ -95,11 +106,18 @@ pub struct Memory<M, T> {
     taint: T,
 }
 
+impl Memory<Vec<u8>, Vec<u8>> {
+    /// So many bytes, all 0 and none tainted.
+    pub fn zeroed(window: Window, length: usize) -> Memory<Vec<u8>, Vec<u8>> {
+        Memory::new(window, TaintedBytes { bytes: vec![0; length], taint: vec![0; length] })
+    }
+}
+
 impl<M: AsRef<[u8]> + AsMut<[u8]>, T: AsRef<[u8]> + AsMut<[u8]>> Memory<M, T> {
     /// Memory of these bytes. Nothing is tested here: a window that doesn't fit is answered by each step and run with
     /// [`Answer::BadWindow`].
-    pub fn new(window: Window, bytes: M, taint: T) -> Memory<M, T> {
-        Memory { window, bytes, taint }
+    pub fn new(window: Window, parts: TaintedBytes<M, T>) -> Memory<M, T> {
+        Memory { window, bytes: parts.bytes, taint: parts.taint }
     }
 
     /// The bytes.
@@ -113,13 +131,13 @@ impl<M: AsRef<[u8]> + AsMut<[u8]>, T: AsRef<[u8]> + AsMut<[u8]>> Memory<M, T> {
     }
 
     /// The bytes and their taint bytes, to be changed by the host, both at once.
-    pub fn parts_mut(&mut self) -> (&mut [u8], &mut [u8]) {
-        (self.bytes.as_mut(), self.taint.as_mut())
+    pub fn parts_mut(&mut self) -> TaintedBytes<&mut [u8], &mut [u8]> {
+        TaintedBytes { bytes: self.bytes.as_mut(), taint: self.taint.as_mut() }
     }
 
     /// Gives back what holds the bytes and the taint bytes.
-    pub fn into_parts(self) -> (M, T) {
-        (self.bytes, self.taint)
+    pub fn into_parts(self) -> TaintedBytes<M, T> {
+        TaintedBytes { bytes: self.bytes, taint: self.taint }
     }
 
     /// Whether there is a byte at an address.
@@ -210,8 +228,8 @@ impl<M: AsRef<[u8]>, T> fmt::Debug for Memory<M, T> {
 /// use milestarling::{step_in, Answer, Memory, Register, Registers, Window};
 ///
 /// let mut regions = [
-///     Memory::new(Window::at(0x1000).readonly(16), vec![1; 16], vec![0; 16]), // constants
-///     Memory::new(Window::at(0x8000), vec![2; 64], vec![0; 64]),              // a stack
+///     Memory::zeroed(Window::at(0x1000).readonly(16), 16), // constants
+///     Memory::zeroed(Window::at(0x8000), 64),              // a stack
 /// ];
 /// let mut registers = Registers::new();
 /// registers.set(Register::X1, 0x1000, false);
@@ -230,7 +248,7 @@ pub fn step_in<M: AsRef<[u8]> + AsMut<[u8]>, T: AsRef<[u8]> + AsMut<[u8]>>(
     registers: &mut Registers,
     word: u32,
 ) -> Result<Access, Refusal> {
-    let tried = Memory::new(Window::default(), [], []).step(registers, word);
+    let tried = Memory::new(Window::default(), TaintedBytes { bytes: [], taint: [] }).step(registers, word);
     let Err(refusal) = tried else { return tried };
     match regions.iter_mut().find(|region| refusal.outside().is_some_and(|address| region.holds(address))) {
         Some(region) => region.step(registers, word),
@@ -241,10 +259,10 @@ pub fn step_in<M: AsRef<[u8]> + AsMut<[u8]>, T: AsRef<[u8]> + AsMut<[u8]>>(
 /// Registers and one region of memory.
 ///
 /// ```
-/// use milestarling::{Access, Answer, Machine, Register, Window};
+/// use milestarling::{Access, Answer, Machine, Memory, Register, Window};
 ///
 /// # fn main() -> Result<(), milestarling::Refusal> {
-/// let mut machine = Machine::new(Window::at(4096).readonly(8), vec![0; 16], vec![0; 16]);
+/// let mut machine = Machine::new(Memory::zeroed(Window::at(4096).readonly(8), 16));
 /// machine.memory.write(4104, b"key", true)?;
 /// machine.registers.set(Register::X1, 4096, false);
 ///
@@ -268,9 +286,9 @@ pub struct Machine<M: AsRef<[u8]>, T> {
 }
 
 impl<M: AsRef<[u8]> + AsMut<[u8]>, T: AsRef<[u8]> + AsMut<[u8]>> Machine<M, T> {
-    /// A machine with all registers 0, and memory as of [`Memory::new`].
-    pub fn new(window: Window, bytes: M, taint: T) -> Machine<M, T> {
-        Machine { registers: Registers::new(), memory: Memory::new(window, bytes, taint) }
+    /// A machine with all registers 0 and none tainted.
+    pub fn new(memory: Memory<M, T>) -> Machine<M, T> {
+        Machine { registers: Registers::new(), memory }
     }
 
     /// Does one word, as [`Memory::step`] does.
@@ -289,9 +307,9 @@ impl<M: AsRef<[u8]> + AsMut<[u8]>, T: AsRef<[u8]> + AsMut<[u8]>> Machine<M, T> {
     /// Those of [`Memory::run`].
     ///
     /// ```
-    /// use milestarling::{Access, Answer, Machine, Register, Window};
+    /// use milestarling::{Access, Answer, Machine, Memory, Register, Window};
     ///
-    /// let mut machine = Machine::new(Window::at(4096), vec![1; 32], vec![0; 32]);
+    /// let mut machine = Machine::new(Memory::zeroed(Window::at(4096), 32));
     /// machine.registers.set(Register::SP, 4128, false);
     /// let words = [
     ///     0xa9bf7bfd, // stp x29, x30, [sp, #-16]!

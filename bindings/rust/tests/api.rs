@@ -1,7 +1,8 @@
 //! 01's own examples, and the package's types, by their safe names.
 
 use milestarling::{
-    listing, raw, step_in, words, Access, Answer, Instruction, Machine, Memory, Refusal, Register, Registers, Window,
+    listing, raw, step_in, words, Access, Answer, Instruction, Machine, Memory, Refusal, Register, Registers,
+    TaintedBytes, Window,
 };
 use std::array::from_fn;
 use std::error::Error;
@@ -37,9 +38,14 @@ fn example_of_a_listing() {
     assert_eq!(listing(&[]), "");
 }
 
+/// Bytes from 1 to 16, none tainted.
+fn of_16(window: Window) -> Memory<Vec<u8>, Vec<u8>> {
+    Memory::new(window, TaintedBytes { bytes: (1..=16).collect(), taint: vec![0; 16] })
+}
+
 /// Origin 4096, len 16, r 4, X1 = 4101, byte 128 at 4100, and other bytes elsewhere.
 fn example() -> Machine<Vec<u8>, Vec<u8>> {
-    let mut machine = Machine::new(Window::at(4096).readonly(4), (1..=16).collect(), vec![0; 16]);
+    let mut machine = Machine::new(of_16(Window::at(4096).readonly(4)));
     machine.memory.write(4100, &[128], false).unwrap();
     machine.registers.set(Register::X1, 4101, false);
     machine
@@ -70,7 +76,7 @@ fn examples_of_refusals() {
     assert!(at(store, 4100).is_ok());
     assert_eq!(at(0xa940_0020, 4096), Err(Answer::Unpredictable));
 
-    let mut machine = Machine::new(Window::at(16u64.wrapping_neg()), (1..=16).collect::<Vec<u8>>(), vec![0; 16]);
+    let mut machine = Machine::new(of_16(Window::at(16u64.wrapping_neg())));
     // ldurb, ldurh and ldapurh w0, [x1, #-1], with 0 in x1
     assert_eq!(machine.step(0x385f_f020), Ok(Access { code: 1, address: u64::MAX }));
     assert_eq!(machine.registers.get(Register::X0).0, 16);
@@ -101,7 +107,8 @@ fn a_stack_pointer_is_aligned() {
 fn lent_memory_is_changed_in_place() {
     let (mut memory, mut taint): ([u8; 16], [u8; 16]) = (from_fn(|at| 50 + at as u8), from_fn(|at| 7 + at as u8));
     let (mut left, mut left_taint) = (memory, taint);
-    let mut machine = Machine::new(Window::at(0), &mut memory[..], &mut taint[..]);
+    let lent = TaintedBytes { bytes: &mut memory[..], taint: &mut taint[..] };
+    let mut machine = Machine::new(Memory::new(Window::at(0), lent));
     machine.registers.set(Register::X0, 0x0102, false);
     assert_eq!(machine.step(0x7900_0020), Ok(Access { code: 66, address: 0 })); // strh w0, [x1]
     let registers = machine.registers;
@@ -214,7 +221,7 @@ fn a_value_goes_with_its_taint() {
 #[test]
 fn a_host_that_drops_a_taint_shows_the_secret() {
     let run = |letter: u8, carried: bool| {
-        let mut memory = Memory::new(Window::at(0x1000), vec![0; 32], vec![0; 32]);
+        let mut memory = Memory::zeroed(Window::at(0x1000), 32);
         memory.write(0x1000, &[letter], true).unwrap();
         let mut registers = Registers::new();
         registers.set(Register::X0, 0x1000, false);
@@ -232,7 +239,7 @@ fn a_host_that_drops_a_taint_shows_the_secret() {
 
 #[test]
 fn bytes_are_put_with_their_taint() {
-    let mut memory = Memory::new(Window::at(u64::MAX - 7).readonly(8), [0; 8], [9; 8]);
+    let mut memory = Memory::new(Window::at(u64::MAX - 7).readonly(8), TaintedBytes { bytes: [0; 8], taint: [9; 8] });
     assert!(memory.write(u64::MAX - 1, &[1, 2], false).is_ok());
     assert!(memory.write(u64::MAX - 7, &[3], true).is_ok());
     assert_eq!((memory.bytes(), memory.taint()), (&[3, 0, 0, 0, 0, 0, 1, 2][..], &[1, 9, 9, 9, 9, 9, 0, 0][..]));
@@ -243,14 +250,15 @@ fn bytes_are_put_with_their_taint() {
         assert_eq!((refusal.answer(), refusal.address()), (Answer::OutOfWindow, Some(address)));
         assert_eq!((before.bytes(), before.taint()), (memory.bytes(), memory.taint()));
     }
-    let mut short = Memory::new(Window::at(0), [0; 8], [0; 7]);
+    let mut short = Memory::new(Window::at(0), TaintedBytes { bytes: [0; 8], taint: [0; 7] });
     assert_eq!(short.write(0, &[1], false).unwrap_err().answer(), Answer::BadWindow);
 }
 
 #[test]
 fn a_step_finds_its_region() {
-    let region =
-        |origin, readonly, byte| Memory::new(Window::at(origin).readonly(readonly), vec![byte; 32], vec![0; 32]);
+    let region = |origin, readonly, byte| {
+        Memory::new(Window::at(origin).readonly(readonly), TaintedBytes { bytes: vec![byte; 32], taint: vec![0; 32] })
+    };
     let mut regions = [region(0x1000, 32, 1), region(0x1020, 0, 2), region(16u64.wrapping_neg() - 16, 0, 3)];
     let mut registers = Registers::new();
     let mut at = |address, word| {
@@ -311,10 +319,10 @@ fn registers_are_those_of_every_entry() {
     let mut theirs = ours.clone();
     ours.step(0x385f_f020).unwrap();
     let (values, taints) = theirs.registers.as_raw_mut();
-    let (bytes, taint) = theirs.memory.parts_mut();
+    let TaintedBytes { bytes, taint } = theirs.memory.parts_mut();
     let reply = raw::run(&[0x385f_f020], values, taints, 4096, 4, bytes, taint, &mut [0; 2]);
     assert_eq!((reply.answer, reply.steps), (0, 1));
     assert!(ours.registers == theirs.registers);
-    let (bytes, taint) = ours.memory.into_parts();
+    let TaintedBytes { bytes, taint } = ours.memory.into_parts();
     assert_eq!((&bytes[..], &taint[..]), (theirs.memory.bytes(), theirs.memory.taint()));
 }

@@ -2,7 +2,7 @@
 
 use crate::input::{Failure, Source};
 use crate::{hexadecimal, number};
-use milestarling::{Access, Instruction, Machine, Register, Registers, Window};
+use milestarling::{Access, Instruction, Machine, Memory, Register, Registers, TaintedBytes, Window};
 use std::io::{self, Write};
 
 /// The most bytes of memory that a case may have.
@@ -95,7 +95,7 @@ pub fn run(mut source: Source, secrets: bool, output: &mut impl Write) -> Result
         case.statement(&line).map_err(|said| source.wrong(format!("line {number}: {said}")))?;
     }
     let Case { registers, window, bytes, taint, words } = case;
-    let mut machine = Machine::new(window, bytes, taint);
+    let mut machine = Machine::new(Memory::new(window, TaintedBytes { bytes, taint }));
     machine.registers = registers;
     let mut trace = vec![Access::default(); words.len()];
     let ran = machine.run(&words, &mut trace);
