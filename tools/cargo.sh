@@ -1,3 +1,4 @@
+# shellcheck shell=bash
 # Sourced at the top of the repository by the scripts that run cargo: all that it writes stands below target/, and a
 # missing or too old Rust is said by name.
 rust_needed=1.70
