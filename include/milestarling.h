@@ -1,8 +1,9 @@
 /*
  * Milestarling for C and C++: the loads and stores of an AArch64 emulator, their text, and their listing.
  *
- * `bash tools/library.sh` builds target/staticlib/libmilestarling.a, for x86-64 Linux with glibc; `bash tools/install.sh
- * PREFIX` puts it, this header and a file for pkg-config below a prefix. It calls nothing but memcpy and memset.
+ * `bash tools/library.sh` builds target/staticlib/libmilestarling.a, for x86-64 Linux; `bash tools/install.sh
+ * PREFIX` puts it, this header and a file for pkg-config below a prefix. It calls nothing but memcpy, memmove, memset and
+ * memcmp, which every compiler takes for granted, and can be linked into a shared object.
  *
  * The host's own duty: taints (documents 01 and 02 call them marks) follow a value through the loads and stores that are
  * done here, and nowhere else. A host that computes between two calls (add, and, mov, ..) must carry them itself: the
