@@ -277,8 +277,8 @@ pub fn step_in<M: AsRef<[u8]> + AsMut<[u8]>, T: AsRef<[u8]> + AsMut<[u8]>>(
 /// # Ok(())
 /// # }
 /// ```
-#[derive(Clone, Debug)]
-pub struct Machine<M: AsRef<[u8]>, T> {
+#[derive(Clone)]
+pub struct Machine<M, T> {
     /// The registers.
     pub registers: Registers,
     /// The memory.
@@ -324,6 +324,12 @@ impl<M: AsRef<[u8]> + AsMut<[u8]>, T: AsRef<[u8]> + AsMut<[u8]>> Machine<M, T> {
     /// ```
     pub fn run(&mut self, words: &[u32], trace: &mut [Access]) -> Result<Run, Refusal> {
         self.memory.run(&mut self.registers, words, trace)
+    }
+}
+
+impl<M: AsRef<[u8]>, T> fmt::Debug for Machine<M, T> {
+    fn fmt(&self, f: &mut fmt::Formatter<'_>) -> fmt::Result {
+        f.debug_struct("Machine").field("registers", &self.registers).field("memory", &self.memory).finish()
     }
 }
 
