@@ -1,0 +1,74 @@
+// A session's record, which its host keeps, lent and changed in place: by a step, and by setting one register. Both copy
+// the record out, call the form by value, and store what it returns back whole.
+use machine::State;
+use machine::Window;
+ghost use mathlib.Core.Path.{_≡_};
+ghost use Rattle.session.specs.Lent.{withRegister, replied, lentStep};
+
+// What a step says beside the record that it leaves, the answer by its number.
+#[repr(C)]
+pub struct StepReply {
+    pub answer: u64,
+    pub code: u64,
+    pub address: u64,
+}
+
+struct Replied {
+    state: State,
+    reply: StepReply,
+}
+
+#[no_mangle]
+pub extern "C" fn milestarling_step(
+    word: u32,
+    state: &mut State,
+    origin: u64,
+    readonly: u64,
+    memory: &mut [u8],
+    taint: &mut [u8],
+) -> StepReply
+    ensures { λ r. ⌜ replied (now (state .exit)) r (now (memory .exit)) (now (taint .exit)) ≡ lentStep word (record { origin = origin; readonly = readonly }) (now (state .entry)) (now (memory .entry)) (now (taint .entry)) ⌝ }
+{
+    let stepped = step_replied(word, *state, origin, readonly, memory, taint);
+    *state = stepped.state;
+    stepped.reply
+}
+
+#[no_mangle]
+pub extern "C" fn milestarling_set_register(state: &mut State, n: u32, value: u64, mark: u8)
+    ensures { λ _. ⌜ now (state .exit) ≡ withRegister n value mark (now (state .entry)) ⌝ }
+{
+    *state = with_register(*state, n, value, mark);
+}
+
+fn step_replied(
+    word: u32,
+    state: State,
+    origin: u64,
+    readonly: u64,
+    memory: &mut [u8],
+    taint: &mut [u8],
+) -> Replied
+    ensures { λ r. ⌜ replied (r .state) (r .reply) (now (memory .exit)) (now (taint .exit)) ≡ lentStep word (record { origin = origin; readonly = readonly }) state (now (memory .entry)) (now (taint .entry)) ⌝ }
+{
+    let stepped = machine::step(word, state, Window { origin, readonly }, memory, taint);
+    let answer = stepped.answer;
+    let after = stepped.state;
+    Replied {
+        state: after,
+        reply: StepReply {
+            answer: instruction::answer_number(answer) as u64,
+            code: stepped.shown.code,
+            address: stepped.shown.address,
+        },
+    }
+}
+
+fn with_register(state: State, n: u32, value: u64, mark: u8) -> State
+    ensures { λ r. ⌜ r ≡ withRegister n value mark state ⌝ }
+{
+    let file = state.registers;
+    let mut next = state;
+    next.registers = file.set(n, value, mark != 0);
+    next
+}
