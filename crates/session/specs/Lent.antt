@@ -1,31 +1,37 @@
--- A step, and setting one register, from a record that is lent: what the forms by value return: 02, CR 9.
+-- A record that is lent to a step, and to setting one register, is left as the forms by value return it: 02, CR 9.
 use Prim.Native.Nat.{ℕ}
 use mathlib.Core.Bool.{not}
 use mathlib.Core.List.{List}
 use lib.Dec.{eqb}
+use Rattle.instruction.specs.declared.answer.Answer.{Answer}
 use Rattle.instruction.specs.Answers.{answerNumber}
 use Rattle.registers.specs.File.{setAt}
 use Rattle.plan.specs.declared.window.Window.{Window}
 use Rattle.machine.specs.Machine.{Machine, machineOf}
 use Rattle.machine.specs.Step.{Outcome, stepOf, leaves}
 use Rattle.machine.specs.declared.State.{State}
+use Rattle.machine.specs.declared.Shown.{Shown}
 use Rattle.session.specs.declared.StepReply.{StepReply}
 
--- all that a step returns and leaves
+-- all that a step returns and leaves: the record, memory and taint bytes are a machine
 pub record Lent : Type 0 where
   pub machine : Machine
   pub reply : StepReply
 
-abbrev pub replied : State → StepReply → List ℕ → List ℕ → Lent
-replied s r memory taint = record { machine = machineOf s memory taint; reply = r }
+abbrev pub lent : State → StepReply → List ℕ → List ℕ → Lent
+lent s r memory taint = record { machine = machineOf s memory taint; reply = r }
 
--- the answer by its number
+-- an answer crosses as its number
+abbrev pub replyOf : Answer → Shown → StepReply
+replyOf answer shown = record { answer = answerNumber answer; code = shown .code; address = shown .address }
+
 abbrev pub lentOf : Outcome Machine → Lent
-lentOf o = record { machine = o .machine; reply = record { answer = answerNumber (o .answer); code = o .shown .code; address = o .shown .address } }
+lentOf o = record { machine = o .machine; reply = replyOf (o .answer) (o .shown) }
 
-abbrev pub lentStep : ℕ → Window → State → List ℕ → List ℕ → Lent
-lentStep word w s memory taint = lentOf (leaves (stepOf w word) (machineOf s memory taint))
+-- what the step by value leaves and says
+abbrev pub lentStep : Window → ℕ → State → List ℕ → List ℕ → Lent
+lentStep w word s memory taint = lentOf (leaves (stepOf w word) (machineOf s memory taint))
 
--- any mark but 0 is one
+-- 01: "the whole file with one register changed, value and mark"; any mark but 0 is one
 unfoldable pub withRegister : ℕ → ℕ → ℕ → State → State
 withRegister n value mark s = record { registers = setAt (s .registers) n value (not (eqb mark 0)); pc = s .pc }

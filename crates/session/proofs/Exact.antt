@@ -1,0 +1,26 @@
+-- The lent forms leave exactly what the forms by value return: whatever meets the contract of the one is what meets that
+-- of the other, since a machine of a record determines the record.
+use Prim.Native.Nat.{ℕ}
+use mathlib.Core.Path.{_≡_, ap, sym, _∙_}
+use mathlib.Core.List.{List}
+use Rattle.registers.specs.declared.Registers.{Registers}
+use Rattle.registers.specs.File.{setAt}
+use Rattle.plan.specs.declared.window.Window.{Window}
+use Rattle.machine.specs.Machine.{Machine, machineOf}
+use Rattle.machine.specs.Step.{outcome, stepOf, leaves}
+use Rattle.machine.specs.declared.State.{State}
+use Rattle.machine.specs.declared.Stepped.{Stepped}
+use Rattle.session.specs.Lent.{Lent, lent, lentOf, lentStep, replyOf, withRegister}
+use Rattle.session.specs.declared.StepReply.{StepReply}
+
+-- the record whose machine it is
+abbrev stateIn : Machine → State
+stateIn m = record { registers = record { value = m .values; taint = m .taints .registers }; pc = m .pc }
+
+pub step-exact : (w : Window) (word : ℕ) (before after : State) (m k m′ k′ m″ k″ : List ℕ) (r : Stepped) (reply : StepReply)
+    → outcome r m′ k′ ≡ leaves (stepOf w word) (machineOf before m k)
+    → lent after reply m″ k″ ≡ lentStep w word before m k
+    → (after ≡ r .state) × (m″ ≡ m′) × (k″ ≡ k′) × (reply ≡ replyOf (r .answer) (r .shown))
+step-exact w word before after m k m′ k′ m″ k″ r reply by-value in-place =
+    let same : lent after reply m″ k″ ≡ lentOf (outcome r m′ k′) = in-place ∙ sym (ap lentOf by-value) in
+    (ap (λ (l : Lent). stateIn (l .machine)) same, ap (λ (l : Lent). l .machine .memory) same, ap (λ (l : Lent). l .machine .taints .bytes) same, ap (λ (l : Lent). l .reply) same)
