@@ -15,7 +15,7 @@ use Rattle.session.specs.declared.StepReply.{StepReply}
 
 -- the record whose machine it is
 abbrev stateIn : Machine → State
-stateIn m = record { registers = record { value = m .values; taint = m .taints .registers }; pc = m .pc }
+stateIn m = record { registers = record { value = m .values; taint = m .taints .registers }; pc = m .pc; monitor = m .monitor }
 
 pub step-exact : (w : Window) (word : ℕ) (before after : State) (m k m′ k′ m″ k″ : List ℕ) (r : Stepped) (reply : StepReply)
     → outcome r m′ k′ ≡ leaves (stepOf w word) (machineOf before m k)

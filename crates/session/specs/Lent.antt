@@ -1,10 +1,9 @@
 -- A record that is lent to a step, and to setting one register, is left as the forms by value return it: 02, CR 9.
 use Prim.Native.Nat.{ℕ}
-use mathlib.Core.Bool.{not}
 use mathlib.Core.List.{List}
-use lib.Dec.{eqb}
 use Rattle.instruction.specs.declared.answer.Answer.{Answer}
 use Rattle.instruction.specs.Answers.{answerNumber}
+use Rattle.memory.specs.Taints.{tainted}
 use Rattle.registers.specs.File.{setAt}
 use Rattle.plan.specs.declared.window.Window.{Window}
 use Rattle.machine.specs.Machine.{Machine, machineOf}
@@ -23,7 +22,7 @@ lent s r memory taint = record { machine = machineOf s memory taint; reply = r }
 
 -- an answer crosses as its number
 abbrev pub replyOf : Answer → Shown → StepReply
-replyOf answer shown = record { answer = answerNumber answer; code = shown .code; address = shown .address }
+replyOf answer shown = record { answer = answerNumber answer; code = shown .code; address = shown .address; status = shown .status }
 
 abbrev pub lentOf : Outcome Machine → Lent
 lentOf o = record { machine = o .machine; reply = replyOf (o .answer) (o .shown) }
@@ -34,4 +33,4 @@ lentStep w word s memory taint = lentOf (leaves (stepOf w word) (machineOf s mem
 
 -- 01: "the whole file with one register changed, value and mark"; any mark but 0 is one
 unfoldable pub withRegister : ℕ → ℕ → ℕ → State → State
-withRegister n value mark s = record { registers = setAt (s .registers) n value (not (eqb mark 0)); pc = s .pc }
+withRegister n value mark s = record { registers = setAt (s .registers) n value (tainted mark); pc = s .pc; monitor = s .monitor }

@@ -5,12 +5,14 @@ use machine::Window;
 ghost use mathlib.Core.Path.{_≡_};
 ghost use Rattle.session.specs.Lent.{withRegister, lent, lentStep};
 
-// What a step says beside the record that it leaves, the answer by its number.
+// What a step says beside the record that it leaves, the answer by its number; the status is 0 but for a store-exclusive
+// that fails.
 #[repr(C)]
 pub struct StepReply {
     pub answer: u64,
     pub code: u64,
     pub address: u64,
+    pub status: u64,
 }
 
 struct Replied {
@@ -60,6 +62,7 @@ fn step_replied(
             answer: instruction::answer_number(answer) as u64,
             code: stepped.shown.code,
             address: stepped.shown.address,
+            status: stepped.shown.status as u64,
         },
     }
 }

@@ -6,7 +6,7 @@ use Rattle.session.proofs.step_replied.Statement.{statement}
 use Rattle.session.proofs.step_replied.Tie as tie
 
 returns : tie.Need-returns
-returns c = rw (c .answer-number .ensures .0) (ap lentOf (c .before .before .before .before .before .before .step .ensures))
+returns c = rw (c .before .answer-number .ensures .0) (ap lentOf (c .before .before .before .before .before .before .before .step .ensures))
 
 pub step-replied-spec : {M : Type 1} → statement M
 step-replied-spec =
@@ -14,6 +14,7 @@ step-replied-spec =
     (tie.spec
     (λ c κs. search needs)
     (λ c κs. search needs)
+    (λ c. search needs)
     (λ c. search needs)
     (λ c. search needs)
     (λ c. search needs)
