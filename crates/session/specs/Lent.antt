@@ -4,6 +4,7 @@ use mathlib.Core.List.{List}
 use Rattle.instruction.specs.declared.answer.Answer.{Answer}
 use Rattle.instruction.specs.Answers.{answerNumber}
 use Rattle.memory.specs.Taints.{tainted}
+use Rattle.registers.specs.declared.Registers.{Registers}
 use Rattle.registers.specs.File.{setAt}
 use Rattle.plan.specs.declared.window.Window.{Window}
 use Rattle.machine.specs.Machine.{Machine, machineOf}
@@ -31,6 +32,10 @@ lentOf o = record { machine = o .machine; reply = replyOf (o .answer) (o .shown)
 abbrev pub lentStep : Window → ℕ → State → List ℕ → List ℕ → Lent
 lentStep w word s memory taint = lentOf (leaves (stepOf w word) (machineOf s memory taint))
 
+-- the record with another file
+abbrev pub withFile : Registers → State → State
+withFile file s = record { registers = file; pc = s .pc; monitor = s .monitor }
+
 -- 01: "the whole file with one register changed, value and mark"; any mark but 0 is one
 unfoldable pub withRegister : ℕ → ℕ → ℕ → State → State
-withRegister n value mark s = record { registers = setAt (s .registers) n value (tainted mark); pc = s .pc; monitor = s .monitor }
+withRegister n value mark s = withFile (setAt (s .registers) n value (tainted mark)) s
