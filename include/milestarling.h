@@ -106,6 +106,30 @@ struct milestarling_word_reply {
 };
 
 /*
+ * A session's record, which the host keeps and lends, and which is changed in place: the values of x0 to x30 and sp, a taint
+ * byte for each, pc, and the monitor of exclusive accesses, an address and a size, which is open where the size is 0. One of
+ * zeros is a new one: `struct milestarling_session session = {0};`. Every record is one that a call takes, and gets an
+ * answer; any taint byte but 0 is a taint, and a step leaves 0 or 1 in those that it sets. A host opens the monitor by setting
+ * both of its numbers to 0.
+ */
+struct milestarling_session {
+    uint64_t value[MILESTARLING_REGISTER_TAINTS];
+    uint8_t taint[MILESTARLING_REGISTER_TAINTS];
+    uint64_t pc;
+    uint64_t monitor_address;
+    uint64_t monitor_size;
+};
+
+/* The code, the address and the status of a step, as a run writes them: 0 where the answer isn't, but for the address, which
+   is that of the access with answers 6 to 8, or sp's value. The status is 0 but for a store-exclusive that fails. */
+struct milestarling_step_reply {
+    uint64_t answer;
+    uint64_t code;
+    uint64_t address;
+    uint64_t status;
+};
+
+/*
  * A lister of a stream, which the host keeps and hands on by value from call to call: the bytes behind the last whole
  * word, how many of them count, 0 to 3, and whether it is closed, which any number but 0 says. One of zeros is a new
  * one: `struct milestarling_lister lister = {0};`. Every lister is one that a call takes, and gets an answer.
@@ -143,6 +167,22 @@ struct milestarling_run_reply milestarling_run(
     uint8_t *memory, size_t memory_length,
     uint8_t *taint, size_t taint_length,
     uint64_t *trace, size_t trace_length);
+
+/*
+ * Does one word on a session's record and on memory as milestarling_run has it. Answers 0 to 8; with 1 to 8 nothing is
+ * changed. It is the way to step a word at a time: nothing is converted, and no trace is needed.
+ */
+struct milestarling_step_reply milestarling_step(
+    uint32_t word, struct milestarling_session *session,
+    uint64_t origin, uint64_t readonly,
+    uint8_t *memory, size_t memory_length,
+    uint8_t *taint, size_t taint_length);
+
+/*
+ * Sets x0 to x30 (0 to 30) or sp (31) of a session's record, with its taint, which any byte but 0 is. Any other number changes
+ * nothing.
+ */
+void milestarling_set_register(struct milestarling_session *session, uint32_t number, uint64_t value, uint8_t tainted);
 
 /*
  * Writes the line of text of a word to the start of a buffer, without a zero at its end. Answers 0, 2, 3 or 10;
@@ -255,6 +295,17 @@ static inline struct milestarling_run_reply milestarling_memory_step(
 {
     struct milestarling_access trace[1] = {{0, 0}};
     return milestarling_memory_run(memory, registers, &word, 1, trace, 1);
+}
+
+/* milestarling_step over this struct. */
+static inline struct milestarling_step_reply milestarling_session_step(
+    struct milestarling_memory memory, struct milestarling_session *session, uint32_t word)
+{
+    uint8_t no_bytes[1] = {0}, no_taint[1] = {0};
+    return milestarling_step(
+        word, session, memory.origin, memory.readonly,
+        memory.length != 0 ? memory.bytes : no_bytes, memory.length,
+        memory.length != 0 ? memory.taint : no_taint, memory.length);
 }
 
 /* An answer in words, those of docs/ANSWERS.md. */

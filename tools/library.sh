@@ -1,7 +1,7 @@
 #!/usr/bin/env bash
-# Builds target/staticlib/libmilestarling.a, the library for C and Rust, and proves all that it is made of. rt names the
-# archive after its crate, libhost.a; hosts link it by the project's name. It is built anew unless this very archive was
-# built of these very sources by this kit.
+# Builds target/staticlib/libmilestarling.a, the library for C and Rust, and proves all that it is made of. rt makes an
+# archive of what one crate exports: libhost.a, and libsession.a for the functions over a session's record. Hosts link both as
+# one, by the project's name. It is built anew unless this very archive was built of these very sources by this kit.
 set -euo pipefail
 cd "$(dirname "${BASH_SOURCE[0]}")/.."
 archive=target/staticlib/libmilestarling.a
@@ -18,5 +18,13 @@ if [ -f "$archive" ] && [ -f "$archive.made" ] && built_of | cmp -s - "$archive.
 fi
 rm -f "$archive.made"
 rt staticlib host
-mv target/staticlib/libhost.a "$archive"
+rt staticlib session
+rm -f "$archive"
+ar -M <<END
+create $archive
+addlib target/staticlib/libhost.a
+addlib target/staticlib/libsession.a
+save
+end
+END
 built_of > "$archive.made"
