@@ -1,8 +1,8 @@
-//! The only unsafe code: the six functions of `libmilestarling.a`, and their safe forms over slices.
+//! The only unsafe code: the eight functions of `libmilestarling.a`, and their safe forms over slices.
 
 #![allow(unsafe_code)]
 
-use crate::raw::{Lister, ListerReply, RunReply, TextReply, WordReply};
+use crate::raw::{Lister, ListerReply, RunReply, SessionRecord, StepReply, TextReply, WordReply};
 
 extern "C" {
     fn milestarling_run(
@@ -21,6 +21,17 @@ extern "C" {
         trace: *mut u64,
         trace_len: usize,
     ) -> RunReply;
+    fn milestarling_step(
+        word: u32,
+        session: *mut SessionRecord,
+        origin: u64,
+        readonly: u64,
+        memory: *mut u8,
+        memory_len: usize,
+        taint: *mut u8,
+        taint_len: usize,
+    ) -> StepReply;
+    fn milestarling_set_register(session: *mut SessionRecord, number: u32, value: u64, tainted: u8);
     fn milestarling_text(word: u32, buffer: *mut u8, buffer_len: usize) -> TextReply;
     fn milestarling_word(text: *const u8, text_len: usize) -> WordReply;
     fn milestarling_list(bytes: *const u8, bytes_len: usize, output: *mut u8, output_len: usize) -> TextReply;
@@ -34,7 +45,7 @@ extern "C" {
     fn milestarling_lister_close(lister: Lister, output: *mut u8, output_len: usize) -> ListerReply;
 }
 
-// All six are proved for any numbers and any slices, without a trap and without an endless loop. What is left for a
+// All eight are proved for any numbers and any slices, without a trap and without an endless loop. What is left for a
 // caller to see to is what a slice promises: its bytes are there, and nobody else writes them, or reads what a `&mut`
 // lends, during the call. A Rust slice promises just that, so these functions are safe.
 
@@ -69,6 +80,36 @@ pub(crate) fn run(
             trace.len(),
         )
     }
+}
+
+#[inline]
+pub(crate) fn step(
+    word: u32,
+    session: &mut SessionRecord,
+    origin: u64,
+    readonly: u64,
+    memory: &mut [u8],
+    taint: &mut [u8],
+) -> StepReply {
+    // SAFETY: each pointer and length come from one slice, and the record is of C's layout, of which any bits are one.
+    unsafe {
+        milestarling_step(
+            word,
+            session,
+            origin,
+            readonly,
+            memory.as_mut_ptr(),
+            memory.len(),
+            taint.as_mut_ptr(),
+            taint.len(),
+        )
+    }
+}
+
+#[inline]
+pub(crate) fn set_register(session: &mut SessionRecord, number: u32, value: u64, tainted: u8) {
+    // SAFETY: the record is of C's layout, of which any bits are one.
+    unsafe { milestarling_set_register(session, number, value, tainted) }
 }
 
 #[inline]

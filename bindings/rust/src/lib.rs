@@ -6,6 +6,7 @@
 //!
 //! - [`Machine`] does steps and runs over memory that it owns or borrows, with taints and a trace; [`Memory`] does so for
 //!   [`Registers`] that are lent to it, and [`step_in`] on several regions.
+//! - [`Session`] is one session's record, which is stepped in place, a word at a time.
 //! - [`Instruction`] goes from words to lines of text and back.
 //! - [`words`] goes through an image, word by word.
 //! - [`listing`] lists bytes, and [`Lister`] and [`ListingWriter`] list what comes in fragments.
@@ -48,6 +49,7 @@ mod image;
 mod machine;
 pub mod raw;
 mod registers;
+mod session;
 mod stream;
 mod text;
 
@@ -55,5 +57,6 @@ pub use answer::{Answer, Refusal, UnknownAnswer};
 pub use image::{words, Words};
 pub use machine::{step_in, Access, Machine, Memory, Run, TaintedBytes, Window};
 pub use registers::{Register, Registers, UnknownRegister};
+pub use session::{Monitor, Session, Step};
 pub use stream::{Lister, ListingWriter};
 pub use text::{list, listing, Instruction, LINE_MAX};

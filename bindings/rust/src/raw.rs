@@ -1,4 +1,4 @@
-//! The library's six functions as they are: slices and numbers in, numbers out.
+//! The library's eight functions as they are: slices and numbers in, numbers out.
 //!
 //! For hosts that keep registers, trace and buffers in a layout of their own. Answers are the numbers of documents
 //! 01 and 02; [`Answer::try_from`](crate::Answer) names them. No function here has a condition that its caller must meet.
@@ -24,6 +24,38 @@ pub struct RunReply {
     pub code: u64,
     /// The address of the last access tried; 0 for a prefetch and for answers 1 to 5 and 10.
     pub address: u64,
+}
+
+/// A session's record, which a host keeps and lends to [`step`]. The default is a new one.
+///
+/// Every record is one that a call takes, and gets an answer. [`Session`](crate::Session) is the same with names.
+#[repr(C)]
+#[derive(Clone, Copy, Default, PartialEq, Eq, Hash)]
+pub struct SessionRecord {
+    /// The values of x0 to x30 and SP.
+    pub value: [u64; 32],
+    /// A taint byte for each of them: any but 0 is tainted, and those that a step sets become 0 or 1.
+    pub taint: [u8; 32],
+    /// The program counter.
+    pub pc: u64,
+    /// The address of the monitor.
+    pub monitor_address: u64,
+    /// How many bytes the monitor has; it is open where they are 0.
+    pub monitor_size: u64,
+}
+
+/// What a step returns beside what it leaves in the record and in the slices.
+#[repr(C)]
+#[derive(Clone, Copy, Debug, Default, PartialEq, Eq)]
+pub struct StepReply {
+    /// The answer.
+    pub answer: u64,
+    /// The bytes touched, and 64 more for a store; 0 for a refusal or a prefetch.
+    pub code: u64,
+    /// The address of the access; 0 for a prefetch and for answers 1 to 5.
+    pub address: u64,
+    /// 1 for a store-exclusive that failed, and else 0.
+    pub status: u64,
 }
 
 /// What writing a text or a listing returns.
@@ -110,6 +142,36 @@ pub fn run(
     trace: &mut [u64],
 ) -> RunReply {
     ffi::run(words, registers, register_taints, origin, readonly, memory, taint, trace)
+}
+
+/// Does one word on a session's record, in memory as [`run`] has it. A refused word (answers 1 to 8) changes nothing.
+///
+/// ```
+/// use milestarling::raw::{step, SessionRecord};
+///
+/// let (mut session, mut memory, mut taint) = (SessionRecord::default(), [7; 16], [0; 16]);
+/// session.value[1] = 4096;
+/// let reply = step(0xf9400420, &mut session, 4096, 0, &mut memory, &mut taint); // ldr x0, [x1, #8]
+/// assert_eq!((reply.answer, reply.code, reply.address), (0, 8, 4104));
+/// assert_eq!((session.value[0], session.pc), (0x0707_0707_0707_0707, 4));
+/// ```
+#[inline]
+pub fn step(
+    word: u32,
+    session: &mut SessionRecord,
+    origin: u64,
+    readonly: u64,
+    memory: &mut [u8],
+    taint: &mut [u8],
+) -> StepReply {
+    ffi::step(word, session, origin, readonly, memory, taint)
+}
+
+/// Sets x0 to x30 (0 to 30) or SP (31) of a session's record, with its taint, which any number but 0 is. Any other number
+/// changes nothing.
+#[inline]
+pub fn set_register(session: &mut SessionRecord, number: u32, value: u64, tainted: u8) {
+    ffi::set_register(session, number, value, tainted);
 }
 
 /// Writes the line of a word to the start of a buffer.

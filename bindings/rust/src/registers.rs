@@ -40,6 +40,11 @@ impl Register {
         }
     }
 
+    /// Its place: 0 to 30, and 31 for SP.
+    pub(crate) const fn number(self) -> usize {
+        self.0 as usize
+    }
+
     /// All registers: X0 to X30, then SP.
     pub fn all() -> impl DoubleEndedIterator<Item = Register> + ExactSizeIterator {
         (0..32u8).map(Register)

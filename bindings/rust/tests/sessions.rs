@@ -1,0 +1,139 @@
+//! The session's record: its layout, and steps in place over random records, held against the reference.
+
+mod reference;
+mod support;
+
+use milestarling::raw::{self, SessionRecord, StepReply};
+use milestarling::{Memory, Register, Session, Window as Place};
+use reference::running::{self, State, Window};
+use reference::DONE;
+use std::mem::{align_of, size_of};
+use std::ptr::addr_of;
+use support::{about_power, any_word, Random};
+
+const CASES: usize = 400_000;
+const ORIGIN: u64 = 0x1000;
+const MEMORY: usize = 96;
+
+// As the header has it.
+const _: () = assert!(size_of::<SessionRecord>() == 312 && align_of::<SessionRecord>() == 8);
+const _: () = assert!(size_of::<Session>() == size_of::<SessionRecord>());
+const _: () = assert!(size_of::<StepReply>() == 32 && align_of::<StepReply>() == 8);
+
+#[test]
+fn the_record_is_that_of_the_header() {
+    let record = SessionRecord::default();
+    let start = addr_of!(record) as usize;
+    let places = [
+        addr_of!(record.value) as usize,
+        addr_of!(record.taint) as usize,
+        addr_of!(record.pc) as usize,
+        addr_of!(record.monitor_address) as usize,
+        addr_of!(record.monitor_size) as usize,
+    ];
+    assert_eq!(places.map(|place| place - start), [0, 256, 288, 296, 304]);
+}
+
+/// A record of any bits, of which most bases lead into memory.
+fn any_record(random: &mut Random) -> SessionRecord {
+    let mut record = SessionRecord::default();
+    for value in &mut record.value {
+        *value = match random.below(8) {
+            0 => random.next(),
+            1 => about_power(random),
+            _ => ORIGIN + 8 * random.below(MEMORY / 8) as u64,
+        };
+    }
+    if !random.once_in(8) {
+        record.value[31] &= !15;
+    }
+    random.fill(&mut record.taint);
+    let clear = random.below(16) as u8;
+    record.taint = record.taint.map(|byte| if byte & 15 < clear { 0 } else { byte });
+    record.pc = if random.once_in(64) { random.next() } else { ORIGIN + 4 * random.below(16) as u64 };
+    record.monitor_address = random.next();
+    record.monitor_size = random.next();
+    record
+}
+
+#[test]
+fn a_step_in_place_is_the_reference() {
+    let mut random = Random::new(9);
+    let mut done = 0;
+    for _ in 0..CASES {
+        let (word, before) = (any_word(&mut random), any_record(&mut random));
+        let window = Window { origin: ORIGIN, readonly: random.below(MEMORY + 9) as u64 / 4 };
+        let (mut memory, mut taint) = (vec![0; MEMORY], vec![0; MEMORY - random.once_in(99) as usize]);
+        random.fill(&mut memory);
+        taint.iter_mut().for_each(|byte| *byte = if random.once_in(4) { random.word() as u8 } else { 0 });
+
+        let (mut record, mut ours, mut marks) = (before, memory.clone(), taint.clone());
+        let reply = raw::step(word, &mut record, window.origin, window.readonly, &mut ours, &mut marks);
+        let mut state = State { registers: before.value, taints: before.taint.map(|byte| byte != 0), pc: before.pc };
+        let said = running::run(&[word], &mut state, window, &mut memory, &mut taint, &mut [0; 2]);
+
+        assert_eq!(
+            (reply.answer, reply.code, reply.address),
+            (said.answer.into(), said.code, said.address),
+            "{word:08x}"
+        );
+        assert!(ours == memory && marks == taint, "{word:08x}");
+        assert_eq!((record.value, record.pc), (state.registers, state.pc), "{word:08x}");
+        assert_eq!(record.taint.map(|byte| byte != 0), state.taints, "{word:08x}");
+        // What isn't set keeps its bits, and what is becomes 0 or 1.
+        let kept = |(&after, &before): (&u8, &u8)| after == before || after < 2;
+        assert!(record.taint.iter().zip(&before.taint).all(kept), "{word:08x}");
+        if said.answer == DONE {
+            done += 1;
+        } else {
+            assert_eq!(record, before, "{word:08x}: a refusal");
+        }
+    }
+    assert!(done > CASES / 20, "only {done} were done");
+}
+
+#[test]
+fn setting_a_register_changes_that_one() {
+    let mut random = Random::new(10);
+    for _ in 0..20_000 {
+        let before = any_record(&mut random);
+        let number = if random.once_in(4) { about_power(&mut random) as u32 } else { random.below(34) as u32 };
+        let (value, mark) = (random.next(), random.word() as u8 & random.word() as u8 & random.word() as u8);
+        let mut record = before;
+        raw::set_register(&mut record, number, value, mark);
+        let mut expected = before;
+        if number < 32 {
+            expected.value[number as usize] = value;
+            expected.taint[number as usize] = (mark != 0) as u8;
+        }
+        assert_eq!(record, expected, "register {number}");
+    }
+}
+
+#[test]
+fn a_session_has_names_and_shows_no_secret() {
+    let mut session = Session::new();
+    session.set(Register::X3, 0x5ec2e7, true);
+    session.set(Register::SP, 0x2000, false);
+    session.set_pc(64);
+    assert_eq!(session.get(Register::X3), (0x5ec2e7, true));
+    assert_eq!((session.known(Register::X3), session.known(Register::SP)), (None, Some(0x2000)));
+    assert_eq!((session.pc(), session.monitor()), (64, None));
+    let record = *session.as_raw_mut();
+    let shown = format!("{session:?} {record:?}");
+    assert!(!shown.contains("5ec2e7") && shown.contains("tainted") && shown.contains("0x2000"));
+
+    session.as_raw_mut().monitor_address = 7;
+    session.as_raw_mut().monitor_size = 8;
+    assert_eq!(session.monitor().map(|monitor| (monitor.address, monitor.bytes)), Some((7, 8)));
+    session.open();
+    assert_eq!(session.monitor(), None);
+
+    let mut memory = Memory::new(Place::at(0x2000), [1; 16], [0; 16]);
+    let done = session.step(&mut memory, 0xf9000fe3).unwrap_err(); // str x3, [sp, #24]
+    assert_eq!((done.address(), done.word(), done.steps()), (Some(0x2018), Some(0xf9000fe3), 0));
+    let done = session.step(&mut memory, 0xf90003e3).unwrap(); // str x3, [sp]
+    assert_eq!((done.access.code, done.access.address, done.failed), (72, 0x2000, false));
+    assert_eq!(memory.taint()[..9], [1, 1, 1, 1, 1, 1, 1, 1, 0]);
+    assert!(Session::from_raw(*session.as_raw_mut()) == session);
+}
