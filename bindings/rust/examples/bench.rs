@@ -10,7 +10,7 @@ mod reference;
 #[path = "../tests/support/mod.rs"]
 mod support;
 
-use milestarling::{list, raw, Machine, Memory, Register, TaintedBytes, LINE_MAX};
+use milestarling::{list, raw, Memory, Register, Session, TaintedBytes, LINE_MAX};
 use reference::decoding::{decode, Family, Operation};
 use reference::running::{self, State, Window};
 use std::collections::BTreeMap;
@@ -106,8 +106,11 @@ fn load(random: &mut Random, stores: bool) -> Load {
 }
 
 impl Load {
-    /// One pass by the library, in lists of so many words.
+    /// One pass by the library, in lists of so many words; one word is a step of a session.
     fn by_library(&mut self, length: usize) -> [u64; 33] {
+        if length == 1 {
+            return self.by_step();
+        }
         let mut registers = [0; 33];
         registers[..32].copy_from_slice(&self.state.registers);
         registers[32] = PC;
@@ -128,19 +131,34 @@ impl Load {
         registers
     }
 
+    fn by_step(&mut self) -> [u64; 33] {
+        let mut session = raw::SessionRecord { value: self.state.registers, pc: PC, ..Default::default() };
+        session.taint = self.state.taints.map(|taint| taint as u8);
+        for (&word, trace) in self.words.iter().zip(self.trace.chunks_mut(2)) {
+            let reply =
+                raw::step(word, &mut session, WINDOW.origin, WINDOW.readonly, &mut self.memory, &mut self.taint);
+            assert_eq!(reply.answer, 0);
+            trace.copy_from_slice(&[reply.code, reply.address]);
+        }
+        let mut registers = [session.pc; 33];
+        registers[..32].copy_from_slice(&session.value);
+        registers
+    }
+
     /// One pass by the safe type, a step for each word.
-    fn by_machine(&mut self) -> u64 {
+    fn by_session(&mut self) -> u64 {
         let window = milestarling::Window::at(WINDOW.origin).readonly(WINDOW.readonly);
         let lent = TaintedBytes { bytes: &mut self.memory[..], taint: &mut self.taint[..] };
-        let mut machine = Machine::new(Memory::new(window, lent));
+        let mut memory = Memory::new(window, lent);
+        let mut session = Session::new();
         for (register, &value) in Register::all().zip(&self.state.registers) {
-            machine.registers.set(register, value, false);
+            session.set(register, value, false);
         }
-        machine.registers.set_pc(PC);
+        session.set_pc(PC);
         for &word in &self.words {
-            machine.step(word).unwrap();
+            session.step(&mut memory, word).unwrap();
         }
-        machine.registers.pc()
+        session.pc()
     }
 
     /// One pass by the reference.
@@ -267,8 +285,8 @@ fn main() {
                     black_box(theirs.by_reference(length));
                 });
             }
-            rates.measure(&format!("{name} machine"), LONG, || {
-                black_box(ours.by_machine());
+            rates.measure(&format!("{name} session"), LONG, || {
+                black_box(ours.by_session());
             });
             let numbers = peer(&mut rates, "unicorn", &directory.join(name), name);
             if round == 0 {
@@ -308,11 +326,11 @@ fn main() {
             [(LONG, "hooked", "plain"), (MIDDLE, "", ""), (1, "hooked by word", "plain by word")]
         {
             let mut rows = vec![
-                (format!("{name} ours {length}"), "milestarling_run"),
+                (format!("{name} ours {length}"), if length == 1 { "milestarling_step" } else { "milestarling_run" }),
                 (format!("{name} reference {length}"), "reference in Rust"),
             ];
             if length == 1 {
-                rows.insert(1, (format!("{name} machine"), "the same by Machine::step"));
+                rows.insert(1, (format!("{name} session"), "the same by Session::step"));
             }
             if !hooked.is_empty() {
                 rows.push((format!("{name} {hooked}"), "Unicorn, a hook that keeps a trace"));
@@ -350,13 +368,13 @@ fn main() {
 
 const DIFFERENCES: [&str; 13] = [
     "What differs. Library and reference decode each word every time, test every access against the window and carry",
-    "taints, in memory that they are lent. The reference keeps its registers in a struct of its own; the library",
-    "copies them in and out with each call. Unicorn has neither taints nor a window: it translates the words once and",
-    "runs the translation through a software memory unit, with its pages as the only test. For long lists it goes",
-    "round a loop of the guest, so that it is started once for many passes; word by word it is started for each. Words",
-    "that were not run before are translated first, and the translation counts; the library has none. Every",
-    "store of Unicorn 2.0.1 takes a slow path, which looks for code to be translated anew, so loads alone are shown",
-    "too; and a hook sees a pair as two accesses.",
+    "taints, in memory that they are lent. The reference changes its registers in place; a step of the library copies",
+    "the record and stores it back, and a run copies registers in and out. Unicorn has neither taints nor a window: it",
+    "translates the words once and runs the translation through a software memory unit, with its pages as the only test.",
+    "For long lists it goes round a loop of the guest, so that it is started once for many passes; word by word it is",
+    "started for each. Words that were not run before are translated first, and the translation counts; the library has",
+    "none. Every store of Unicorn 2.0.1 takes a slow path, which looks for code to be translated anew, so loads alone are",
+    "shown too; and a hook sees a pair as two accesses.",
     "LLVM and Capstone know the whole instruction set and print in their own notation. Both refuse most of the words",
     "that are unpredictable, and Capstone 4 doesn't know the ordered ones. A listing has eight digits, two tabs, an",
     "answer and a newline more for each word than their texts; milestarling_text writes the text alone.",
