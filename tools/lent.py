@@ -32,8 +32,8 @@ FUNCTIONS = {
         calls='step_replied',
         parameters=[('word', 'u32'), ('state', RECORD), ('origin', 'u64'), ('readonly', 'u64'), ('memory', BYTES), ('taint', BYTES)],
         result='Replied', reply='StepReply', fields=('state', 'reply'),
-        ensures='lent (r .state) (r .reply) memory′ taint′ ≡ lentStep (record { origin = origin; readonly = readonly }) word h now-memory now-taint',
-        specs=['lent', 'lentStep']),
+        ensures='lentOutcome (r .state) (r .reply) memory′ taint′ ≡ lentStep (record { origin = origin; readonly = readonly }) word h now-memory now-taint',
+        specs=['lentOutcome', 'lentStep']),
     'milestarling_set_register': dict(
         calls='with_register',
         parameters=[('state', RECORD), ('n', 'u32'), ('value', 'u64'), ('mark', 'u8')],

@@ -29,6 +29,7 @@ use Rattle.machine.specs.Refusals.{bad, classRefusals}
 use Rattle.machine.specs.Step.{Step, stopped, moved, stepOf, performed}
 use Rattle.machine.proofs.Answers.{answers-exact, answers-given, refused-unchanged, tainted-refused, Refuses, step-refuses, stack-refused, stack-aligned}
 use Rattle.machine.proofs.Taints.{Follows, taintsIn, taints-by-rule}
+use Rattle.session.proofs.Exact.{step-exact, register-exact}
 use Rattle.execution.specs.Walk.{runOf}
 use Rattle.execution.specs.Run.{machineRun}
 use Rattle.execution.proofs.Walks.{run-keeps, run-ends, run-bad, run-short}
@@ -277,4 +278,6 @@ requests =
       stream-unchanged = call-unchanged;
       stream-puts = call-puts;
       hints = hints-read;
+      lent-step = step-exact;
+      lent-register = register-exact;
     }

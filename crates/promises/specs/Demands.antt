@@ -27,10 +27,17 @@ use Rattle.access.specs.declared.Access.the-variants.{Moves}
 use Rattle.plan.specs.declared.window.Window.{Window}
 use Rattle.plan.specs.Refusals.{answerIn, Given}
 use Rattle.access.specs.Accesses.{wordAccess}
+use Rattle.memory.specs.Taints.{tainted}
+use Rattle.registers.specs.declared.Registers.{Registers}
+use Rattle.registers.specs.File.{setAt}
 use Rattle.machine.specs.Rule.{wordRule}
-use Rattle.machine.specs.Machine.{Machine, operandsOf}
+use Rattle.machine.specs.declared.State.{State}
+use Rattle.machine.specs.declared.Stepped.{Stepped}
+use Rattle.machine.specs.Machine.{Machine, machineOf, operandsOf}
 use Rattle.machine.specs.Refusals.{bad, classRefusals, refusals}
-use Rattle.machine.specs.Step.{shown, Outcome, stepOf, performed}
+use Rattle.machine.specs.Step.{shown, Outcome, outcome, stepOf, performed, leaves}
+use Rattle.session.specs.declared.StepReply.{StepReply}
+use Rattle.session.specs.Lent.{lentOutcome, lentStep, replyOf, withRegister}
 use Rattle.secrecy.specs.Agree.{Shows}
 use Rattle.execution.specs.Walk.{notBegun, runOf, afterSteps}
 use Rattle.execution.specs.Ends.{Kept, Ends, lastOf, Early}
@@ -222,3 +229,13 @@ pub record Requests : Type 0 where
       → (callOf l c .length ≡ ListN.length (linesOf l c)) × (callOf l c .buffer ≡ sets (lent c) 0 (linesOf l c))
   -- CR 7: "The reader takes only the new form, so 01's example becomes `prfum pldl1keep, [x1]` and its old line answer 9"
   pub hints : HintsRead
+  -- CR 9: "lend it and have it changed in place by a step and by setting one register. By value stays; the lent form leaves exactly
+  -- what it returns, refused or not": of a step by value that returns `r` and leaves memory and marks, and of the lent one, from one
+  -- record, memory and marks, by their contracts
+  pub lent-step : (w : Window) (word : ℕ) (before after : State) (m k m′ k′ m″ k″ : List ℕ) (r : Stepped) (reply : StepReply)
+      → outcome r m′ k′ ≡ leaves (stepOf w word) (machineOf before m k)
+      → lentOutcome after reply m″ k″ ≡ lentStep w word before m k
+      → (after ≡ r .state) × (m″ ≡ m′) × (k″ ≡ k′) × (reply ≡ replyOf (r .answer) (r .shown))
+  -- and of setting one register: the file is what setting by value returns, and program counter and monitor stay
+  pub lent-register : (n value mark : ℕ) (before after : State) (file : Registers) → file ≡ setAt (before .registers) n value (tainted mark)
+      → after ≡ withRegister n value mark before → (after .registers ≡ file) × (after .pc ≡ before .pc) × (after .monitor ≡ before .monitor)

@@ -3,6 +3,7 @@
 use Prim.Native.Nat.{ℕ}
 use mathlib.Core.Path.{_≡_, ap, sym, _∙_}
 use mathlib.Core.List.{List}
+use Rattle.memory.specs.Taints.{tainted}
 use Rattle.registers.specs.declared.Registers.{Registers}
 use Rattle.registers.specs.File.{setAt}
 use Rattle.plan.specs.declared.window.Window.{Window}
@@ -10,7 +11,7 @@ use Rattle.machine.specs.Machine.{Machine, machineOf}
 use Rattle.machine.specs.Step.{outcome, stepOf, leaves}
 use Rattle.machine.specs.declared.State.{State}
 use Rattle.machine.specs.declared.Stepped.{Stepped}
-use Rattle.session.specs.Lent.{Lent, lent, lentOf, lentStep, replyOf, withRegister}
+use Rattle.session.specs.Lent.{Lent, lentOutcome, lentOf, lentStep, replyOf, withRegister}
 use Rattle.session.specs.declared.StepReply.{StepReply}
 
 -- the record whose machine it is
@@ -19,8 +20,14 @@ stateIn m = record { registers = record { value = m .values; taint = m .taints .
 
 pub step-exact : (w : Window) (word : ℕ) (before after : State) (m k m′ k′ m″ k″ : List ℕ) (r : Stepped) (reply : StepReply)
     → outcome r m′ k′ ≡ leaves (stepOf w word) (machineOf before m k)
-    → lent after reply m″ k″ ≡ lentStep w word before m k
+    → lentOutcome after reply m″ k″ ≡ lentStep w word before m k
     → (after ≡ r .state) × (m″ ≡ m′) × (k″ ≡ k′) × (reply ≡ replyOf (r .answer) (r .shown))
 step-exact w word before after m k m′ k′ m″ k″ r reply by-value in-place =
-    let same : lent after reply m″ k″ ≡ lentOf (outcome r m′ k′) = in-place ∙ sym (ap lentOf by-value) in
+    let same : lentOutcome after reply m″ k″ ≡ lentOf (outcome r m′ k′) = in-place ∙ sym (ap lentOf by-value) in
     (ap (λ (l : Lent). stateIn (l .machine)) same, ap (λ (l : Lent). l .machine .memory) same, ap (λ (l : Lent). l .machine .taints .bytes) same, ap (λ (l : Lent). l .reply) same)
+
+pub register-exact : (n value mark : ℕ) (before after : State) (file : Registers) → file ≡ setAt (before .registers) n value (tainted mark)
+    → after ≡ withRegister n value mark before → (after .registers ≡ file) × (after .pc ≡ before .pc) × (after .monitor ≡ before .monitor)
+unfolding withRegister
+register-exact n value mark before after file by-value in-place =
+    (ap (λ (s : State). s .registers) in-place ∙ sym by-value, ap (λ (s : State). s .pc) in-place, ap (λ (s : State). s .monitor) in-place)

@@ -18,8 +18,8 @@ pub record Lent : Type 0 where
   pub machine : Machine
   pub reply : StepReply
 
-abbrev pub lent : State → StepReply → List ℕ → List ℕ → Lent
-lent s r memory taint = record { machine = machineOf s memory taint; reply = r }
+abbrev pub lentOutcome : State → StepReply → List ℕ → List ℕ → Lent
+lentOutcome s r memory taint = record { machine = machineOf s memory taint; reply = r }
 
 -- an answer crosses as its number
 abbrev pub replyOf : Answer → Shown → StepReply

@@ -3,7 +3,7 @@
 use machine::State;
 use machine::Window;
 ghost use mathlib.Core.Path.{_≡_};
-ghost use Rattle.session.specs.Lent.{withRegister, lent, lentStep};
+ghost use Rattle.session.specs.Lent.{withRegister, lentOutcome, lentStep};
 
 // What a step says beside the record that it leaves, the answer by its number; the status is 0 but for a store-exclusive
 // that fails.
@@ -29,7 +29,7 @@ pub extern "C" fn milestarling_step(
     memory: &mut [u8],
     taint: &mut [u8],
 ) -> StepReply
-    ensures { λ r. ⌜ lent (now (state .exit)) r (now (memory .exit)) (now (taint .exit)) ≡ lentStep (record { origin = origin; readonly = readonly }) word (now (state .entry)) (now (memory .entry)) (now (taint .entry)) ⌝ }
+    ensures { λ r. ⌜ lentOutcome (now (state .exit)) r (now (memory .exit)) (now (taint .exit)) ≡ lentStep (record { origin = origin; readonly = readonly }) word (now (state .entry)) (now (memory .entry)) (now (taint .entry)) ⌝ }
 {
     let stepped = step_replied(word, *state, origin, readonly, memory, taint);
     *state = stepped.state;
@@ -51,7 +51,7 @@ fn step_replied(
     memory: &mut [u8],
     taint: &mut [u8],
 ) -> Replied
-    ensures { λ r. ⌜ lent (r .state) (r .reply) (now (memory .exit)) (now (taint .exit)) ≡ lentStep (record { origin = origin; readonly = readonly }) word state (now (memory .entry)) (now (taint .entry)) ⌝ }
+    ensures { λ r. ⌜ lentOutcome (r .state) (r .reply) (now (memory .exit)) (now (taint .exit)) ≡ lentStep (record { origin = origin; readonly = readonly }) word state (now (memory .entry)) (now (taint .entry)) ⌝ }
 {
     let stepped = machine::step(word, state, Window { origin, readonly }, memory, taint);
     let answer = stepped.answer;

@@ -40,7 +40,7 @@ use denote.Triple.Clauses.{ensured, lasts}
 use denote.Triple.Table.{entered, cited}
 use denote.Triple.Walked.{says, Stays, stay-ref, stay-none, gave-slice, walkOf, AllGo, goes-none, goes-ref, goes-gave-slice, Walks, ends-at, walked, walk-meets}
 use denote.Exit.{yes}
-use Rattle.session.specs.Lent.{lent, lentStep}
+use Rattle.session.specs.Lent.{lentOutcome, lentStep}
 use Rattle.machine.specs.declared.State.{State}
 use Rattle.session.specs.declared.Replied.{Replied}
 use Rattle.session.specs.declared.StepReply.{StepReply}
@@ -108,7 +108,7 @@ module _ {M : Type 1} (𝓤 : URA M) (H : Heap 𝓤) (A : Atoms 𝓤) (W : Given
 
   -- what the callee ensures
   abbrev Says : Replied → List ℕ → List ℕ → Type 0
-  Says r memory′ taint′ = lent (r .state) (r .reply) memory′ taint′ ≡ lentStep (record { origin = origin; readonly = readonly }) word h now-memory now-taint
+  Says r memory′ taint′ = lentOutcome (r .state) (r .reply) memory′ taint′ ≡ lentStep (record { origin = origin; readonly = readonly }) word h now-memory now-taint
 
   exits : (r : Replied) (memory′ : List ℕ) (taint′ : List ℕ) → Is Y.the-row (r .reply) (reply-val (r .reply) ∷ []) → Says r memory′ taint′ → length memory′ ≡ length now-memory → length taint′ ≡ length now-taint → ent 𝓤 (⋆ 𝓤 H A (‵ (fobs γ (T.the-row .coded .code (r .state))) ∷ ‵ (fbor κ (Body (mem T.the-row) b o γ)) ∷ ‵ (flft κ q) ∷ (‵ (flft κ₁ q₁) ⊛ ‵ (flft κ₂ q₂) ⊛ ‵ ftrue) ∷ ‵ (finally u8 γ-memory memory′) ∷ ‵ (finally u8 γ-taint taint′) ∷ [])) (Post (reply-val (r .reply)))
   exits r memory′ taint′ is e l-memory l-taint =
