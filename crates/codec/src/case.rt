@@ -3,7 +3,7 @@
 pub const BYTES: usize = 64;
 
 // What the case is: the number of a record's family, or this.
-pub const WORD: u64 = 9;
+pub const WORD: u64 = 10;
 
 // For a word, the second number is the word. Numbers that a case does not use are 0.
 pub struct Case {
@@ -11,7 +11,7 @@ pub struct Case {
     pub operation: u64,
     pub target: u64,
     pub base: u64,
-    // The second register of a pair, or an index.
+    // The second register of a pair, an index, or the status of a store-exclusive.
     pub second: u64,
     // The mode of a pair, or the option of an index.
     pub mode: u64,

@@ -1,6 +1,9 @@
-// An instruction from the numbers of a case, and its numbers again: the family in the order of 01's table,
+// An instruction from the numbers of a case, and its numbers again: the family in the order of 01's table, then 02's ninth,
 // and the operation as the fields of a word that name it.
 use crate::case::Case;
+use instruction::AccessSize;
+use instruction::ExclusiveOp;
+use instruction::ExclusiveOperands;
 use instruction::Family;
 use instruction::IndexOperands;
 use instruction::Instruction;
@@ -10,6 +13,8 @@ use instruction::OffsetOperands;
 use instruction::PairOp;
 use instruction::PairOperands;
 use instruction::SizedOp;
+use instruction::StoreExclusiveOp;
+use instruction::StoreExclusiveOperands;
 
 // Numbers of no family, operation or mode give the empty instruction.
 pub fn instruction_of(c: Case) -> Instruction {
@@ -23,6 +28,7 @@ fn family_of(c: Case) -> Family {
         1 => literal_of(c),
         2 => pair_of(c),
         3..=8 => sized_of(c),
+        9 => exclusive_of(c),
         _ => Family::Empty,
     }
 }
@@ -80,6 +86,43 @@ fn is_sized(operation: u64) -> bool {
     operation < 15 && operation != 11
 }
 
+// Bit 23, L and bit 15, and above them the size.
+fn exclusive_of(c: Case) -> Family {
+    let code = low_half(c.operation % 8);
+    let size = instruction::size_at(low_half(c.operation / 8 % 4));
+    if !is_exclusive(c.operation) {
+        return Family::Empty;
+    }
+    if code < 0b010 {
+        return Family::StoreExclusive(
+            instruction::store_exclusive_at(code),
+            status_operands(size, c),
+        );
+    }
+    Family::Exclusive(instruction::exclusive_at(code), exclusive_operands(size, c))
+}
+
+fn is_exclusive(operation: u64) -> bool {
+    operation < 32 && operation % 8 != 0b100 && operation % 8 != 0b110
+}
+
+fn exclusive_operands(size: AccessSize, c: Case) -> ExclusiveOperands {
+    ExclusiveOperands {
+        size,
+        target: low_half(c.target),
+        base: low_half(c.base),
+    }
+}
+
+fn status_operands(size: AccessSize, c: Case) -> StoreExclusiveOperands {
+    StoreExclusiveOperands {
+        size,
+        status: low_half(c.second),
+        target: low_half(c.target),
+        base: low_half(c.base),
+    }
+}
+
 fn offset_operands(c: Case) -> OffsetOperands {
     OffsetOperands {
         target: low_half(c.target),
@@ -122,6 +165,8 @@ pub fn case_of(i: Instruction) -> Case {
         Family::PreIndex(op, o) => offset_case(6, op, o),
         Family::Register(op, o) => index_case(op, o),
         Family::Unsigned(op, o) => offset_case(8, op, o),
+        Family::Exclusive(op, o) => exclusive_case(op, o),
+        Family::StoreExclusive(op, o) => store_exclusive_case(op, o),
     }
 }
 
@@ -184,4 +229,29 @@ fn sized_number(op: SizedOp) -> u64 {
     let size = instruction::size_field(op);
     let opc = instruction::opc_field(op);
     (size * 4 + opc) as u64
+}
+
+fn exclusive_case(op: ExclusiveOp, o: ExclusiveOperands) -> Case {
+    let size = o.size;
+    let mut c = blank(9, exclusive_number(instruction::exclusive_code(op), size));
+    c.target = o.target as u64;
+    c.base = o.base as u64;
+    c
+}
+
+fn store_exclusive_case(op: StoreExclusiveOp, o: StoreExclusiveOperands) -> Case {
+    let size = o.size;
+    let mut c = blank(
+        9,
+        exclusive_number(instruction::store_exclusive_code(op), size),
+    );
+    c.target = o.target as u64;
+    c.base = o.base as u64;
+    c.second = o.status as u64;
+    c
+}
+
+fn exclusive_number(code: u32, size: AccessSize) -> u64 {
+    let scale = instruction::access_scale(size);
+    scale as u64 * 8 + code as u64
 }
