@@ -1,4 +1,2 @@
-pub mod Copies
 pub mod Replies
-pub mod Runs
 pub mod Secrecy

@@ -1,22 +1,25 @@
-// The machine, the text, the reader and the listing for a host in another language. Only numbers and lent
-// slices cross: an answer as its number, and the registers as a slice that is copied in and out.
-mod file;
-
+// The machine, the text, the reader and the listing for a host in another language. Only numbers, structs of numbers and
+// lent slices cross: an answer as its number, and a session's record as it is.
 use instruction::Answer;
+use machine::State;
 use plan::Window;
 use stream::Lister;
 use stream::Pushed;
 ghost use mathlib.Core.Path.{_≡_};
 ghost use Rattle.instruction.specs.Answers.{answerNumber};
+ghost use Rattle.machine.specs.Machine.{machineOf};
+ghost use Rattle.execution.specs.Walk.{log};
 ghost use Rattle.text.specs.Writing.{writeOf};
 ghost use Rattle.listing.specs.Listing.{listOf};
 ghost use Rattle.stream.specs.Streams.{push, close, callOf};
 ghost use Rattle.host.specs.Replies.{textOutcome, numbered, ReadAs, listerOutcome, listerNumbered};
 ghost use Rattle.host.specs.Hosting.{hosted, hostRun};
 
-// What a run returns beside what it leaves in the slices.
+// What a run returns beside what it leaves in the slices: the record after the steps done, how many they are, and the
+// answer, code and address of the last step tried.
 #[repr(C)]
 pub struct RunReply {
+    pub session: State,
     pub steps: u64,
     pub answer: u64,
     pub code: u64,
@@ -45,44 +48,37 @@ pub struct ListerReply {
     pub length: u64,
 }
 
-// A run from registers that cross as 33 numbers, x0 to x30, sp and pc, with a flag for the taint of each but pc.
-// Slices too short for them are refused with 10. Where the run is not begun, nothing is changed.
+// A run from a session's record, which is handed in by value and comes back in the reply. Where the run is not begun,
+// nothing is changed.
 #[no_mangle]
 pub extern "C" fn milestarling_run(
     words: &[u32],
-    registers: &mut [u64],
-    flags: &mut [u8],
+    session: State,
     origin: u64,
     readonly: u64,
     memory: &mut [u8],
     taint: &mut [u8],
     trace: &mut [u64],
+    statuses: &mut [u8],
 ) -> RunReply
-    ensures { λ r. ⌜ hosted r (now (registers .exit)) (now (flags .exit)) (now (memory .exit)) (now (taint .exit)) (now (trace .exit))
-        ≡ hostRun (record { origin = origin; readonly = readonly }) (now (words .entry)) (now (registers .entry)) (now (flags .entry)) (now (memory .entry)) (now (taint .entry)) (now (trace .entry)) ⌝ }
+    ensures { λ r. ⌜ hosted r (now (memory .exit)) (now (taint .exit)) (now (trace .exit)) (now (statuses .exit))
+        ≡ hostRun (record { origin = origin; readonly = readonly }) (now (words .entry)) (machineOf session (now (memory .entry)) (now (taint .entry))) (log (now (trace .entry)) (now (statuses .entry))) ⌝ }
 {
-    if registers.len() < 33 {
-        return no_room();
-    }
-    if flags.len() < 32 {
-        return no_room();
-    }
-    let start = file::state_in(registers, flags);
     let ran = execution::run(
         words,
-        start,
+        session,
         Window { origin, readonly },
         memory,
         taint,
         trace,
+        statuses,
     );
     let answer = ran.answer;
-    let number = answer_number(answer);
-    let state = ran.state;
-    file::put_back(number, state, registers, flags);
+    let after = ran.state;
     RunReply {
+        session: after,
         steps: ran.steps as u64,
-        answer: number,
+        answer: answer_number(answer),
         code: ran.shown.code,
         address: ran.shown.address,
     }
@@ -156,17 +152,6 @@ fn lister_reply(pushed: Pushed) -> ListerReply
         lister,
         answer: answer_number(answer),
         length: pushed.length as u64,
-    }
-}
-
-fn no_room() -> RunReply
-    ensures { λ r. ⌜ r ≡ record { steps = 0; answer = 10; code = 0; address = 0 } ⌝ }
-{
-    RunReply {
-        steps: 0,
-        answer: 10,
-        code: 0,
-        address: 0,
     }
 }
 
