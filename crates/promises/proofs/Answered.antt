@@ -22,7 +22,7 @@ use Rattle.machine.specs.Machine.{Machine}
 use Rattle.machine.specs.Refusals.{bad, wordRefusals, refusals}
 use Rattle.machine.specs.Step.{Outcome, stepOf, performed}
 use Rattle.machine.proofs.Answers.{answers-exact, step-refuses, Later, word-later}
-use Rattle.execution.specs.Walk.{runOf}
+use Rattle.execution.specs.Walk.{Log, log, short, runOf}
 use Rattle.execution.specs.Ends.{alone, Ends, lastOf}
 use Rattle.execution.specs.Run.{machineRun}
 use Rattle.execution.proofs.Walks.{run-ends}
@@ -68,22 +68,22 @@ with-more (j ∷ ks) k n h = either-way (eqb n j) (oneOf ks n) (oneOf (ks ++ (k 
 abbrev pub runNumbers : List ℕ
 runNumbers = 0 ∷ 1 ∷ 2 ∷ 3 ∷ 4 ∷ 5 ∷ 6 ∷ 7 ∷ 8 ∷ 10 ∷ []
 
-module _ (w : Window) (words : List ℕ) (m : Machine) (trace : List ℕ) where
+module _ (w : Window) (words : List ℕ) (m : Machine) (l : Log) where
   ended-number : (steps : ℕ) (o : Outcome Machine) → Ends (stepOf w) words m steps o → oneOf runNumbers (answerNumber (o .answer)) ≡ true
   ended-number steps o (inl (l, d, h)) = rw d
   ended-number steps o (inr (d, (l, h))) =
       with-more stepNumbers 10 (answerNumber (o .answer)) (rw h at (step-number w (getD words steps 0) (alone (stepOf w) words m steps .machine)))
 
-  number-at : (y z : Bool) → bad w m ≡ y → ltb (length trace) (length words * 2) ≡ z → oneOf runNumbers (answerNumber (machineRun w words m trace .answer)) ≡ true
+  number-at : (y z : Bool) → bad w m ≡ y → short words l ≡ z → oneOf runNumbers (answerNumber (machineRun w words m l .answer)) ≡ true
   unfolding runOf
   number-at true z e g = rw e
   number-at false true e g = rw (e, g)
   number-at false false e g =
-      let r = machineRun w words m trace in
-      ended-number (r .steps) (lastOf r) (run-ends (stepOf w) (step-refuses w) (bad w) words m trace e g)
+      let r = machineRun w words m l in
+      ended-number (r .steps) (lastOf r) (run-ends (stepOf w) (step-refuses w) (bad w) words m l e g)
 
-  pub run-number : oneOf runNumbers (answerNumber (machineRun w words m trace .answer)) ≡ true
-  run-number = number-at (bad w m) (ltb (length trace) (length words * 2)) refl refl
+  pub run-number : oneOf runNumbers (answerNumber (machineRun w words m l .answer)) ≡ true
+  run-number = number-at (bad w m) (short words l) refl refl
 
 -- ---- encoding and reading
 
@@ -103,15 +103,15 @@ read-answered t = record { some = read-some t; one = read-once t; answer = read-
 
 -- ---- the library
 
-module _ (w : Window) (words registers flags memory taint trace : List ℕ) where
-  call-at : (y z : Bool) → ltb (length registers) 33 ≡ y → ltb (length flags) 32 ≡ z → oneOf runNumbers (hostRun w words registers flags memory taint trace .reply .answer) ≡ true
+module _ (w : Window) (words registers tainted memory taint trace statuses : List ℕ) where
+  call-at : (y z : Bool) → ltb (length registers) 35 ≡ y → ltb (length tainted) 32 ≡ z → oneOf runNumbers (hostRun w words registers tainted memory taint trace statuses .reply .answer) ≡ true
   unfolding hostRun
   call-at true z e g = rw e
   call-at false true e g = rw (e, g)
-  call-at false false e g = rw (e, g) (run-number w words (machineIn registers flags memory taint) trace)
+  call-at false false e g = rw (e, g) (run-number w words (machineIn registers tainted memory taint) (log trace statuses))
 
-  pub call-number : oneOf runNumbers (hostRun w words registers flags memory taint trace .reply .answer) ≡ true
-  call-number = call-at (ltb (length registers) 33) (ltb (length flags) 32) refl refl
+  pub call-number : oneOf runNumbers (hostRun w words registers tainted memory taint trace statuses .reply .answer) ≡ true
+  call-number = call-at (ltb (length registers) 35) (ltb (length tainted) 32) refl refl
 
 abbrev replied : Reading → WordReply
 replied q = record { answer = answerNumber (q .answer); word = q .word }

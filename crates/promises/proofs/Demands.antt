@@ -187,7 +187,7 @@ demand-1 =
       read = read-answered;
       listed = λ bytes output. by-definition (listOf bytes output) (listed-number bytes output);
       step = λ w word m. by-definition (performed m (stepOf w word m)) (step-number w word m);
-      run = λ w words m trace. by-definition (machineRun w words m trace) (run-number w words m trace);
+      run = λ w words m l. by-definition (machineRun w words m l) (run-number w words m l);
       step-answers = λ w word m. ap answerNumber (answers-exact w word m);
       step-given = answers-given;
       decode-answers = λ word. decode-answer (inSet word) (undefined word);
@@ -200,12 +200,12 @@ demand-1 =
       list-done = λ bytes output. completed-copy (listingOf bytes) output;
       read-answers = read-answer;
       encode-answers = encode-exact;
-      run-window = λ w words m trace e. sym (run-bad (bad w) (stepOf w) words m trace refl e);
-      run-room = λ w words m trace e g. sym (run-short (bad w) (stepOf w) words m trace refl e g);
+      run-window = λ w words m l e. sym (run-bad (bad w) (stepOf w) words m l refl e);
+      run-room = λ w words m l e g. sym (run-short (bad w) (stepOf w) words m l refl e g);
       run-early = early-unchanged;
-      run-answers = λ w words m trace e g. (begun-late w words m trace e g, run-ends (stepOf w) (step-refuses w) (bad w) words m trace e g);
+      run-answers = λ w words m l e g. (begun-late w words m l e g, run-ends (stepOf w) (step-refuses w) (bad w) words m l e g);
       refused-step = refused-unchanged;
-      refused-run = λ w words m trace. run-keeps (stepOf w) (bad w) words m trace;
+      refused-run = λ w words m l. run-keeps (stepOf w) (bad w) words m l;
     }
 
 pub demand-2 : Demand2
@@ -245,13 +245,13 @@ lister-number l c =
 pub library : Library
 library =
     record {
-      run = λ w words registers flags memory taint trace. by-definition (hostRun w words registers flags memory taint trace) (call-number w words registers flags memory taint trace);
+      run = λ w words registers tainted memory taint trace statuses. by-definition (hostRun w words registers tainted memory taint trace statuses) (call-number w words registers tainted memory taint trace statuses);
       text = λ word buffer. by-definition (numbered (writeOf word buffer)) (written-number word buffer);
       word = word-answered;
       list = λ bytes output. by-definition (numbered (listOf bytes output)) (listed-number bytes output);
       lister = λ l c. by-definition (listerNumbered (callOf l c)) (lister-number l c);
       early = refused-calls;
-      two-calls = λ w words registers flags memory taint trace others raised bytes marks trail h many wide room. hosted-same w words registers flags memory taint trace others raised bytes marks trail h many wide room;
+      two-calls = λ w words registers tainted memory taint trace statuses others raised bytes marks trail stated h many wide room also. hosted-same w words registers tainted memory taint trace statuses others raised bytes marks trail stated h many wide room also;
       marks-at-end = hosted-taints;
     }
 

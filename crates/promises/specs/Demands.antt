@@ -2,7 +2,7 @@
 -- that followed. A reader who trusts the definitions that are named here needs no other page. The contracts of the public
 -- functions say that the code returns and leaves what these definitions say, on any input: no function has a condition
 -- to meet.
-use Prim.Native.Nat.{ℕ, suc, _*_, _%_, _≤_, _<_}
+use Prim.Native.Nat.{ℕ, suc, _%_, _≤_, _<_}
 use mathlib.Core.Path.{_≡_}
 use mathlib.Core.Bool.{true, false, not}
 use mathlib.Core.List.{List, [], _∷_}
@@ -39,10 +39,10 @@ use Rattle.machine.specs.Step.{shown, Outcome, outcome, stepOf, performed, leav
 use Rattle.session.specs.declared.StepReply.{StepReply}
 use Rattle.session.specs.Lent.{lentOutcome, lentStep, replyOf, withRegister}
 use Rattle.secrecy.specs.Agree.{Shows}
-use Rattle.execution.specs.Walk.{notBegun, runOf, afterSteps}
+use Rattle.execution.specs.Walk.{Log, log, notBegun, short, runOf, afterSteps}
 use Rattle.execution.specs.Ends.{Kept, Ends, lastOf, Early}
 use Rattle.execution.specs.Run.{machineRun}
-use Rattle.execution.specs.Secrecy.{Same, ShowsRun}
+use Rattle.execution.specs.Secrecy.{Same, SameRoom, ShowsRun}
 use Rattle.arm.specs.Choices.{badStart, armStep}
 use Rattle.arm.specs.Real.{Real}
 use Rattle.encoder.specs.Exact.{Exact}
@@ -79,8 +79,8 @@ pub record Demand1 : Type 0 where
   pub read : (t : List ℕ) → Answered (ReadOf t) (λ r. answerNumber (r .answer)) (0 ∷ 9 ∷ [])
   pub listed : (bytes output : List ℕ) → Answered (Is (listOf bytes output)) (λ r. answerNumber (r .answer)) (0 ∷ 10 ∷ [])
   pub step : (w : Window) (word : ℕ) (m : Machine) → Answered (Is (stepped w word m)) (λ r. answerNumber (r .answer)) (0 ∷ 1 ∷ 2 ∷ 3 ∷ 4 ∷ 5 ∷ 6 ∷ 7 ∷ 8 ∷ [])
-  pub run : (w : Window) (words : List ℕ) (m : Machine) (trace : List ℕ)
-      → Answered (Is (machineRun w words m trace)) (λ r. answerNumber (r .answer)) (0 ∷ 1 ∷ 2 ∷ 3 ∷ 4 ∷ 5 ∷ 6 ∷ 7 ∷ 8 ∷ 10 ∷ [])
+  pub run : (w : Window) (words : List ℕ) (m : Machine) (l : Log)
+      → Answered (Is (machineRun w words m l)) (λ r. answerNumber (r .answer)) (0 ∷ 1 ∷ 2 ∷ 3 ∷ 4 ∷ 5 ∷ 6 ∷ 7 ∷ 8 ∷ 10 ∷ [])
   -- "Each refusal has its number in document 01 and is given exactly when 01 says": of a step, the first of 1 to 8 that
   -- holds, and 0 where none does; so that a number is answered exactly if its refusal holds and none before it
   pub step-answers : (w : Window) (word : ℕ) (m : Machine) → stepAnswer w word m ≡ answerNumber (answerIn (refusals w word m))
@@ -103,28 +103,29 @@ pub record Demand1 : Type 0 where
   pub read-answers : (t : List ℕ) (r : Reading) → ReadOf t r → ((r .answer ≡ NoSuchText) ↔ ((word : ℕ) → ¬ LineOf word t)) × ((r .answer ≡ Done) ↔ LineOf (r .word) t)
   -- of encoding, 11: the one word that decodes to the instruction, or none does
   pub encode-answers : (i : Instruction) → Exact i (encodeOf i)
-  -- of a run, 1 and then 10 at its start, and only there: steps, code and address are 0, and nothing is written
-  pub run-window : (w : Window) (words : List ℕ) (m : Machine) (trace : List ℕ) → bad w m ≡ true → machineRun w words m trace ≡ notBegun BadWindow m trace
-  pub run-room : (w : Window) (words : List ℕ) (m : Machine) (trace : List ℕ) → bad w m ≡ false → ltb (ListN.length trace) (ListN.length words * 2) ≡ true
-      → machineRun w words m trace ≡ notBegun NoRoom m trace
-  pub run-early : (w : Window) (words : List ℕ) (m : Machine) (trace : List ℕ) → Early (answerNumber (machineRun w words m trace .answer))
-      → machineRun w words m trace ≡ notBegun (machineRun w words m trace .answer) m trace
+  -- of a run, 1 and then 10 at its start, and only there: steps, code and address are 0, and nothing is written. 10 is for a
+  -- trace shorter than two numbers a word, or a list of statuses "shorter than the words" (02, CR 8)
+  pub run-window : (w : Window) (words : List ℕ) (m : Machine) (l : Log) → bad w m ≡ true → machineRun w words m l ≡ notBegun BadWindow m l
+  pub run-room : (w : Window) (words : List ℕ) (m : Machine) (l : Log) → bad w m ≡ false → short words l ≡ true
+      → machineRun w words m l ≡ notBegun NoRoom m l
+  pub run-early : (w : Window) (words : List ℕ) (m : Machine) (l : Log) → Early (answerNumber (machineRun w words m l .answer))
+      → machineRun w words m l ≡ notBegun (machineRun w words m l .answer) m l
   -- after that every word is done and the answer is 0, or the word at the number of steps done is the one refused, and
   -- answer, code and address are that step's, from the machine as the steps before left it
-  pub run-answers : (w : Window) (words : List ℕ) (m : Machine) (trace : List ℕ) → bad w m ≡ false → ltb (ListN.length trace) (ListN.length words * 2) ≡ false
-      → let r = machineRun w words m trace in
+  pub run-answers : (w : Window) (words : List ℕ) (m : Machine) (l : Log) → bad w m ≡ false → short words l ≡ false
+      → let r = machineRun w words m l in
       ¬ Early (answerNumber (r .answer)) × Ends (stepOf w) words m (r .steps) (lastOf r)
-  -- "A refused step changes no register, byte, mark or program counter"
+  -- "A refused step changes no register, byte, mark or program counter", and "keeps the monitor" (02, CR 3)
   pub refused-step : (w : Window) (word : ℕ) (m : Machine) → ¬ (stepAnswer w word m ≡ 0) → stepped w word m .machine ≡ m
-  -- "a refused run keeps the steps done before and nothing of the refused one": machine, trace and number of steps
-  pub refused-run : (w : Window) (words : List ℕ) (m : Machine) (trace : List ℕ) → Kept (stepOf w) words m trace (machineRun w words m trace)
+  -- "a refused run keeps the steps done before and nothing of the refused one": machine, trace, statuses and number of steps
+  pub refused-run : (w : Window) (words : List ℕ) (m : Machine) (l : Log) → Kept (stepOf w) words m l (machineRun w words m l)
 
 pub record Demand2 : Type 0 where
   -- "Each step does what Arm's published A64 definition says, with the choices that 01 makes where Arm leaves one": answer,
   -- code, address, registers, memory, program counter and marks. It is said of the machines that there are, whose
   -- registers have 64 bits and whose bytes have 8; code holds no others, and a step leaves one
   pub step-as-arm : (w : Window) (word : ℕ) (m : Machine) → Real m → stepOf w word m ≡ armStep w word m
-  pub run-as-arm : (w : Window) (words : List ℕ) (m : Machine) (trace : List ℕ) → Real m → machineRun w words m trace ≡ runOf (badStart w) (armStep w) words m trace
+  pub run-as-arm : (w : Window) (words : List ℕ) (m : Machine) (l : Log) → Real m → machineRun w words m l ≡ runOf (badStart w) (armStep w) words m l
   pub step-real : (w : Window) (word : ℕ) (m : Machine) → Real m → Real (stepped w word m .machine)
   pub some-real : (m : Machine) × Real m
   -- "Every allocated word of the set has one record and one line of text": a word matches at most one row of 01's
@@ -147,14 +148,16 @@ pub record Demand3 : Type 0 where
   -- runs of demand 2 over that list. They start with the same marks, window, program counter and trace room, and with
   -- equal values in every unmarked register and byte. Then, whatever the marked ones hold in either run, both take the
   -- same number of steps, write the same trace, end with the same answer, code, address, program counter and marks, and
-  -- have equal values in every register and byte unmarked at the end."
-  pub two-runs : (w : Window) (words : List ℕ) (m n : Machine) (trace trail : List ℕ) → Same m n → ListN.length trace ≡ ListN.length trail
-      → ShowsRun Same (machineRun w words m trace) (machineRun w words n trail)
+  -- have equal values in every register and byte unmarked at the end." With 02: they "start and end with equal monitors" (CR
+  -- 3), "lend lists of the same length and write the same statuses" (CR 8)
+  pub two-runs : (w : Window) (words : List ℕ) (m n : Machine) (l k : Log) → Same m n → SameRoom l k
+      → ShowsRun Same (machineRun w words m l) (machineRun w words n k)
   -- of a single step, likewise
   pub two-steps : (w : Window) (word : ℕ) (m n : Machine) → Same m n → Shows Same (stepOf w word m) (stepOf w word n)
-  -- "In each run the marks at the end are exactly those that 01's rule makes of the starting marks over the steps done"
-  pub marks-at-end : (w : Window) (words : List ℕ) (m : Machine) (trace : List ℕ)
-      → machineRun w words m trace .machine .taints ≡ afterSteps (wordRule (w .origin)) words (machineRun w words m trace .trace) (machineRun w words m trace .steps) (m .taints)
+  -- "In each run the marks at the end are exactly those that 01's rule makes of the starting marks over the steps done",
+  -- by their words, addresses and statuses: 1 "changes no byte's mark, and either unmarks the status register" (02, CR 3)
+  pub marks-at-end : (w : Window) (words : List ℕ) (m : Machine) (l : Log)
+      → machineRun w words m l .machine .taints ≡ afterSteps (wordRule (w .origin)) words (machineRun w words m l .log) (machineRun w words m l .steps) (m .taints)
   pub marks-of-step : (w : Window) (word : ℕ) (m : Machine)
       → stepped w word m .machine .taints ≡ pick (eqb (stepAnswer w word m) 0) (wordRule (w .origin) word (stepped w word m .shown) (m .taints)) (m .taints)
   -- "A password can't choose an address: a step that would take one from anything marked gets answer 5, unless one of 1
@@ -165,24 +168,24 @@ pub record Demand3 : Type 0 where
 -- What the library for C and Rust carries over of this, its registers and marks being lent slices
 pub record Library : Type 0 where
   -- every call gets an answer
-  pub run : (w : Window) (words registers flags memory taint trace : List ℕ)
-      → Answered (Is (hostRun w words registers flags memory taint trace)) (λ r. r .reply .answer) (0 ∷ 1 ∷ 2 ∷ 3 ∷ 4 ∷ 5 ∷ 6 ∷ 7 ∷ 8 ∷ 10 ∷ [])
+  pub run : (w : Window) (words registers tainted memory taint trace statuses : List ℕ)
+      → Answered (Is (hostRun w words registers tainted memory taint trace statuses)) (λ r. r .reply .answer) (0 ∷ 1 ∷ 2 ∷ 3 ∷ 4 ∷ 5 ∷ 6 ∷ 7 ∷ 8 ∷ 10 ∷ [])
   pub text : (word : ℕ) (buffer : List ℕ) → Answered (Is (numbered (writeOf word buffer))) (λ r. r .answer) (0 ∷ 2 ∷ 3 ∷ 10 ∷ [])
   pub word : (t : List ℕ) → Answered (ReadAs t) (λ r. r .answer) (0 ∷ 9 ∷ [])
   pub list : (bytes output : List ℕ) → Answered (Is (numbered (listOf bytes output))) (λ r. r .answer) (0 ∷ 10 ∷ [])
   pub lister : (l : Lister) (c : Call) → Answered (Is (listerNumbered (callOf l c))) (λ r. r .answer) (0 ∷ 16 ∷ 10 ∷ [])
   -- with 1 and 10 every slice is as it was
-  pub early : (w : Window) (words registers flags memory taint trace : List ℕ)
-      → let ran = hostRun w words registers flags memory taint trace in
-      Early (ran .reply .answer) → ran ≡ hosted (ran .reply) registers flags memory taint trace
+  pub early : (w : Window) (words registers tainted memory taint trace statuses : List ℕ)
+      → let ran = hostRun w words registers tainted memory taint trace statuses in
+      Early (ran .reply .answer) → ran ≡ hosted (ran .reply) registers tainted memory taint trace statuses
   -- demand 3 of two calls with slices of the same lengths
-  pub two-calls : (w : Window) (words registers flags memory taint trace others raised bytes marks trail : List ℕ) → Same (machineIn registers flags memory taint) (machineIn others raised bytes marks)
-      → ListN.length registers ≡ ListN.length others → ListN.length flags ≡ ListN.length raised → ListN.length trace ≡ ListN.length trail
-      → ShowsHosted (hostRun w words registers flags memory taint trace) (hostRun w words others raised bytes marks trail)
+  pub two-calls : (w : Window) (words registers tainted memory taint trace statuses others raised bytes marks trail stated : List ℕ) → Same (machineIn registers tainted memory taint) (machineIn others raised bytes marks)
+      → ListN.length registers ≡ ListN.length others → ListN.length tainted ≡ ListN.length raised → ListN.length trace ≡ ListN.length trail → ListN.length statuses ≡ ListN.length stated
+      → ShowsHosted (hostRun w words registers tainted memory taint trace statuses) (hostRun w words others raised bytes marks trail stated)
   -- and its marks at the end
-  pub marks-at-end : (w : Window) (words registers flags memory taint trace : List ℕ)
-      → let ran = hostRun w words registers flags memory taint trace in
-      machineLeft ran .taints ≡ afterSteps (wordRule (w .origin)) words (ran .trace) (ran .reply .steps) (machineIn registers flags memory taint .taints)
+  pub marks-at-end : (w : Window) (words registers tainted memory taint trace statuses : List ℕ)
+      → let ran = hostRun w words registers tainted memory taint trace statuses in
+      machineLeft ran .taints ≡ afterSteps (wordRule (w .origin)) words (log (ran .trace) (ran .statuses)) (ran .reply .steps) (machineIn registers tainted memory taint .taints)
 
 -- The requests of document 02, in its words
 pub record Requests : Type 0 where
@@ -193,7 +196,7 @@ pub record Requests : Type 0 where
       → stepAnswer w word m ≡ 0 → ListN.getD (m .values) 31 0 % 16 ≡ 0
   pub stack-refused : (w : Window) (word : ℕ) (m : Machine) (t : Transfer) (a : Addressing) → wordAccess word ≡ Moves t a → a .relative ≡ false → a .base ≡ 31
       → bad w m ≡ false → answerNumber (classOf word) ≡ 0 → operandsOf a m .tainted ≡ false → ¬ (ListN.getD (m .values) 31 0 % 16 ≡ 0)
-      → (stepAnswer w word m ≡ 6) × (stepped w word m .shown ≡ shown 0 (ListN.getD (m .values) 31 0))
+      → (stepAnswer w word m ≡ 6) × (stepped w word m .shown ≡ shown 0 (ListN.getD (m .values) 31 0) 0)
   -- CR 2: "The two must give the same record or refusal for every 32-bit word": the decoder that goes by the table, and the
   -- plain one
   pub table-decodes : (word : ℕ) → decodeIn entries word ≡ decodeOf word
