@@ -1,11 +1,11 @@
 -- Every entry answers, with a number of 01's table. Assumes nothing.
-use Prim.Native.Nat.{ℕ, _*_}
+use Prim.Native.Nat.{ℕ}
 use mathlib.Core.Path.{_≡_, refl, sym, ap, _∙_}
 use mathlib.Core.Bool.{Bool, true, false}
 use mathlib.Core.List.{List, [], _∷_, _++_}
 use mathlib.Core.Logic.{inl, inr}
 use native.Mathlib.Omega.{arith}
-use lib.Dec.{ltb, eqb}
+use lib.Dec.{eqb}
 use lib.ListN.{length, getD}
 use Rattle.bits.specs.Choice.{pick}
 use Rattle.bits.proofs.Choices.{tested}
@@ -22,7 +22,7 @@ use Rattle.machine.specs.Machine.{Machine}
 use Rattle.machine.specs.Refusals.{bad, wordRefusals, refusals}
 use Rattle.machine.specs.Step.{Outcome, stepOf, performed}
 use Rattle.machine.proofs.Answers.{answers-exact, step-refuses, Later, word-later}
-use Rattle.execution.specs.Walk.{Log, log, short, runOf}
+use Rattle.execution.specs.Walk.{Log, short, runOf}
 use Rattle.execution.specs.Ends.{alone, Ends, lastOf}
 use Rattle.execution.specs.Run.{machineRun}
 use Rattle.execution.proofs.Walks.{run-ends}
@@ -33,7 +33,6 @@ use Rattle.reader.specs.Reading.{ReadOf}
 use Rattle.reader.proofs.RoundTrip.{read-some, read-once}
 use Rattle.host.specs.declared.WordReply.{WordReply}
 use Rattle.host.specs.Replies.{ReadAs}
-use Rattle.host.specs.Hosting.{machineIn, hostRun}
 use Rattle.host.proofs.Replies.{read-as}
 use Rattle.promises.specs.Answered.{oneOf, Answered, Is}
 
@@ -102,16 +101,6 @@ pub read-answered : (t : List ℕ) → Answered (ReadOf t) (λ r. answerNumber (
 read-answered t = record { some = read-some t; one = read-once t; answer = read-number t }
 
 -- ---- the library
-
-module _ (w : Window) (words registers tainted memory taint trace statuses : List ℕ) where
-  call-at : (y z : Bool) → ltb (length registers) 35 ≡ y → ltb (length tainted) 32 ≡ z → oneOf runNumbers (hostRun w words registers tainted memory taint trace statuses .reply .answer) ≡ true
-  unfolding hostRun
-  call-at true z e g = rw e
-  call-at false true e g = rw (e, g)
-  call-at false false e g = rw (e, g) (run-number w words (machineIn registers tainted memory taint) (log trace statuses))
-
-  pub call-number : oneOf runNumbers (hostRun w words registers tainted memory taint trace statuses .reply .answer) ≡ true
-  call-number = call-at (ltb (length registers) 35) (ltb (length tainted) 32) refl refl
 
 abbrev replied : Reading → WordReply
 replied q = record { answer = answerNumber (q .answer); word = q .word }

@@ -55,11 +55,10 @@ use Rattle.stream.specs.Streams.{refuses, Call, lent, linesOf, callOf}
 use Rattle.stream.proofs.Calls.{streamed, call-answer, call-closed, call-open, call-unchanged, call-puts}
 use Rattle.host.specs.Replies.{numbered, listerNumbered}
 use Rattle.host.specs.Hosting.{hostRun}
-use Rattle.host.proofs.Runs.{refused-unchanged as refused-calls}
-use Rattle.host.proofs.Secrecy.{hosted-taints, hosted-same}
+use Rattle.host.proofs.Secrecy.{hosted-same, hosted-taints, refused-unchanged as refused-calls}
 use Rattle.promises.specs.Answered.{oneOf}
 use Rattle.promises.specs.Demands.{Demand1, Demand2, Demand3, Library, Requests}
-use Rattle.promises.proofs.Answered.{by-definition, step-number, run-number, encode-number, read-answered, call-number, word-answered}
+use Rattle.promises.proofs.Answered.{by-definition, step-number, run-number, encode-number, read-answered, word-answered}
 
 decode-answer : (member wrong : Bool) → answerNumber (pick member (pick wrong Undefined Done) NotInSet) ≡ answerNumber (pick (not member) NotInSet (pick wrong Undefined Done))
 decode-answer true true = refl
@@ -245,13 +244,13 @@ lister-number l c =
 pub library : Library
 library =
     record {
-      run = λ w words registers tainted memory taint trace statuses. by-definition (hostRun w words registers tainted memory taint trace statuses) (call-number w words registers tainted memory taint trace statuses);
+      run = λ w words m l. by-definition (hostRun w words m l) (run-number w words m l);
       text = λ word buffer. by-definition (numbered (writeOf word buffer)) (written-number word buffer);
       word = word-answered;
       list = λ bytes output. by-definition (numbered (listOf bytes output)) (listed-number bytes output);
       lister = λ l c. by-definition (listerNumbered (callOf l c)) (lister-number l c);
       early = refused-calls;
-      two-calls = λ w words registers tainted memory taint trace statuses others raised bytes marks trail stated h many wide room also. hosted-same w words registers tainted memory taint trace statuses others raised bytes marks trail stated h many wide room also;
+      two-calls = hosted-same;
       marks-at-end = hosted-taints;
     }
 

@@ -59,8 +59,8 @@ use Rattle.stream.specs.declared.Lister.{Lister}
 use Rattle.stream.specs.Streams.{holding, refuses, refused, Call, push, close, lent, linesOf, callOf}
 use Rattle.stream.specs.Calls.{played}
 use Rattle.host.specs.Replies.{numbered, ReadAs, listerNumbered}
-use Rattle.host.specs.Hosting.{machineIn, hosted, hostRun}
-use Rattle.host.specs.Secrecy.{machineLeft, ShowsHosted}
+use Rattle.host.specs.Hosting.{hostRun}
+use Rattle.host.specs.Secrecy.{ShowsHosted}
 use Rattle.promises.specs.Answered.{Answered, Is}
 
 -- all that a step returns and leaves, and its answer
@@ -165,27 +165,23 @@ pub record Demand3 : Type 0 where
   pub marked-address : (w : Window) (word : ℕ) (m : Machine) (t : Transfer) (a : Addressing) → wordAccess word ≡ Moves t a → operandsOf a m .tainted ≡ true
       → stepAnswer w word m ≡ pick (bad w m) 1 (pick (eqb (answerNumber (classOf word)) 0) 5 (answerNumber (classOf word)))
 
--- What the library for C and Rust carries over of this, its registers and marks being lent slices
+-- What the library for C and Rust carries over of this. The machine is that of a session's record, which crosses by value, and
+-- of the lent memory and its marks; the log is the lent trace and statuses
 pub record Library : Type 0 where
   -- every call gets an answer
-  pub run : (w : Window) (words registers tainted memory taint trace statuses : List ℕ)
-      → Answered (Is (hostRun w words registers tainted memory taint trace statuses)) (λ r. r .reply .answer) (0 ∷ 1 ∷ 2 ∷ 3 ∷ 4 ∷ 5 ∷ 6 ∷ 7 ∷ 8 ∷ 10 ∷ [])
+  pub run : (w : Window) (words : List ℕ) (m : Machine) (l : Log) → Answered (Is (hostRun w words m l)) (λ r. r .answer) (0 ∷ 1 ∷ 2 ∷ 3 ∷ 4 ∷ 5 ∷ 6 ∷ 7 ∷ 8 ∷ 10 ∷ [])
   pub text : (word : ℕ) (buffer : List ℕ) → Answered (Is (numbered (writeOf word buffer))) (λ r. r .answer) (0 ∷ 2 ∷ 3 ∷ 10 ∷ [])
   pub word : (t : List ℕ) → Answered (ReadAs t) (λ r. r .answer) (0 ∷ 9 ∷ [])
   pub list : (bytes output : List ℕ) → Answered (Is (numbered (listOf bytes output))) (λ r. r .answer) (0 ∷ 10 ∷ [])
   pub lister : (l : Lister) (c : Call) → Answered (Is (listerNumbered (callOf l c))) (λ r. r .answer) (0 ∷ 16 ∷ 10 ∷ [])
-  -- with 1 and 10 every slice is as it was
-  pub early : (w : Window) (words registers tainted memory taint trace statuses : List ℕ)
-      → let ran = hostRun w words registers tainted memory taint trace statuses in
-      Early (ran .reply .answer) → ran ≡ hosted (ran .reply) registers tainted memory taint trace statuses
-  -- demand 3 of two calls with slices of the same lengths
-  pub two-calls : (w : Window) (words registers tainted memory taint trace statuses others raised bytes marks trail stated : List ℕ) → Same (machineIn registers tainted memory taint) (machineIn others raised bytes marks)
-      → ListN.length registers ≡ ListN.length others → ListN.length tainted ≡ ListN.length raised → ListN.length trace ≡ ListN.length trail → ListN.length statuses ≡ ListN.length stated
-      → ShowsHosted (hostRun w words registers tainted memory taint trace statuses) (hostRun w words others raised bytes marks trail stated)
+  -- with 1 and 10 the record and every slice are as they were
+  pub early : (w : Window) (words : List ℕ) (m : Machine) (l : Log) → Early (hostRun w words m l .answer) → (hostRun w words m l .machine ≡ m) × (hostRun w words m l .log ≡ l)
+  -- demand 3 of two calls
+  pub two-calls : (w : Window) (words : List ℕ) (m n : Machine) (l k : Log) → Same m n → SameRoom l k → ShowsHosted (hostRun w words m l) (hostRun w words n k)
   -- and its marks at the end
-  pub marks-at-end : (w : Window) (words registers tainted memory taint trace statuses : List ℕ)
-      → let ran = hostRun w words registers tainted memory taint trace statuses in
-      machineLeft ran .taints ≡ afterSteps (wordRule (w .origin)) words (log (ran .trace) (ran .statuses)) (ran .reply .steps) (machineIn registers tainted memory taint .taints)
+  pub marks-at-end : (w : Window) (words : List ℕ) (m : Machine) (l : Log)
+      → let ran = hostRun w words m l in
+      ran .machine .taints ≡ afterSteps (wordRule (w .origin)) words (ran .log) (ran .steps) (m .taints)
 
 -- The requests of document 02, in its words
 pub record Requests : Type 0 where
