@@ -13,10 +13,10 @@ use Rattle.bits.proofs.Parts.{Has}
 use Rattle.instruction.specs.declared.answer.Answer.the-variants.{BadWindow, NotInSet, Undefined, Unpredictable}
 use Rattle.instruction.specs.declared.row.Row.{Row}
 use Rattle.instruction.specs.declared.row.Row.the-variants.{NoRow, LiteralRow, PairRow, OrderedRow, UnscaledRow, PostRow, PreRow, RegisterRow, UnsignedRow, LoadExclusiveRow, StoreExclusiveRow, AcquireReleaseRow}
-use Rattle.instruction.specs.Table.{columnsOf, inSet, rowOf, undefined, allocated, unpredictable, instructionOf}
+use Rattle.instruction.specs.Table.{columnsOf, inSet, rowOf, undefined, unpredictable}
 use Rattle.instruction.proofs.Rows.{row-has}
-use Rattle.decoder.specs.Decoding.{decodeOf}
-use Rattle.access.specs.Accesses.{familyAccess, accessOf, wordAccess}
+use Rattle.access.specs.Accesses.{familyAccess, wordAccess}
+use Rattle.access.proofs.Rows.{row-access}
 use Rattle.plan.specs.declared.window.Window.{Window}
 use Rattle.plan.specs.Window.{badWindow}
 use Rattle.plan.specs.Admission.{admitOf}
@@ -48,18 +48,14 @@ module _ (w : Window) (m : Machine) (r : Ready w m) (word : ℕ) where
   row-step PreRow h u v e = pre-step w m r word u v e
   row-step RegisterRow h u v e = indexed-step w m r word u e
   row-step UnsignedRow h u v e = unsigned-step w m r word u e
-  row-step LoadExclusiveRow h u v e = load-exclusive-step w m r word (h .1 .1 .1 .0) (h .1 .1 .1 .1 .0) e
+  row-step LoadExclusiveRow h u v e = load-exclusive-step w m r word h e
   row-step StoreExclusiveRow h u v e = store-exclusive-step w m r word e
   row-step AcquireReleaseRow h u v e = acquire-release-step w m r word (h .1 .1 .1 .0) (h .1 .1 .1 .1 .1 .0) e
-
-  access-of : inSet word ≡ true → undefined word ≡ false → wordAccess word ≡ familyAccess (columnsOf (rowOf word) .family word)
-  unfolding decodeOf accessOf allocated instructionOf
-  access-of t u = rw (t, u)
 
   page-step : inSet word ≡ true → undefined word ≡ false → unpredictable word ≡ false
       → Steps w m (rowOf word) word (pageOf (rowOf word) word .operation word (armOf w m))
   unfolding undefined unpredictable
-  page-step t u v = row-step (rowOf word) (row-has word t) u v (access-of t u)
+  page-step t u v = row-step (rowOf word) (row-has word t) u v (row-access word t u)
 
 -- ---- answer 1
 

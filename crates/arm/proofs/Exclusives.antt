@@ -10,19 +10,19 @@ use lib.ListN.{length, set}
 use Rattle.bits.specs.Choice.{pick}
 use Rattle.bits.specs.Fields.{field}
 use Rattle.bits.specs.Bytes.{bytesOf}
-use Rattle.bits.proofs.Parts.{part-lt}
+use Rattle.bits.proofs.Parts.{Has, part-lt}
 use Rattle.registers.specs.File.{zeroSlot}
 use Rattle.instruction.specs.declared.row.Row.{Row}
 use Rattle.instruction.specs.declared.row.Row.the-variants.{LoadExclusiveRow, StoreExclusiveRow, AcquireReleaseRow}
-use Rattle.instruction.specs.declared.exclusive.AccessSize.{AccessSize}
 use Rattle.instruction.specs.Operations.{exclusiveAt, sizeAt}
 use Rattle.instruction.specs.Operands.{exclusiveBits, exclusiveOpIn, exclusiveIn, storeExclusiveIn}
 use Rattle.instruction.specs.Table.{columnsOf}
-use Rattle.access.specs.declared.addressing.Addressing.{Addressing}
+use Rattle.access.specs.declared.transfer.Transfer.{Transfer}
 use Rattle.access.specs.declared.Access.the-variants.{Moves}
 use Rattle.access.specs.Transfers.{monitoredTransfer, exclusiveTransfer}
 use Rattle.access.specs.Addressings.{based}
 use Rattle.access.specs.Accesses.{exclusiveAccess, storeExclusiveAccess, familyAccess, wordAccess}
+use Rattle.access.proofs.Rows.{load-exclusive-transfer}
 use Rattle.plan.specs.declared.window.Window.{Window}
 use Rattle.plan.specs.Admission.{misaligned, unaligned}
 use Rattle.machine.specs.Monitor.{matches, statusOf, monitorAfter, writtenBack, fails, madeOf}
@@ -193,20 +193,10 @@ module _ (w : Window) (m : Machine) (r : Ready w m) (word : ℕ) where
           → Steps w m LoadExclusiveRow word (CheckSPAlignment n s (loads (base n s) k (setX (field 4 0 word) width (ZeroExtend (8 * k) width (Mem (base n s) k (SetExclusiveMonitors (base n s) k s))) (SetExclusiveMonitors (base n s) k s))))
       load k width p q e = one-load w m r LoadExclusiveRow word _ true false false _ _ _ load-form refl k k width (Extend false (8 * k) width) p q (zeros k width) e
 
-  -- bit 15 changes nothing
-  load-transfer : (size : AccessSize) (o0 : ℕ) → o0 < 2 → exclusiveTransfer (exclusiveAt (2 + o0)) size (field 4 0 word) ≡ monitoredTransfer false true size (field 4 0 word)
-  unfolding exclusiveTransfer exclusiveAt
-  load-transfer size = two (λ o0. exclusiveTransfer (exclusiveAt (2 + o0)) size (field 4 0 word) ≡ monitoredTransfer false true size (field 4 0 word)) refl refl
-
-  pub load-exclusive-step : field 23 23 word ≡ 0 → field 22 22 word ≡ 1 → wordAccess word ≡ familyAccess (columnsOf LoadExclusiveRow .family word)
+  pub load-exclusive-step : Has word (columnsOf LoadExclusiveRow .fixed) → wordAccess word ≡ familyAccess (columnsOf LoadExclusiveRow .family word)
       → Steps w m LoadExclusiveRow word (loadExclusive word (armOf w m))
-  unfolding loadExclusive exclusiveOpIn exclusiveIn exclusiveAccess
-  load-exclusive-step h k e =
-      let code : exclusiveBits word ≡ 2 + field 15 15 word = omega (arith, h, k) in
-      let size = sizeAt (field 31 30 word) in
-      all-loads (field 31 30 word) size-lt
-      (e ∙ ap (λ (c : ℕ). Moves (exclusiveTransfer (exclusiveAt c) size (field 4 0 word)) (based n 0 false 32)) code
-      ∙ ap (λ t. Moves t (based n 0 false 32)) (load-transfer size (field 15 15 word) (part-lt 15 1 word)))
+  unfolding loadExclusive exclusiveIn exclusiveAccess
+  load-exclusive-step h e = all-loads (field 31 30 word) size-lt (e ∙ ap (λ (t : Transfer). Moves t (based n 0 false 32)) (load-exclusive-transfer word h))
 
   -- ---- store-exclusive
 

@@ -115,7 +115,7 @@ access-later w (Moves t a) m = ((omega arith, omega arith), ((omega arith, omega
 pub word-later : (w : Window) (word : ℕ) (m : Machine) → Each Later (wordRefusals (admitOf w (length (m .memory))) word m)
 word-later w word m = ((omega arith, omega arith), ((omega arith, omega arith), ((omega arith, omega arith), access-later w (wordAccess word) m)))
 
-all-refuse : (w : Window) (word : ℕ) (m : Machine) → Each (λ e. ¬ (answerNumber (e .answer) ≡ 0)) (refusals w word m)
+pub all-refuse : (w : Window) (word : ℕ) (m : Machine) → Each (λ e. ¬ (answerNumber (e .answer) ≡ 0)) (refusals w word m)
 all-refuse w word m =
     ((λ h. omega arith), each-map {P = Later} {Q = λ e. ¬ (answerNumber (e .answer) ≡ 0)} (λ e later h. omega (arith, later .0)) (wordRefusals (admitOf w (length (m .memory))) word m) (word-later w word m))
 

@@ -1,3 +1,4 @@
 pub mod Answers
 pub mod Taints
+pub mod Exclusives
 pub mod Writing

@@ -3,4 +3,5 @@ pub mod Rule
 pub mod Machine
 pub mod Refusals
 pub mod Step
+pub mod Exclusives
 pub mod route
