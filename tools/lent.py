@@ -298,7 +298,7 @@ Callee 𝓤 H A at-mem run = tripleOf 𝓤 H A callee.signature (callee.spec �
         if self.reply:
             steps += ['frame !', f'owned ! Y.the-row (Is Y.the-row) (LL.makes Y.the-type Y′.the-plain 𝓤 H A) (r .{self.fields[1]}) _ is', 'done !']
         else:
-            steps += ['frame !', 'feqI ! (List Val) (vunit ∷ []) (vunit ∷ []) refl', 'move ! (1 ∷ 0 ∷ [])', 'done !'][1:]
+            steps += ['feqI ! (List Val) (vunit ∷ []) (vunit ∷ []) refl', 'move ! (1 ∷ 0 ∷ [])', 'done !']
         returned = f'(r .{self.fields[1]})' if self.reply else 'tt'
         return f"""\
   exits : (r : {self.returned}){lasts} → {known}{says} → {lengths}ent 𝓤 (⋆ 𝓤 H A ({context})) (Post ({self.value}))
