@@ -12,7 +12,6 @@ use Rattle.bits.specs.Fields.{field}
 use Rattle.bits.specs.Bytes.{bytesOf}
 use Rattle.bits.proofs.Parts.{Has, part-lt}
 use Rattle.registers.specs.File.{zeroSlot}
-use Rattle.instruction.specs.declared.row.Row.{Row}
 use Rattle.instruction.specs.declared.row.Row.the-variants.{LoadExclusiveRow, StoreExclusiveRow, AcquireReleaseRow}
 use Rattle.instruction.specs.Operations.{exclusiveAt, sizeAt}
 use Rattle.instruction.specs.Operands.{exclusiveBits, exclusiveOpIn, exclusiveIn, storeExclusiveIn}
@@ -33,7 +32,7 @@ use Rattle.arm.specs.Exclusive.{loadExclusive, storeExclusive}
 use Rattle.arm.specs.AcquireRelease.{acquireRelease}
 use Rattle.arm.specs.Marks.{marksOf}
 use Rattle.arm.specs.Pages.{pageOf}
-use Rattle.arm.specs.Choices.{marked, misplaced, armOf}
+use Rattle.arm.specs.Choices.{misplaced, armOf}
 use Rattle.arm.proofs.Bits.{add-small, zero-extend}
 use Rattle.arm.proofs.Places.{set-x, set-mem, mem-monitor}
 use Rattle.arm.proofs.Marks.{single, status-marks}

@@ -10,7 +10,7 @@ use borrow.Author.Tests.{ltb-false}
 use lib.Dec.{ltb}
 use Rattle.bits.specs.Choice.{pick}
 use lib.ListN.{length, take, drop, getD, set, drop-of-length-le}
-use lib.Seq.{sets, take-length, drop-cons, getD-take}
+use lib.Seq.{take-length, drop-cons, getD-take}
 use Rattle.bits.proofs.Lists.{sets-front}
 use Rattle.instruction.specs.declared.answer.Answer.{Answer}
 use Rattle.instruction.specs.declared.answer.Answer.the-variants.{Done, BadWindow, NoRoom}

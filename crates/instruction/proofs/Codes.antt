@@ -9,7 +9,7 @@ use borrow.Author.Tests.{eqb-true, ne-eqb, ltb-true, le-ltb}
 use Rattle.bits.specs.Choice.{byCode}
 use Rattle.bits.proofs.Choices.{pick-by, tested, every, each}
 use Rattle.instruction.specs.Types.{SizedOp, PairOp, LiteralOp, PairMode, AccessSize, ExclusiveOp, StoreExclusiveOp}
-use Rattle.instruction.specs.Operations.{sizedCode, sizeOf, opcOf, scaleOf, sizedBytes, sizedOps, sizedAt, literalOpc, literalOps, literalAt, pairCode, pairOpc, pairLoad, pairBytes, pairOps, pairAt, modeCode, modes, modeAt, exclusiveCode, exclusiveOps, exclusiveAt, storeExclusiveCode, storeExclusiveAt, accessScale, accessSizes, sizeAt, accessBytes}
+use Rattle.instruction.specs.Operations.{sizedCode, sizeOf, opcOf, scaleOf, sizedBytes, sizedOps, sizedAt, literalOpc, literalOps, literalAt, pairCode, pairOpc, pairLoad, pairBytes, pairOps, pairAt, modeCode, modes, modeAt, exclusiveCode, exclusiveOps, exclusiveAt, storeExclusiveCode, storeExclusiveAt, accessScale, accessSizes, sizeAt}
 
 -- ---- from an operation to its code and back: each is found by its code, so a test that is computed for all shows a fact of each
 

@@ -30,6 +30,7 @@ use Rattle.machine.specs.Step.{Step, stopped, moved, stepOf, performed}
 use Rattle.machine.proofs.Answers.{answers-exact, answers-given, refused-unchanged, tainted-refused, Refuses, step-refuses, stack-refused, stack-aligned}
 use Rattle.machine.proofs.Taints.{Follows, taintsIn, taints-by-rule}
 use Rattle.session.proofs.Exact.{step-exact, register-exact}
+use Rattle.machine.proofs.Exclusives.{load-arms, store-exclusive, others-keep, tests-first}
 use Rattle.execution.specs.Walk.{runOf}
 use Rattle.execution.specs.Run.{machineRun}
 use Rattle.execution.proofs.Walks.{run-keeps, run-ends, run-bad, run-short}
@@ -265,6 +266,10 @@ requests =
       table-decodes = decode-same;
       entry-names = entry-names;
       entry-code = entry-code;
+      load-arms = load-arms;
+      store-exclusive = store-exclusive;
+      others-keep = others-keep;
+      tests-first = λ w word m r. ap answerNumber (tests-first w word m r);
       text-most = text-short;
       text-reached = text-reached;
       line-most = line-within;

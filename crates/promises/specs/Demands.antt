@@ -2,7 +2,7 @@
 -- that followed. A reader who trusts the definitions that are named here needs no other page. The contracts of the public
 -- functions say that the code returns and leaves what these definitions say, on any input: no function has a condition
 -- to meet.
-use Prim.Native.Nat.{ℕ, suc, _%_, _≤_, _<_}
+use Prim.Native.Nat.{ℕ, suc, _%_, _^_, _≤_, _<_}
 use mathlib.Core.Path.{_≡_}
 use mathlib.Core.Bool.{true, false, not}
 use mathlib.Core.List.{List, [], _∷_}
@@ -30,12 +30,14 @@ use Rattle.access.specs.Accesses.{wordAccess}
 use Rattle.memory.specs.Taints.{tainted}
 use Rattle.registers.specs.declared.Registers.{Registers}
 use Rattle.registers.specs.File.{setAt}
+use Rattle.machine.specs.declared.monitor.Monitor.{Monitor}
 use Rattle.machine.specs.Rule.{wordRule}
 use Rattle.machine.specs.declared.State.{State}
 use Rattle.machine.specs.declared.Stepped.{Stepped}
 use Rattle.machine.specs.Machine.{Machine, machineOf, operandsOf}
 use Rattle.machine.specs.Refusals.{bad, classRefusals, refusals}
 use Rattle.machine.specs.Step.{shown, Outcome, outcome, stepOf, performed, leaves}
+use Rattle.machine.specs.Exclusives.{StoresExclusive, withMonitor}
 use Rattle.session.specs.declared.StepReply.{StepReply}
 use Rattle.session.specs.Lent.{lentOutcome, lentStep, replyOf, withRegister}
 use Rattle.secrecy.specs.Agree.{Shows}
@@ -201,6 +203,19 @@ pub record Requests : Type 0 where
   pub entry-names : (ten : ℕ) → ten < 1024 → (r : Row) → ¬ (r ≡ Row.NoRow) → (names (familiesIn (ListN.getD entries ten 0)) r ≡ true) ↔ Allowed ten r
   -- "and their operation code": of each word that matches a row
   pub entry-code : (word : ℕ) (r : Row) → ¬ (r ≡ Row.NoRow) → matches word r ≡ true → codeIn (ListN.getD entries (field 31 22 word) 0) ≡ operationCode r word
+  -- CR 3: "A load-exclusive arms it": one that is done leaves the monitor with the address that it shows, and the word's bytes
+  pub load-arms : (w : Window) (word : ℕ) (m : Machine) → matches word Row.LoadExclusiveRow ≡ true → stepAnswer w word m ≡ 0
+      → stepped w word m .machine .monitor ≡ record { address = stepped w word m .shown .address; size = 2 ^ field 31 30 word }
+  -- "A store-exclusive stores and writes status 0 exactly if the monitor has the same address and size; otherwise it writes status 1
+  -- and stores nothing, marks included. Either way the monitor opens": one that is done, with Rs for its status, and Rt
+  pub store-exclusive : (w : Window) (word : ℕ) (m : Machine) → matches word Row.StoreExclusiveRow ≡ true → stepAnswer w word m ≡ 0
+      → StoresExclusive (w .origin) (2 ^ field 31 30 word) (field 20 16 word) (field 4 0 word) m (stepped w word m)
+  -- "Ordinary stores don't touch it", nor does any other word, refused or not, and its status is 0
+  pub others-keep : (w : Window) (word : ℕ) (m : Machine) → matches word Row.LoadExclusiveRow ≡ false → matches word Row.StoreExclusiveRow ≡ false
+      → (stepped w word m .machine .monitor ≡ m .monitor) × (stepped w word m .shown .status ≡ 0)
+  -- "All tests come before the monitor is looked at": the answer is the same with any other; "a refused step keeps the monitor" is
+  -- demand 1's `refused-step`
+  pub tests-first : (w : Window) (word : ℕ) (m : Machine) (r : Monitor) → stepAnswer w word (withMonitor r m) ≡ stepAnswer w word m
   -- CR 4: "Promise that no allocated word's text is longer than 30 bytes and show a word that reaches it"; CR 7: "CR 4's bound
   -- becomes 35 and a line's becomes 46, both still reached"
   pub text-most : (word : ℕ) → allocated word ≡ true → ListN.length (wordText word) ≤ textMost

@@ -3,7 +3,6 @@ use Prim.Native.Nat.{_*_}
 use native.Mathlib.Omega.{arith}
 use borrow.Author.Tests.{lt-ltb, le-ltb}
 use Rattle.execution.specs.Walk.{tooShort}
-use borrow.Author.Needs.{needs}
 use Rattle.execution.proofs.is_short.Statement.{statement}
 use Rattle.execution.proofs.is_short.Tie as tie
 

@@ -1,6 +1,5 @@
 -- `machine::effect::sets_more` meets its contract. Assumes nothing.
 use borrow.Author.Tests.{lt-ltb, le-ltb}
-use borrow.Author.Needs.{needs}
 use Rattle.machine.proofs.effect.sets_more.Statement.{statement}
 use Rattle.machine.proofs.effect.sets_more.Tie as tie
 

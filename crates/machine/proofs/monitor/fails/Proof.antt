@@ -1,6 +1,5 @@
 -- `machine::monitor::fails` meets its contract. Assumes nothing.
 use Rattle.machine.specs.Monitor.{fails}
-use borrow.Author.Needs.{needs}
 use Rattle.machine.proofs.monitor.fails.Statement.{statement}
 use Rattle.machine.proofs.monitor.fails.Tie as tie
 

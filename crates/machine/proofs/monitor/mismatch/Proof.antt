@@ -1,7 +1,6 @@
 -- `machine::monitor::mismatch` meets its contract. Assumes nothing.
 use borrow.Author.Tests.{eq-eqb, ne-eqb}
 use Rattle.machine.specs.Monitor.{matches}
-use borrow.Author.Needs.{needs}
 use Rattle.machine.proofs.monitor.mismatch.Statement.{statement}
 use Rattle.machine.proofs.monitor.mismatch.Tie as tie
 

@@ -1,6 +1,5 @@
 -- `machine::monitor::written_back` meets its contract. Assumes nothing.
 use Rattle.machine.specs.Monitor.{writtenBack}
-use borrow.Author.Needs.{needs}
 use Rattle.machine.proofs.monitor.written_back.Statement.{statement}
 use Rattle.machine.proofs.monitor.written_back.Tie as tie
 

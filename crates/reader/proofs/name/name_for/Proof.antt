@@ -4,7 +4,7 @@ use mathlib.Core.Path.{_≡_, refl, sym, ap, _∙_}
 use mathlib.Core.Bool.{true, false}
 use native.Mathlib.Omega.{arith}
 use Rattle.mnemonic.specs.route.Names.{nameAt, nameCount}
-use Rattle.reader.specs.route.Names.{isName, searched, nameFor, letterFor}
+use Rattle.reader.specs.route.Names.{isName, searched, nameFor}
 use borrow.Author.Needs.{needs}
 use Rattle.reader.proofs.name.name_for.Statement.{statement}
 use Rattle.reader.proofs.name.name_for.Tie as tie
