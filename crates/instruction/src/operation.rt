@@ -44,7 +44,7 @@ pub enum PairMode {
 }
 
 // Size and opc side by side. A prefetch has the size of a doubleword.
-fn sized_code(op: SizedOp) -> u32
+pub fn sized_code(op: SizedOp) -> u32
     ensures { λ r. ⌜ (r ≡ sizedCode op) × (r < 16) ⌝ }
 {
     match op {
@@ -139,7 +139,7 @@ pub fn literal_at(opc: u32) -> LiteralOp
 }
 
 // Opc and L of a pair side by side.
-fn pair_code(op: PairOp) -> u32
+pub fn pair_code(op: PairOp) -> u32
     ensures { λ r. ⌜ (r ≡ pairCode op) × (r < 6) ⌝ }
 {
     match op {

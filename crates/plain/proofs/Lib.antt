@@ -1,0 +1,5 @@
+pub mod Alike
+pub mod Naming
+pub mod Arms
+pub mod RoundTrip
+pub mod Examples

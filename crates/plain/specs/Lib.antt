@@ -1,0 +1,4 @@
+pub mod Plains
+pub mod Coding
+pub mod Examples
+pub mod route
