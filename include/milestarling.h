@@ -79,7 +79,7 @@ enum milestarling_answer {
     MILESTARLING_NO_SUCH_TEXT = 9,
     /* a slice is too short for what belongs there */
     MILESTARLING_NO_ROOM = 10,
-    /* no word encodes the instruction: no function below answers this */
+    /* the numbers are those of no word's instruction */
     MILESTARLING_NO_SUCH_INSTRUCTION = 11,
     /* the lister is closed, or is said to hold more than three bytes */
     MILESTARLING_CLOSED = 16
@@ -222,6 +222,118 @@ struct milestarling_lister_reply milestarling_lister_push(
  */
 struct milestarling_lister_reply milestarling_lister_close(
     struct milestarling_lister lister, uint8_t *output, size_t output_length);
+
+/* ---- Instructions as numbers, for a host that needs more of a word than its text. */
+
+/* The families, in the order of document 01's table; 02's exclusive and acquire/release forms are the ninth. */
+enum milestarling_family {
+    MILESTARLING_NO_FAMILY = 0,
+    MILESTARLING_LITERAL = 1,
+    MILESTARLING_PAIR = 2,
+    MILESTARLING_ORDERED = 3,
+    MILESTARLING_UNSCALED = 4,
+    MILESTARLING_POST_INDEX = 5,
+    MILESTARLING_PRE_INDEX = 6,
+    MILESTARLING_REGISTER = 7,
+    MILESTARLING_UNSIGNED = 8,
+    MILESTARLING_EXCLUSIVE = 9
+};
+
+enum milestarling_direction {
+    MILESTARLING_NO_ACCESS = 0, /* a prefetch */
+    MILESTARLING_LOAD = 1,
+    MILESTARLING_STORE = 2
+};
+
+/* The operation of families 3 to 8: size * 4 + opc of the word. A signed load extends to 64 bits, or to 32. */
+enum milestarling_sized_operation {
+    MILESTARLING_STORE_BYTE = 0,
+    MILESTARLING_LOAD_BYTE = 1,
+    MILESTARLING_LOAD_SIGNED_BYTE_64 = 2,
+    MILESTARLING_LOAD_SIGNED_BYTE_32 = 3,
+    MILESTARLING_STORE_HALF = 4,
+    MILESTARLING_LOAD_HALF = 5,
+    MILESTARLING_LOAD_SIGNED_HALF_64 = 6,
+    MILESTARLING_LOAD_SIGNED_HALF_32 = 7,
+    MILESTARLING_STORE_WORD = 8,
+    MILESTARLING_LOAD_WORD = 9,
+    MILESTARLING_LOAD_SIGNED_WORD_64 = 10,
+    MILESTARLING_STORE_DOUBLE = 12,
+    MILESTARLING_LOAD_DOUBLE = 13,
+    MILESTARLING_PREFETCH_HINT = 14
+};
+
+/* Of a literal: opc. */
+enum milestarling_literal_operation {
+    MILESTARLING_LITERAL_WORD = 0,
+    MILESTARLING_LITERAL_DOUBLE = 1,
+    MILESTARLING_LITERAL_SIGNED_WORD = 2,
+    MILESTARLING_LITERAL_PREFETCH = 3
+};
+
+/* Of a pair: opc * 2 + L; and its mode. */
+enum milestarling_pair_operation {
+    MILESTARLING_STORE_WORDS = 0,
+    MILESTARLING_LOAD_WORDS = 1,
+    MILESTARLING_LOAD_SIGNED_WORDS = 3,
+    MILESTARLING_STORE_DOUBLES = 4,
+    MILESTARLING_LOAD_DOUBLES = 5
+};
+
+enum milestarling_pair_mode {
+    MILESTARLING_PAIR_NO_ALLOCATE = 0,
+    MILESTARLING_PAIR_POST = 1,
+    MILESTARLING_PAIR_OFFSET = 2,
+    MILESTARLING_PAIR_PRE = 3
+};
+
+/* Of the ninth family, one of these and 8 * size, where 2 to the power of size is the number of bytes. */
+enum milestarling_exclusive_operation {
+    MILESTARLING_STXR = 0,
+    MILESTARLING_STLXR = 1,
+    MILESTARLING_LDXR = 2,
+    MILESTARLING_LDAXR = 3,
+    MILESTARLING_STLR = 5,
+    MILESTARLING_LDAR = 7
+};
+
+/*
+ * The numbers of an instruction. A field that the family hasn't got is 0. Registers are 0 to 31, where 31 is sp as the
+ * base and the zero register elsewhere.
+ */
+struct milestarling_instruction {
+    uint32_t family;    /* enum milestarling_family */
+    uint32_t operation; /* of the family */
+    uint32_t direction; /* enum milestarling_direction */
+    uint32_t bytes;     /* all that the access moves, both registers of a pair together; 0 for a prefetch */
+    uint32_t target;    /* Rt, or the hint of a prefetch */
+    uint32_t second;    /* Rt2 of a pair */
+    uint32_t base;      /* Rn: of all families but the literal */
+    uint32_t index;     /* Rm, with its option (2 uxtw, 3 lsl, 6 sxtw, 7 sxtx) and S */
+    uint32_t option;
+    uint32_t scaled;
+    uint32_t mode;      /* enum milestarling_pair_mode */
+    uint32_t status;    /* Rs of stxr and stlxr */
+    int64_t offset;     /* in bytes */
+};
+
+/* The numbers are 0 where the answer isn't. */
+struct milestarling_decode_reply {
+    struct milestarling_instruction instruction;
+    uint64_t answer;
+};
+
+/* The answer that depends on the word alone: 0, 2, 3 or 4. */
+uint64_t milestarling_classify(uint32_t word);
+
+/* The numbers of a word. Answers 0, 2 or 3: a word of answer 4 has numbers, and a text. */
+struct milestarling_decode_reply milestarling_decode(uint32_t word);
+
+/*
+ * The one word that has these numbers. Answers 0, or 11 where no word has them: each number counts, also one that the
+ * family hasn't got, and direction and bytes.
+ */
+struct milestarling_word_reply milestarling_encode(struct milestarling_instruction instruction);
 
 /* ---- The same run over structs. A struct of zeros, {0} in C and {} in C++, is new registers, and memory of no bytes. */
 

@@ -27,6 +27,12 @@ try stream.c tests/stream.expected
 try plugin.c tests/plugin.expected examples/plugin/compare.bin examples/plugin/compare_early.bin examples/plugin/look_up.bin
 echo "host: the examples wrote what tests/*.expected have"
 
+# Instructions as numbers, held against their text.
+for level in -O0 -O2; do
+    cc -std=c11 "$level" "${strict[@]}" -Iinclude -o "$room/records" tests/records.c "$archive"
+    "$room/records"
+done
+
 # The header's texts are those of docs/ANSWERS.md, and its version is the Rust package's.
 sed -n '/^| Answer | Text |$/,$p' docs/ANSWERS.md | tail -n +3 > "$room/said"
 version=$(sed -n 's/^version = "\(.*\)"$/\1/p' bindings/rust/Cargo.toml)

@@ -1,7 +1,8 @@
 #!/usr/bin/env bash
 # Builds target/staticlib/libmilestarling.a, the library for C and Rust, and proves all that it is made of. rt makes an
-# archive of what one crate exports: libhost.a, and libsession.a for the functions over a session's record. Hosts link both as
-# one, by the project's name. It is built anew unless this very archive was built of these very sources by this kit.
+# archive of what one crate exports: libhost.a, libsession.a for the functions over a session's record, and librecords.a for
+# instructions as numbers. Hosts link them as one, by the project's name. It is built anew unless this very archive was built of
+# these very sources by this kit.
 set -euo pipefail
 cd "$(dirname "${BASH_SOURCE[0]}")/.."
 archive=target/staticlib/libmilestarling.a
@@ -19,11 +20,13 @@ fi
 rm -f "$archive.made"
 rt staticlib host
 rt staticlib session
+rt staticlib records
 rm -f "$archive"
 ar -M <<END
 create $archive
 addlib target/staticlib/libhost.a
 addlib target/staticlib/libsession.a
+addlib target/staticlib/librecords.a
 save
 end
 END

@@ -1,8 +1,10 @@
-//! The only unsafe code: the eight functions of `libmilestarling.a`, and their safe forms over slices.
+//! The only unsafe code: the functions of `libmilestarling.a`, and their safe forms over slices.
 
 #![allow(unsafe_code)]
 
-use crate::raw::{Lister, ListerReply, RunReply, SessionRecord, StepReply, TextReply, WordReply};
+use crate::raw::{
+    DecodeReply, Lister, ListerReply, Numbers, RunReply, SessionRecord, StepReply, TextReply, WordReply,
+};
 
 extern "C" {
     fn milestarling_run(
@@ -43,9 +45,12 @@ extern "C" {
         output_len: usize,
     ) -> ListerReply;
     fn milestarling_lister_close(lister: Lister, output: *mut u8, output_len: usize) -> ListerReply;
+    fn milestarling_classify(word: u32) -> u64;
+    fn milestarling_decode(word: u32) -> DecodeReply;
+    fn milestarling_encode(numbers: Numbers) -> WordReply;
 }
 
-// All eight are proved for any numbers and any slices, without a trap and without an endless loop. What is left for a
+// All are proved for any numbers and any slices, without a trap and without an endless loop. What is left for a
 // caller to see to is what a slice promises: its bytes are there, and nobody else writes them, or reads what a `&mut`
 // lends, during the call. A Rust slice promises just that, so these functions are safe.
 
@@ -140,6 +145,24 @@ pub(crate) fn lister_push(lister: Lister, fragment: &[u8], output: &mut [u8]) ->
 pub(crate) fn lister_close(lister: Lister, output: &mut [u8]) -> ListerReply {
     // SAFETY: pointer and length come from one slice.
     unsafe { milestarling_lister_close(lister, output.as_mut_ptr(), output.len()) }
+}
+
+#[inline]
+pub(crate) fn classify(word: u32) -> u64 {
+    // SAFETY: only numbers cross.
+    unsafe { milestarling_classify(word) }
+}
+
+#[inline]
+pub(crate) fn decode(word: u32) -> DecodeReply {
+    // SAFETY: only numbers cross.
+    unsafe { milestarling_decode(word) }
+}
+
+#[inline]
+pub(crate) fn encode(numbers: Numbers) -> WordReply {
+    // SAFETY: only numbers cross.
+    unsafe { milestarling_encode(numbers) }
 }
 
 /// The trace as the library writes it, two numbers for each step.

@@ -7,7 +7,7 @@
 //! - [`Machine`] does steps and runs over memory that it owns or borrows, with taints and a trace; [`Memory`] does so for
 //!   [`Registers`] that are lent to it, and [`step_in`] on several regions.
 //! - [`Session`] is one session's record, which is stepped in place, a word at a time.
-//! - [`Instruction`] goes from words to lines of text and back.
+//! - [`Instruction`] goes from words to lines of text and back, and to [`Numbers`] and back.
 //! - [`words`] goes through an image, word by word.
 //! - [`listing`] lists bytes, and [`Lister`] and [`ListingWriter`] list what comes in fragments.
 //! - [`raw`] has the library's functions as they are.
@@ -47,6 +47,7 @@ mod answer;
 mod ffi;
 mod image;
 mod machine;
+mod numbers;
 pub mod raw;
 mod registers;
 mod session;
@@ -56,6 +57,8 @@ mod text;
 pub use answer::{Answer, Refusal, UnknownAnswer};
 pub use image::{words, Words};
 pub use machine::{step_in, Access, Machine, Memory, Run, TaintedBytes, Window};
+pub use numbers::classify;
+pub use raw::Numbers;
 pub use registers::{Register, Registers, UnknownRegister};
 pub use session::{Monitor, Session, Step};
 pub use stream::{Lister, ListingWriter};

@@ -1,4 +1,4 @@
-//! The library's eight functions as they are: slices and numbers in, numbers out.
+//! The library's functions as they are: slices and numbers in, numbers out.
 //!
 //! For hosts that keep registers, trace and buffers in a layout of their own. Answers are the numbers of documents
 //! 01 and 02; [`Answer::try_from`](crate::Answer) names them. No function here has a condition that its caller must meet.
@@ -225,4 +225,85 @@ pub fn lister_push(lister: Lister, fragment: &[u8], output: &mut [u8]) -> Lister
 #[inline]
 pub fn lister_close(lister: Lister, output: &mut [u8]) -> ListerReply {
     ffi::lister_close(lister, output)
+}
+
+/// The numbers of an instruction: what the library knows of an allocated word, so that nobody decodes it again.
+///
+/// A field that the family hasn't got is 0. Registers are 0 to 31, where 31 is SP as the base and the zero register
+/// elsewhere. The header has names for the numbers of families and operations.
+///
+/// ```
+/// use milestarling::{Instruction, Numbers};
+///
+/// # fn main() -> Result<(), milestarling::Refusal> {
+/// let push: Instruction = "stp x29, x30, [sp, #-16]!".parse()?;
+/// let numbers = push.numbers();
+/// assert_eq!((numbers.family, numbers.direction, numbers.bytes), (2, Numbers::STORE, 16));
+/// assert_eq!((numbers.target, numbers.second, numbers.base, numbers.offset), (29, 30, 31, -16));
+///
+/// let next = Numbers { offset: -32, ..numbers }.encode()?;
+/// assert_eq!(next.to_string(), "stp x29, x30, [sp, #-32]!");
+/// assert!(Numbers { bytes: 8, ..numbers }.encode().is_err());
+/// # Ok(())
+/// # }
+/// ```
+#[repr(C)]
+#[derive(Clone, Copy, Debug, Default, PartialEq, Eq, Hash)]
+pub struct Numbers {
+    /// 1 to 9 in the order of document 01's table: literal, pair, ordered, unscaled, post-index, pre-index, register,
+    /// unsigned, and 02's exclusive and acquire/release forms. 0 where there is no instruction.
+    pub family: u32,
+    /// Size and opc of the word side by side; of a literal its opc, of a pair opc and L, of the ninth family size,
+    /// bit 23, L and bit 15.
+    pub operation: u32,
+    /// [`Numbers::LOAD`], [`Numbers::STORE`], or 0 for a prefetch.
+    pub direction: u32,
+    /// All that the access moves, both registers of a pair together; 0 for a prefetch.
+    pub bytes: u32,
+    /// Rt, or the hint of a prefetch.
+    pub target: u32,
+    /// Rt2 of a pair.
+    pub second: u32,
+    /// Rn.
+    pub base: u32,
+    /// Rm of the register family.
+    pub index: u32,
+    /// How it is extended: 2 for uxtw, 3 for lsl, 6 for sxtw, 7 for sxtx.
+    pub option: u32,
+    /// 1 where it is shifted by the size.
+    pub scaled: u32,
+    /// The mode of a pair: 0 no-allocate, 1 post, 2 offset, 3 pre.
+    pub mode: u32,
+    /// Rs of a store-exclusive.
+    pub status: u32,
+    /// In bytes.
+    pub offset: i64,
+}
+
+/// What decoding a word returns.
+#[repr(C)]
+#[derive(Clone, Copy, Debug, Default, PartialEq, Eq)]
+pub struct DecodeReply {
+    /// The numbers; zeros for a refusal.
+    pub numbers: Numbers,
+    /// The answer: 0, 2 or 3.
+    pub answer: u64,
+}
+
+/// The answer that depends on a word alone: 0, 2, 3 or 4.
+#[inline]
+pub fn classify(word: u32) -> u64 {
+    ffi::classify(word)
+}
+
+/// The numbers of a word.
+#[inline]
+pub fn decode(word: u32) -> DecodeReply {
+    ffi::decode(word)
+}
+
+/// The word that has these numbers, or 11 where none has. Every field counts.
+#[inline]
+pub fn encode(numbers: Numbers) -> WordReply {
+    ffi::encode(numbers)
 }

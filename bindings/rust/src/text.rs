@@ -69,6 +69,11 @@ impl Instruction {
         }
     }
 
+    /// The instruction of a word that the library gave as an allocated one.
+    pub(crate) const fn of_allocated(word: u32) -> Instruction {
+        Instruction(word)
+    }
+
     /// The word.
     pub const fn word(self) -> u32 {
         self.0
@@ -83,7 +88,7 @@ impl Instruction {
         let reply = ffi::word(line);
         match Answer::of_reply(reply.answer) {
             // A word that was read has 32 bits.
-            Answer::Done => Ok(Instruction(reply.word as u32)),
+            Answer::Done => Ok(Instruction::of_allocated(reply.word as u32)),
             answer => Err(Refusal::new(answer)),
         }
     }
