@@ -2,19 +2,15 @@
 // and the operation as the fields of a word that name it.
 use crate::case::Case;
 use instruction::AccessSize;
-use instruction::ExclusiveOp;
 use instruction::ExclusiveOperands;
 use instruction::Family;
 use instruction::IndexOperands;
 use instruction::Instruction;
-use instruction::LiteralOp;
 use instruction::LiteralOperands;
 use instruction::OffsetOperands;
-use instruction::PairOp;
 use instruction::PairOperands;
-use instruction::SizedOp;
-use instruction::StoreExclusiveOp;
 use instruction::StoreExclusiveOperands;
+use plain::Plain;
 
 // Numbers of no family, operation or mode give the empty instruction.
 pub fn instruction_of(c: Case) -> Instruction {
@@ -154,104 +150,32 @@ fn signed(n: u64) -> i64 {
 
 // The case that gives this instruction.
 pub fn case_of(i: Instruction) -> Case {
-    let family = i.family;
-    match family {
-        Family::Empty => blank(0, 0),
-        Family::Literal(op, o) => literal_case(op, o),
-        Family::Pair(op, o) => pair_case(op, o),
-        Family::Ordered(op, o) => offset_case(3, op, o),
-        Family::Unscaled(op, o) => offset_case(4, op, o),
-        Family::PostIndex(op, o) => offset_case(5, op, o),
-        Family::PreIndex(op, o) => offset_case(6, op, o),
-        Family::Register(op, o) => index_case(op, o),
-        Family::Unsigned(op, o) => offset_case(8, op, o),
-        Family::Exclusive(op, o) => exclusive_case(op, o),
-        Family::StoreExclusive(op, o) => store_exclusive_case(op, o),
-    }
-}
-
-fn blank(what: u64, operation: u64) -> Case {
+    let p = plain::plain_of(i);
     Case {
-        what,
-        operation,
-        target: 0,
-        base: 0,
-        second: 0,
-        mode: 0,
-        scaled: 0,
-        offset: 0,
+        what: p.family as u64,
+        operation: p.operation as u64,
+        target: p.target as u64,
+        base: p.base as u64,
+        second: third_register(p),
+        mode: mode_or_option(p),
+        scaled: p.scaled as u64,
+        offset: bits::twos_complement(p.offset),
     }
 }
 
-fn literal_case(op: LiteralOp, o: LiteralOperands) -> Case {
-    let mut c = blank(1, instruction::literal_opc(op) as u64);
-    c.target = o.target as u64;
-    c.offset = bits::twos_complement(o.offset);
-    c
+// Beside target and base a family has at most one register.
+fn third_register(p: Plain) -> u64 {
+    let family = p.family;
+    match family {
+        2 => p.second as u64,
+        7 => p.index as u64,
+        _ => p.status as u64,
+    }
 }
 
-fn pair_case(op: PairOp, o: PairOperands) -> Case {
-    let mode = o.mode;
-    let mut c = blank(2, pair_number(op));
-    c.target = o.first as u64;
-    c.base = o.base as u64;
-    c.second = o.second as u64;
-    c.mode = instruction::mode_code(mode) as u64;
-    c.offset = bits::twos_complement(o.offset);
-    c
-}
-
-fn pair_number(op: PairOp) -> u64 {
-    let opc = instruction::pair_opc(op);
-    let loads = instruction::pair_load(op);
-    (opc * 2 + loads) as u64
-}
-
-fn offset_case(what: u64, op: SizedOp, o: OffsetOperands) -> Case {
-    let mut c = blank(what, sized_number(op));
-    c.target = o.target as u64;
-    c.base = o.base as u64;
-    c.offset = bits::twos_complement(o.offset);
-    c
-}
-
-fn index_case(op: SizedOp, o: IndexOperands) -> Case {
-    let mut c = blank(7, sized_number(op));
-    c.target = o.target as u64;
-    c.base = o.base as u64;
-    c.second = o.index as u64;
-    c.mode = o.option as u64;
-    c.scaled = o.scaled as u64;
-    c
-}
-
-fn sized_number(op: SizedOp) -> u64 {
-    let size = instruction::size_field(op);
-    let opc = instruction::opc_field(op);
-    (size * 4 + opc) as u64
-}
-
-fn exclusive_case(op: ExclusiveOp, o: ExclusiveOperands) -> Case {
-    let size = o.size;
-    let mut c = blank(9, exclusive_number(instruction::exclusive_code(op), size));
-    c.target = o.target as u64;
-    c.base = o.base as u64;
-    c
-}
-
-fn store_exclusive_case(op: StoreExclusiveOp, o: StoreExclusiveOperands) -> Case {
-    let size = o.size;
-    let mut c = blank(
-        9,
-        exclusive_number(instruction::store_exclusive_code(op), size),
-    );
-    c.target = o.target as u64;
-    c.base = o.base as u64;
-    c.second = o.status as u64;
-    c
-}
-
-fn exclusive_number(code: u32, size: AccessSize) -> u64 {
-    let scale = instruction::access_scale(size);
-    scale as u64 * 8 + code as u64
+fn mode_or_option(p: Plain) -> u64 {
+    if p.family == 7 {
+        return p.option as u64;
+    }
+    p.mode as u64
 }
