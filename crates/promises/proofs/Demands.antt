@@ -138,16 +138,16 @@ list-answer false = refl
 
 -- ---- the numbers that are answered
 
-abbrev Among : List ℕ → ℕ → Type 0
+abbrev pub Among : List ℕ → ℕ → Type 0
 Among numbers n = oneOf numbers n ≡ true
 
-decoded-number : (word : ℕ) → Among (0 ∷ 2 ∷ 3 ∷ []) (answerNumber (decodeOf word .answer))
+pub decoded-number : (word : ℕ) → Among (0 ∷ 2 ∷ 3 ∷ []) (answerNumber (decodeOf word .answer))
 unfolding decodeOf
 decoded-number word =
     rw (decode-answer (inSet word) (undefined word))
     (first-by (λ a. Among (0 ∷ 2 ∷ 3 ∷ []) (answerNumber a)) (λ answer address. answer) Done (take 2 (classRefusals word)) (refl, (refl, tt)) (λ p. refl))
 
-class-number : (word : ℕ) → Among (0 ∷ 2 ∷ 3 ∷ 4 ∷ []) (answerNumber (classOf word))
+pub class-number : (word : ℕ) → Among (0 ∷ 2 ∷ 3 ∷ 4 ∷ []) (answerNumber (classOf word))
 unfolding classOf
 class-number word =
     rw (class-answer (inSet word) (undefined word) (unpredictable word))
