@@ -6,7 +6,7 @@
 
 To be believed is all that the promises reach. A promise is a contract, the `ensures` and `requires` of a `pub fn` that
 a library exports (it stands in lib.rt or in a `pub mod` of it, or `pub use` there names it or the type that it is a method
-of), or a record on the page of promises. What these name is followed through imports to definitions in crates/*/specs and types in
+of), or a record on a page of promises. What these name is followed through imports to definitions in crates/*/specs and types in
 crates/*/src, and from each of them to what it names. Names of the kit and of its crates end the way. Comments, strings
 and projections aren't followed; a bound name that a definition has too is, so that nothing is left out.
 
@@ -27,7 +27,7 @@ import sys
 from typing import NamedTuple
 
 CRATES = pathlib.Path(__file__).resolve().parent.parent / 'crates'
-PAGE = CRATES / 'promises/specs/Demands.antt'
+PAGES = [CRATES / 'promises/specs' / name for name in ('Demands.antt', 'Numbers.antt')]
 # With a dot before it, it is a projection, or stands behind its type or module.
 WORD = re.compile(r'(\.?)([^\s(){}\[\];:,.&<>⌜⌝]+)')
 HEAD = re.compile(r'(?:(?:unfoldable|abbrev|pub) )*(?:(record|data|use|mod) )?(\S+)( :)?')
@@ -209,7 +209,7 @@ def main():
     crates = crates_in_order()
     contracts = [contract for crate in crates for contract in contracts_of(crate)]
     named = {meant(path, name) for path, clauses in contracts for _, clause in clauses for name in names_in(clause)}
-    page = {(PAGE, name) for name, each in source(PAGE).definitions.items() if each.kind == 'record'}
+    page = {(page, name) for page in PAGES for name, each in source(page).definitions.items() if each.kind == 'record'}
     reached = closure(named - {None} | page)
     totals, unreached = {'src': [0, 0, 0], 'specs': [0, 0, 0]}, []
     for crate in crates:
