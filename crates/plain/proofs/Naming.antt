@@ -1,7 +1,7 @@
 -- The instruction that its own numbers name is itself. Assumes nothing.
 use Prim.Native.Nat.{ℕ, _+_, _*_, _/_, _%_, _<_}
-use mathlib.Core.Path.{_≡_, refl, sym, ap, _∙_}
-use mathlib.Core.Bool.{true, false}
+use mathlib.Core.Path.{_≡_, refl, ap, _∙_}
+use mathlib.Core.Bool.{false}
 use native.Mathlib.Omega.{arith}
 use lib.Dec.{ltb}
 use borrow.Author.Tests.{lt-ltb}
@@ -9,7 +9,6 @@ use Rattle.instruction.specs.declared.operation.SizedOp.{SizedOp}
 use Rattle.instruction.specs.declared.operation.PairOp.{PairOp}
 use Rattle.instruction.specs.declared.exclusive.AccessSize.{AccessSize}
 use Rattle.instruction.specs.declared.exclusive.ExclusiveOp.{ExclusiveOp}
-use Rattle.instruction.specs.declared.exclusive.StoreExclusiveOp.{StoreExclusiveOp}
 use Rattle.instruction.specs.declared.family.Family.{Family}
 use Rattle.instruction.specs.declared.family.Instruction.{Instruction}
 use Rattle.instruction.specs.Operations.{sizedCode, sizedAt, pairCode, pairAt, accessScale, exclusiveCode, storeExclusiveCode}

@@ -2,7 +2,7 @@
 use Prim.Native.Nat.{ℕ, _^_, _<_}
 use mathlib.Core.Path.{_≡_, refl, sym, ap, _∙_}
 use mathlib.Core.Bool.{Bool, true, false}
-use mathlib.Core.Logic.{_↔_, _⊎_, inl, inr}
+use mathlib.Core.Logic.{_↔_, inl, inr}
 use native.Mathlib.Omega.{arith}
 use lib.Dec.{eqb}
 use lib.IntN.{ℤ, pos, negsuc}
@@ -21,7 +21,6 @@ use Rattle.plain.specs.declared.record.Plain.{Plain}
 use Rattle.plain.specs.Plains.{plainOf}
 use Rattle.plain.specs.Coding.{decodePlain, NumbersOf, EncodedFrom}
 use Rattle.plain.specs.route.Named.{instructionNamed}
-use Rattle.plain.specs.declared.record.DecodedPlain.{DecodedPlain}
 use Rattle.plain.proofs.Alike.{same, same-numbers}
 use Rattle.plain.proofs.Naming.{named-back}
 

@@ -11,7 +11,7 @@ use instruction::PairOp;
 use instruction::PairOperands;
 use instruction::SizedOp;
 ghost use mathlib.Core.Path.{_≡_};
-ghost use Prim.Native.Nat.{_<_, _≤_};
+ghost use Prim.Native.Nat.{_<_};
 ghost use Rattle.plain.specs.Plains.{plainOf, emptyPlain, literalPlain, pairPlain, offsetPlain, indexPlain, exclusivePlain, sizedMoved, literalMoved, directionOf};
 
 pub fn plain_of(i: Instruction) -> Plain

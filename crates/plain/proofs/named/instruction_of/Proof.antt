@@ -1,7 +1,6 @@
 -- `plain::named::instruction_of` meets its contract. Assumes nothing.
 use mathlib.Core.Path.{ap}
 use borrow.Author.Needs.{needs}
-use Rattle.instruction.specs.declared.family.Instruction.{Instruction}
 use Rattle.instruction.specs.declared.family.Family.{Family}
 use Rattle.plain.specs.route.Named.{instructionNamed}
 use Rattle.plain.proofs.named.instruction_of.Statement.{statement}
