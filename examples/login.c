@@ -43,23 +43,22 @@ int main(void)
     print(output, listed.length);
 
     /* x0 points to the password's record, whose length stands at 8 and is tainted; the stack ends with memory. */
-    uint64_t registers[33] = {0};
-    uint8_t register_taints[32] = {0};
-    uint8_t memory[64] = {0};
-    uint8_t taint[64] = {0};
+    struct milestarling_session session = {.pc = 0x8000};
+    uint8_t memory[64] = {0}, taint[64] = {0}, statuses[COUNT];
     uint64_t trace[2 * COUNT];
-    registers[0] = 0x1000;
-    registers[31] = 0x1000 + sizeof memory;
-    registers[32] = 0x8000;
+    milestarling_set_register(&session, 0, 0x1000, 0);
+    milestarling_set_register(&session, MILESTARLING_SP, 0x1000 + sizeof memory, 0);
     memory[8] = 5;
     memset(taint + 8, 1, 4);
     struct milestarling_run_reply ran = milestarling_run(
-        words, COUNT, registers, 33, register_taints, 32, 0x1000, 0, memory, sizeof memory, taint, sizeof taint, trace, 2 * COUNT);
+        words, COUNT, session, 0x1000, 0, memory, sizeof memory, taint, sizeof taint, trace, 2 * COUNT, statuses, COUNT);
+    session = ran.session;
 
     for (uint64_t i = 0; i < ran.steps; i++)
         printf("code %" PRIu64 ", address 0x%" PRIx64 "\n", trace[2 * i], trace[2 * i + 1]);
-    printf("steps %" PRIu64 ", answer %" PRIu64 ", pc 0x%" PRIx64 "\n", ran.steps, ran.answer, registers[32]);
-    printf("w1 is %" PRIu64 ", taint %d; the byte at 48 is %d, taint %d\n", registers[1], register_taints[1], memory[48], taint[48]);
+    printf("steps %" PRIu64 ", answer %" PRIu64 ", pc 0x%" PRIx64 "\n", ran.steps, ran.answer, session.pc);
+    printf("w1 is %" PRIu64 ", taint %d; the byte at 48 is %d, taint %d\n", milestarling_value(&session, 1),
+        milestarling_tainted(&session, 1), memory[48], taint[48]);
     if (ran.answer == MILESTARLING_TAINTED_ADDRESS) {
         uint8_t text[MILESTARLING_TEXT_MAX];
         struct milestarling_text_reply written = milestarling_text(words[ran.steps], text, sizeof text);

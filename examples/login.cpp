@@ -43,20 +43,20 @@ int main()
     memory.taint = taint.data();
     memory.length = bytes.size();
     memory.origin = 0x1000;
-    milestarling_registers registers = milestarling_registers();
-    milestarling_set(&registers, 0, 0x1000, false);
-    milestarling_set(&registers, MILESTARLING_SP, 0x1000 + bytes.size(), false);
-    registers.value[MILESTARLING_PC] = 0x8000;
+    milestarling_session session = milestarling_session();
+    milestarling_set_register(&session, 0, 0x1000, false);
+    milestarling_set_register(&session, MILESTARLING_SP, 0x1000 + bytes.size(), false);
+    session.pc = 0x8000;
 
     std::vector<milestarling_access> trace(words.size());
-    const milestarling_run_reply ran =
-        milestarling_memory_run(memory, &registers, words.data(), words.size(), trace.data(), trace.size());
+    std::vector<uint8_t> statuses(words.size());
+    const milestarling_run_reply ran = milestarling_session_run(memory, &session, words.data(), words.size(),
+        trace.data(), trace.size(), statuses.data(), statuses.size());
     for (uint64_t i = 0; i < ran.steps; i++)
         std::printf("code %" PRIu64 ", address 0x%" PRIx64 "\n", trace[i].code, trace[i].address);
-    std::printf("steps %" PRIu64 ", answer %" PRIu64 ", pc 0x%" PRIx64 "\n", ran.steps, ran.answer,
-        registers.value[MILESTARLING_PC]);
-    std::printf("w1 is %" PRIu64 ", taint %d; the byte at 48 is %d, taint %d\n", milestarling_value(&registers, 1),
-        milestarling_tainted(&registers, 1), bytes[48], taint[48]);
+    std::printf("steps %" PRIu64 ", answer %" PRIu64 ", pc 0x%" PRIx64 "\n", ran.steps, ran.answer, session.pc);
+    std::printf("w1 is %" PRIu64 ", taint %d; the byte at 48 is %d, taint %d\n", milestarling_value(&session, 1),
+        milestarling_tainted(&session, 1), bytes[48], taint[48]);
     if (ran.answer == MILESTARLING_TAINTED_ADDRESS)
         std::printf("refused: %s\n", text_of(words[ran.steps]).c_str());
     return 0;

@@ -15,9 +15,9 @@
 
 enum { LENGTH = 8, GIVEN = 0x1000, STORED = 0x1010, END = 0x7ffffffc, LIMIT = 1000 };
 
-/* Registers, and the flags that a branch looks at: Z alone here, with its taint. */
+/* The session, and the flags that a branch looks at: Z alone here, with its taint. */
 struct host {
-    struct milestarling_registers registers;
+    struct milestarling_session session;
     int zero, zero_tainted;
 };
 
@@ -32,8 +32,8 @@ static struct value get(const struct host *host, unsigned number, int is_sp)
 {
     struct value value = {0, 0};
     if (number != 31 || is_sp) {
-        value.bits = milestarling_value(&host->registers, number);
-        value.tainted = milestarling_tainted(&host->registers, number);
+        value.bits = milestarling_value(&host->session, number);
+        value.tainted = milestarling_tainted(&host->session, number);
     }
     return value;
 }
@@ -48,7 +48,7 @@ static void put(struct host *host, uint32_t word, struct value result, int flags
         host->zero_tainted = result.tainted;
     }
     if ((word & 31) != 31 || (is_sp && !flags))
-        milestarling_set(&host->registers, word & 31, result.bits, result.tainted);
+        milestarling_set_register(&host->session, word & 31, result.bits, result.tainted != 0);
 }
 
 /* A signed field of a word, times 4. */
@@ -61,7 +61,7 @@ static uint64_t offset(uint32_t word, unsigned low, unsigned bits)
 /* Does one word that is no load or store, and returns what is wrong, or NULL. */
 static const char *compute(struct host *host, uint32_t word)
 {
-    uint64_t *pc = &host->registers.value[MILESTARLING_PC];
+    uint64_t *pc = &host->session.pc;
     unsigned operation = (word >> 29) & 3;
     int flags = operation & 1, subtract = operation & 2;
     struct value a = get(host, (word >> 5) & 31, 0), b = get(host, (word >> 16) & 31, 0), result;
@@ -114,14 +114,14 @@ static void run(const uint8_t *image, size_t size, const char *password)
     memcpy(bytes, password, LENGTH);
     memcpy(bytes + (STORED - GIVEN), "sesame42", LENGTH);
     memset(taint, 1, sizeof taint);
-    milestarling_set(&host.registers, 0, GIVEN, 0);
-    milestarling_set(&host.registers, 1, STORED, 0);
-    milestarling_set(&host.registers, 2, LENGTH, 0);
-    milestarling_set(&host.registers, 30, END, 0);
+    milestarling_set_register(&host.session, 0, GIVEN, 0);
+    milestarling_set_register(&host.session, 1, STORED, 0);
+    milestarling_set_register(&host.session, 2, LENGTH, 0);
+    milestarling_set_register(&host.session, 30, END, 0);
     for (int i = 0; i < LIMIT; i++) {
-        uint64_t pc = host.registers.value[MILESTARLING_PC];
+        uint64_t pc = host.session.pc;
         if (pc == END) {
-            printf(" returned, x0 is %s\n", milestarling_tainted(&host.registers, 0) ? "tainted" : "known");
+            printf(" returned, x0 is %s\n", milestarling_tainted(&host.session, 0) ? "tainted" : "known");
             return;
         }
         if (pc % 4 != 0 || size < 4 || pc > size - 4) {
@@ -129,7 +129,7 @@ static void run(const uint8_t *image, size_t size, const char *password)
             return;
         }
         uint32_t word = image[pc] | (uint32_t)image[pc + 1] << 8 | (uint32_t)image[pc + 2] << 16 | (uint32_t)image[pc + 3] << 24;
-        struct milestarling_run_reply reply = milestarling_memory_step(memory, &host.registers, word);
+        struct milestarling_step_reply reply = milestarling_session_step(memory, &host.session, word);
         const char *refused = NULL;
         if (reply.answer == MILESTARLING_DONE)
             printf(" %" PRIu64 "@%" PRIx64, reply.code, reply.address);

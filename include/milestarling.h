@@ -17,9 +17,10 @@
  * hand in the copy. Beyond that no function has a condition to meet.
  *
  * Threads: nothing here is static, and a call touches what it is lent and nothing else. So calls that are lent different
- * registers, memory and output may go on at the same time; those that are lent the same need a lock of the host's.
+ * sessions, memory and output may go on at the same time; those that are lent the same need a lock of the host's. A host
+ * that lets another thread or plugin at a session's memory between two calls opens the session's monitor, see below.
  *
- * The last part of this file has the same run over structs, whose parts can't be taken for each other.
+ * The last part of this file has the run and the step over a struct for memory, whose parts can't be taken for each other.
  */
 #ifndef MILESTARLING_H
 #define MILESTARLING_H
@@ -36,11 +37,9 @@ extern "C" {
 #define MILESTARLING_VERSION_PATCH 0
 #define MILESTARLING_VERSION "0.1.0"
 
-/* The numbers of the registers that cross, x0 to x30, sp and pc; where sp and pc stand among them; their taint bytes. */
-#define MILESTARLING_REGISTERS 33
+/* How many registers a session has: x0 to x30, and sp behind them. */
+#define MILESTARLING_REGISTERS 32
 #define MILESTARLING_SP 31
-#define MILESTARLING_PC 32
-#define MILESTARLING_REGISTER_TAINTS 32
 
 /* The numbers of a trace for each word, and what a store's code has above the number of its bytes. */
 #define MILESTARLING_TRACE_NUMBERS 2
@@ -62,14 +61,15 @@ enum milestarling_answer {
     MILESTARLING_BAD_WINDOW = 1,
     /* the word is no load or store that Milestarling knows */
     MILESTARLING_NOT_IN_SET = 2,
-    /* the word is among the loads and stores, and is undefined */
+    /* the word is among the loads and stores, and is undefined: one with unused register fields that aren't all ones too */
     MILESTARLING_UNDEFINED = 3,
-    /* the word's effect is unpredictable */
+    /* the word's effect is unpredictable: it loads one register twice, writes the base back over a register that it moves,
+       or is a store-exclusive whose status register is its data register or its base */
     MILESTARLING_UNPREDICTABLE = 4,
     /* the address would depend on a tainted register */
     MILESTARLING_TAINTED_ADDRESS = 5,
-    /* SP as the base that isn't a multiple of 16 (the address is SP), or an ordered access that isn't inside one block of
-       16 bytes */
+    /* SP as the base that isn't a multiple of 16 (the address is SP), an ordered access that isn't inside one block of
+       16 bytes, or an exclusive access whose address isn't a multiple of its size */
     MILESTARLING_MISALIGNED = 6,
     /* an access that isn't inside memory */
     MILESTARLING_OUT_OF_WINDOW = 7,
@@ -77,20 +77,12 @@ enum milestarling_answer {
     MILESTARLING_READ_ONLY = 8,
     /* the text is no instruction's line */
     MILESTARLING_NO_SUCH_TEXT = 9,
-    /* a slice is too short for what belongs there */
+    /* a slice is too short for what belongs there: a text, lines, a trace or a list of statuses */
     MILESTARLING_NO_ROOM = 10,
     /* the numbers are those of no word's instruction */
     MILESTARLING_NO_SUCH_INSTRUCTION = 11,
     /* the lister is closed, or is said to hold more than three bytes */
     MILESTARLING_CLOSED = 16
-};
-
-/* The steps done, and of the last step tried its answer, code and address, as in the trace. */
-struct milestarling_run_reply {
-    uint64_t steps;
-    uint64_t answer;
-    uint64_t code;
-    uint64_t address;
 };
 
 /* The length is 0 where the answer isn't. */
@@ -106,18 +98,35 @@ struct milestarling_word_reply {
 };
 
 /*
- * A session's record, which the host keeps and lends, and which is changed in place: the values of x0 to x30 and sp, a taint
- * byte for each, pc, and the monitor of exclusive accesses, an address and a size, which is open where the size is 0. One of
- * zeros is a new one: `struct milestarling_session session = {0};`. Every record is one that a call takes, and gets an
- * answer; any taint byte but 0 is a taint, and a step leaves 0 or 1 in those that it sets. A host opens the monitor by setting
- * both of its numbers to 0.
+ * A session's record: the values of x0 to x30 and sp, a taint byte for each, pc, and the monitor of exclusive accesses, an
+ * address and a size. The host keeps it; it crosses by value to milestarling_run, which returns it, and is lent to
+ * milestarling_step and milestarling_set_register, which change it in place. One of zeros is a new one:
+ * `struct milestarling_session session = {0};`. Any bytes in it have a meaning, so that every record is one that a call
+ * takes, and gets an answer: any taint byte but 0 is a taint, and a step leaves 0 or 1 in those that it sets; a pc that
+ * isn't a multiple of 4 is answer 1; and a monitor may hold any two numbers.
+ *
+ * The monitor is armed by a load-exclusive with its address and size, and is open where its size is 0. A store-exclusive
+ * asks it: with the same address and size it stores, and its status is 0; otherwise it stores nothing, taints included,
+ * and its status is 1. Either way the monitor is open then. No other word looks at it or touches it, and a refused one
+ * keeps it. So a host that lets another thread or plugin run between two calls opens it by milestarling_open, and a
+ * store-exclusive that follows fails, as it would on a processor.
  */
 struct milestarling_session {
-    uint64_t value[MILESTARLING_REGISTER_TAINTS];
-    uint8_t taint[MILESTARLING_REGISTER_TAINTS];
+    uint64_t value[MILESTARLING_REGISTERS];
+    uint8_t taint[MILESTARLING_REGISTERS];
     uint64_t pc;
     uint64_t monitor_address;
     uint64_t monitor_size;
+};
+
+/* The session after the steps done, how many they are, and of the last step tried its answer, code and address, as in the
+   trace: the code is 0 where the answer isn't, and the address too but with answers 6 to 8. */
+struct milestarling_run_reply {
+    struct milestarling_session session;
+    uint64_t steps;
+    uint64_t answer;
+    uint64_t code;
+    uint64_t address;
 };
 
 /* The code, the address and the status of a step, as a run writes them: 0 where the answer isn't, but for the address, which
@@ -148,29 +157,30 @@ struct milestarling_lister_reply {
 /*
  * Does a step for each word, in order, up to the first that is refused. A refused step changes nothing.
  *
- * registers        MILESTARLING_REGISTERS numbers: x0 to x30, sp, pc
- * register_taints  MILESTARLING_REGISTER_TAINTS bytes, for x0 to x30 and sp: on the way in any byte but 0 is a taint, on the way out each is 0 or 1
+ * session          the record to begin with; the reply has the one after the steps done
  * origin           the address of memory's first byte
  * readonly         how many bytes at the start of memory aren't stored to
  * taint            a byte for each byte of memory, tainted where it isn't 0
  * trace            two numbers for each word, of which those of the steps done are written: the code, which is the
  *                  number of bytes moved, plus 64 for a store, or 0 for a prefetch; and the address
+ * statuses         a byte for each word, of which those of the steps done are written: 1 for a store-exclusive that has
+ *                  failed, whose code and address are those of one that hasn't, and 0 for every other step
  *
- * Answers 0 to 8, or 10 where registers, register_taints or trace is too short. With answers 1 and 10 nothing is
- * changed in any slice. A longer slice keeps its rest.
+ * Answers 0 to 8, or 10 where trace or statuses is too short. With answers 1 and 10 nothing is changed in any slice, and
+ * the session returned is the one handed in. A longer slice keeps its rest.
  */
 struct milestarling_run_reply milestarling_run(
     const uint32_t *words, size_t words_length,
-    uint64_t *registers, size_t registers_length,
-    uint8_t *register_taints, size_t register_taints_length,
+    struct milestarling_session session,
     uint64_t origin, uint64_t readonly,
     uint8_t *memory, size_t memory_length,
     uint8_t *taint, size_t taint_length,
-    uint64_t *trace, size_t trace_length);
+    uint64_t *trace, size_t trace_length,
+    uint8_t *statuses, size_t statuses_length);
 
 /*
  * Does one word on a session's record and on memory as milestarling_run has it. Answers 0 to 8; with 1 to 8 nothing is
- * changed. It is the way to step a word at a time: nothing is converted, and no trace is needed.
+ * changed. It is the way to step a word at a time: the record stays where it is, and no trace is needed.
  */
 struct milestarling_step_reply milestarling_step(
     uint32_t word, struct milestarling_session *session,
@@ -335,34 +345,26 @@ struct milestarling_decode_reply milestarling_decode(uint32_t word);
  */
 struct milestarling_word_reply milestarling_encode(struct milestarling_instruction instruction);
 
-/* ---- The same run over structs. A struct of zeros, {0} in C and {} in C++, is new registers, and memory of no bytes. */
-
-/* A value for each of x0 to x30, sp and pc, and a taint for each but pc: milestarling_set sets both. */
-struct milestarling_registers {
-    uint64_t value[MILESTARLING_REGISTERS];
-    uint8_t taint[MILESTARLING_REGISTER_TAINTS];
-};
-
-/* Sets x0 to x30 (0 to 30) or sp (31), with its taint. Any other number changes nothing. */
-static inline void milestarling_set(struct milestarling_registers *registers, unsigned number, uint64_t value, int tainted)
-{
-    if (number < MILESTARLING_REGISTER_TAINTS) {
-        registers->value[number] = value;
-        registers->taint[number] = (uint8_t)(tainted != 0);
-    }
-}
-
 /* The value of x0 to x30 or sp; 0 for any other number. Ask for its taint too before it is branched on or shown. */
-static inline uint64_t milestarling_value(const struct milestarling_registers *registers, unsigned number)
+static inline uint64_t milestarling_value(const struct milestarling_session *session, uint32_t number)
 {
-    return number < MILESTARLING_REGISTER_TAINTS ? registers->value[number] : 0;
+    return number < MILESTARLING_REGISTERS ? session->value[number] : 0;
 }
 
 /* Whether x0 to x30 or sp is tainted; 0 for any other number. */
-static inline int milestarling_tainted(const struct milestarling_registers *registers, unsigned number)
+static inline int milestarling_tainted(const struct milestarling_session *session, uint32_t number)
 {
-    return number < MILESTARLING_REGISTER_TAINTS && registers->taint[number] != 0;
+    return number < MILESTARLING_REGISTERS && session->taint[number] != 0;
 }
+
+/* Opens the monitor, as another processor's store would. */
+static inline void milestarling_open(struct milestarling_session *session)
+{
+    session->monitor_address = 0;
+    session->monitor_size = 0;
+}
+
+/* ---- The same run and step over a struct for memory. One of zeros, {0} in C and {} in C++, is memory of no bytes. */
 
 /* Memory, with a taint byte for each of its bytes and its place: the address of its first byte, and how many of its
    first bytes aren't stored to. With length 0 the pointers may be null. */
@@ -381,35 +383,30 @@ struct milestarling_access {
 };
 
 /*
- * milestarling_run over these structs. The trace has trace_length accesses, of which those of the steps done are
- * written; it and the words may be null where there are none.
+ * milestarling_run on memory and on a session, which is left as the run returns it. The trace has trace_length accesses,
+ * and there are statuses_length statuses; they and the words may be null where their length is 0.
  */
-static inline struct milestarling_run_reply milestarling_memory_run(
-    struct milestarling_memory memory, struct milestarling_registers *registers,
+static inline struct milestarling_run_reply milestarling_session_run(
+    struct milestarling_memory memory, struct milestarling_session *session,
     const uint32_t *words, size_t words_length,
-    struct milestarling_access *trace, size_t trace_length)
+    struct milestarling_access *trace, size_t trace_length,
+    uint8_t *statuses, size_t statuses_length)
 {
     const uint32_t no_words[1] = {0};
     uint64_t no_trace[1] = {0};
-    uint8_t no_bytes[1] = {0}, no_taint[1] = {0};
-    return milestarling_run(
+    uint8_t no_bytes[1] = {0}, no_taint[1] = {0}, no_statuses[1] = {0};
+    struct milestarling_run_reply reply = milestarling_run(
         words_length != 0 ? words : no_words, words_length,
-        registers->value, MILESTARLING_REGISTERS, registers->taint, MILESTARLING_REGISTER_TAINTS,
-        memory.origin, memory.readonly,
+        *session, memory.origin, memory.readonly,
         memory.length != 0 ? memory.bytes : no_bytes, memory.length,
         memory.length != 0 ? memory.taint : no_taint, memory.length,
-        trace_length != 0 ? &trace->code : no_trace, MILESTARLING_TRACE_NUMBERS * trace_length);
+        trace_length != 0 ? &trace->code : no_trace, MILESTARLING_TRACE_NUMBERS * trace_length,
+        statuses_length != 0 ? statuses : no_statuses, statuses_length);
+    *session = reply.session;
+    return reply;
 }
 
-/* One step. The reply has its code and address; steps is 1 where it is done and 0 where it is refused. */
-static inline struct milestarling_run_reply milestarling_memory_step(
-    struct milestarling_memory memory, struct milestarling_registers *registers, uint32_t word)
-{
-    struct milestarling_access trace[1] = {{0, 0}};
-    return milestarling_memory_run(memory, registers, &word, 1, trace, 1);
-}
-
-/* milestarling_step over this struct. */
+/* milestarling_step on memory and on a session. */
 static inline struct milestarling_step_reply milestarling_session_step(
     struct milestarling_memory memory, struct milestarling_session *session, uint32_t word)
 {
@@ -437,7 +434,8 @@ static inline const char *milestarling_answer_text(uint64_t answer)
     case MILESTARLING_TAINTED_ADDRESS:
         return "the address would come from a secret value";
     case MILESTARLING_MISALIGNED:
-        return "SP as the base isn't a multiple of 16, or the ordered access crosses the border of a 16-byte block";
+        return "SP as the base isn't a multiple of 16, the exclusive access's address isn't a multiple of its size, or the "
+               "ordered access crosses the border of a 16-byte block";
     case MILESTARLING_OUT_OF_WINDOW:
         return "the access isn't wholly inside the memory window";
     case MILESTARLING_READ_ONLY:
@@ -445,7 +443,7 @@ static inline const char *milestarling_answer_text(uint64_t answer)
     case MILESTARLING_NO_SUCH_TEXT:
         return "the text isn't the line of any load or store";
     case MILESTARLING_NO_ROOM:
-        return "the buffer or the trace lent is too short";
+        return "the buffer, the trace or the list of statuses lent is too short";
     case MILESTARLING_NO_SUCH_INSTRUCTION:
         return "no word has this instruction";
     case MILESTARLING_CLOSED:

@@ -19,68 +19,6 @@ static void hold(int holds, const char *what)
     }
 }
 
-static void structs_are_one_run(void)
-{
-    uint8_t bytes[16], taint[16];
-    struct milestarling_memory memory, none;
-    struct milestarling_registers registers;
-    struct milestarling_access trace[2];
-    struct milestarling_run_reply reply;
-    const uint32_t words[2] = {0xf9400420, 0xf9400002}; /* ldr x0, [x1, #8]; ldr x2, [x0] */
-    unsigned i;
-    for (i = 0; i < 16; i++) {
-        bytes[i] = 7;
-        taint[i] = 0;
-    }
-    for (i = 0; i < MILESTARLING_REGISTERS; i++)
-        registers.value[i] = 0;
-    for (i = 0; i <= MILESTARLING_REGISTER_TAINTS; i++)
-        milestarling_set(&registers, i, 0, 0);
-    taint[9] = 1;
-    memory.bytes = bytes;
-    memory.taint = taint;
-    memory.length = sizeof bytes;
-    memory.origin = 4096;
-    memory.readonly = 0;
-    milestarling_set(&registers, 1, 4096, 0);
-
-    reply = milestarling_memory_step(memory, &registers, words[0]);
-    hold(reply.answer == MILESTARLING_DONE && reply.steps == 1 && reply.code == 8 && reply.address == 4104, "a step");
-    hold(milestarling_tainted(&registers, 0) && !milestarling_tainted(&registers, 1), "its taint");
-    hold(milestarling_value(&registers, 0) == 0x0707070707070707, "its value");
-    hold(milestarling_value(&registers, 32) == 0 && !milestarling_tainted(&registers, 32), "no register 32");
-    hold(registers.value[MILESTARLING_PC] == MILESTARLING_WORD_BYTES, "the program counter");
-
-    reply = milestarling_memory_run(memory, &registers, words, 2, trace, 2);
-    hold(reply.answer == MILESTARLING_TAINTED_ADDRESS && reply.steps == 1 && trace[0].address == 4104, "a run");
-    reply = milestarling_memory_run(memory, &registers, words, 2, trace, 1);
-    hold(reply.answer == MILESTARLING_NO_ROOM, "a short trace");
-    reply = milestarling_memory_run(memory, &registers, NULL, 0, NULL, 0);
-    hold(reply.answer == MILESTARLING_DONE && reply.steps == 0, "no words");
-
-    none = memory;
-    none.bytes = none.taint = NULL;
-    none.length = 0;
-    reply = milestarling_memory_step(none, &registers, words[0]);
-    hold(reply.answer == MILESTARLING_OUT_OF_WINDOW && reply.address == 4104, "no memory");
-}
-
-static void a_registers_taint_is_set_with_it(void)
-{
-    struct milestarling_registers registers;
-    unsigned i;
-    for (i = 0; i < MILESTARLING_REGISTERS; i++)
-        registers.value[i] = i;
-    for (i = 0; i < MILESTARLING_REGISTER_TAINTS; i++)
-        registers.taint[i] = 0;
-    milestarling_set(&registers, MILESTARLING_SP, 5, 256);
-    hold(registers.value[31] == 5 && registers.taint[31] == 1 && registers.value[32] == 32, "sp");
-    milestarling_set(&registers, MILESTARLING_SP, 6, 0);
-    hold(registers.value[31] == 6 && registers.taint[31] == 0, "sp again");
-    milestarling_set(&registers, 32, 6, 1);
-    hold(registers.value[32] == 32, "no register 32 to be set");
-}
-
 /* The record as the library has it: a size or a place that differs doesn't compile. */
 #define SESSION_AT(field, place) \
     typedef char session_##field##_at_##place[offsetof(struct milestarling_session, field) == place ? 1 : -1]
@@ -91,23 +29,118 @@ SESSION_AT(monitor_address, 296);
 SESSION_AT(monitor_size, 304);
 typedef char session_has_312_bytes[sizeof(struct milestarling_session) == 312 ? 1 : -1];
 typedef char reply_has_32_bytes[sizeof(struct milestarling_step_reply) == 32 ? 1 : -1];
+typedef char run_reply_has_344_bytes[sizeof(struct milestarling_run_reply) == 344 ? 1 : -1];
 
-static void a_session_is_changed_in_place(void)
+static int same(const struct milestarling_session *one, const struct milestarling_session *other)
 {
-    uint8_t bytes[16], taint[16];
-    struct milestarling_memory memory, none;
-    struct milestarling_session session, before;
-    struct milestarling_step_reply reply;
+    return memcmp(one, other, sizeof *one) == 0;
+}
+
+/* Sixteen bytes of 7 at 4096, of which none is tainted. */
+static uint8_t bytes[16], taint[16];
+
+static struct milestarling_memory small(void)
+{
+    struct milestarling_memory memory;
     memset(bytes, 7, sizeof bytes);
     memset(taint, 0, sizeof taint);
-    /* every bit pattern is a record */
-    memset(&session, 0xff, sizeof session);
-    session.pc = 0;
     memory.bytes = bytes;
     memory.taint = taint;
     memory.length = sizeof bytes;
     memory.origin = 4096;
     memory.readonly = 0;
+    return memory;
+}
+
+static struct milestarling_memory none(void)
+{
+    struct milestarling_memory memory;
+    memset(&memory, 0, sizeof memory);
+    memory.origin = 4096;
+    return memory;
+}
+
+static void a_run_goes_on_from_a_session(void)
+{
+    struct milestarling_memory memory = small();
+    struct milestarling_session session, before;
+    struct milestarling_access trace[2];
+    struct milestarling_run_reply reply;
+    uint8_t statuses[2] = {9, 9};
+    const uint32_t words[2] = {0xf9400420, 0xf9400002}; /* ldr x0, [x1, #8]; ldr x2, [x0] */
+    /* every bit pattern is a record */
+    memset(&session, 0xff, sizeof session);
+    session.pc = 0;
+    taint[9] = 255;
+    milestarling_set_register(&session, 1, 4096, 0);
+
+    before = session;
+    reply = milestarling_session_run(memory, &session, words, 2, trace, 1, statuses, 2);
+    hold(reply.answer == MILESTARLING_NO_ROOM && reply.steps == 0, "a short trace");
+    reply = milestarling_session_run(memory, &session, words, 2, trace, 2, statuses, 1);
+    hold(reply.answer == MILESTARLING_NO_ROOM && reply.steps == 0, "a short list of statuses");
+    hold(same(&session, &before) && same(&reply.session, &before) && statuses[0] == 9, "and nothing is changed");
+
+    reply = milestarling_session_run(memory, &session, words, 2, trace, 2, statuses, 2);
+    hold(reply.answer == MILESTARLING_TAINTED_ADDRESS && reply.steps == 1 && reply.code == 0, "a run");
+    hold(trace[0].code == 8 && trace[0].address == 4104 && statuses[0] == 0 && statuses[1] == 9, "its trace");
+    before.value[0] = 0x0707070707070707;
+    before.taint[0] = 1;
+    before.pc = MILESTARLING_WORD_BYTES;
+    hold(same(&session, &before) && same(&reply.session, &before), "its session");
+    hold(milestarling_value(&session, 0) == 0x0707070707070707 && milestarling_value(&session, 32) == 0, "values");
+    hold(milestarling_tainted(&session, 0) && !milestarling_tainted(&session, 1), "taints");
+    hold(!milestarling_tainted(&session, 32), "no register 32");
+
+    reply = milestarling_session_run(memory, &session, NULL, 0, NULL, 0, NULL, 0);
+    hold(reply.answer == MILESTARLING_DONE && reply.steps == 0 && same(&session, &before), "no words");
+    reply = milestarling_session_run(none(), &session, words, 1, trace, 1, statuses, 1);
+    hold(reply.answer == MILESTARLING_OUT_OF_WINDOW && reply.address == 4104 && same(&session, &before), "no memory");
+    session.pc = 2;
+    reply = milestarling_session_run(memory, &session, words, 1, trace, 1, statuses, 1);
+    hold(reply.answer == MILESTARLING_BAD_WINDOW && reply.session.pc == 2, "a pc that isn't a multiple of 4");
+}
+
+static void a_host_opens_the_monitor(void)
+{
+    struct milestarling_memory memory = small();
+    struct milestarling_session session;
+    struct milestarling_access trace[3];
+    struct milestarling_run_reply ran;
+    struct milestarling_step_reply reply;
+    uint8_t statuses[3];
+    const uint32_t load = 0x885ffc01, store = 0x88037c02; /* ldaxr w1, [x0]; stxr w3, w2, [x0] */
+    uint32_t words[3];
+    memset(&session, 0, sizeof session);
+    milestarling_set_register(&session, 0, 4096, 0);
+    milestarling_set_register(&session, 3, 5, 1);
+    words[0] = load;
+    words[1] = words[2] = store;
+
+    ran = milestarling_session_run(memory, &session, words, 1, trace, 1, statuses, 1);
+    hold(ran.answer == MILESTARLING_DONE && session.monitor_address == 4096 && session.monitor_size == 4, "arming");
+    ran = milestarling_session_run(memory, &session, words, 3, trace, 3, statuses, 3);
+    hold(ran.answer == MILESTARLING_DONE && ran.steps == 3, "a store-exclusive that fails isn't refused");
+    hold(statuses[0] == 0 && statuses[1] == 0 && statuses[2] == 1, "statuses");
+    hold(trace[1].code == MILESTARLING_STORE_CODE + 4 && memcmp(&trace[1], &trace[2], sizeof trace[1]) == 0, "shown alike");
+    hold(session.value[3] == 1 && session.taint[3] == 0 && session.monitor_size == 0, "the status, and an open monitor");
+
+    bytes[0] = 9;
+    reply = milestarling_session_step(memory, &session, load);
+    hold(reply.answer == MILESTARLING_DONE && session.monitor_size == 4, "arming by a step");
+    milestarling_open(&session);
+    hold(session.monitor_address == 0 && session.monitor_size == 0, "opening");
+    reply = milestarling_session_step(memory, &session, store);
+    hold(reply.answer == MILESTARLING_DONE && reply.status == 1 && bytes[0] == 9, "a store that fails");
+}
+
+static void a_session_is_changed_in_place(void)
+{
+    struct milestarling_memory memory = small();
+    struct milestarling_session session, before;
+    struct milestarling_step_reply reply;
+    memset(&session, 0xff, sizeof session);
+    session.pc = 0;
     taint[9] = 255;
 
     before = session;
@@ -115,28 +148,25 @@ static void a_session_is_changed_in_place(void)
     hold(session.value[1] == 4096 && session.taint[1] == 0, "a register that is set");
     before.value[1] = 4096;
     before.taint[1] = 0;
-    hold(memcmp(&session, &before, sizeof session) == 0, "no other register, pc or monitor");
+    hold(same(&session, &before), "no other register, pc or monitor");
     milestarling_set_register(&session, MILESTARLING_SP, 5, 128);
     hold(session.value[31] == 5 && session.taint[31] == 1, "sp");
     before = session;
     milestarling_set_register(&session, 32, 6, 1);
-    hold(memcmp(&session, &before, sizeof session) == 0, "no register 32 to be set");
+    hold(same(&session, &before), "no register 32 to be set");
 
     reply = milestarling_session_step(memory, &session, 0xf9400420); /* ldr x0, [x1, #8] */
     hold(reply.answer == MILESTARLING_DONE && reply.code == 8 && reply.address == 4104 && reply.status == 0, "a step");
     before.value[0] = 0x0707070707070707;
     before.taint[0] = 1;
     before.pc = MILESTARLING_WORD_BYTES;
-    hold(memcmp(&session, &before, sizeof session) == 0, "what it loads, its taint and pc");
+    hold(same(&session, &before), "what it loads, its taint and pc");
 
     reply = milestarling_session_step(memory, &session, 0xf9400001); /* ldr x1, [x0] */
     hold(reply.answer == MILESTARLING_TAINTED_ADDRESS && reply.code == 0 && reply.address == 0, "a tainted address");
-    none = memory;
-    none.bytes = none.taint = NULL;
-    none.length = 0;
-    reply = milestarling_session_step(none, &session, 0xf9400420);
+    reply = milestarling_session_step(none(), &session, 0xf9400420);
     hold(reply.answer == MILESTARLING_OUT_OF_WINDOW && reply.code == 0 && reply.address == 4104, "no memory");
-    hold(memcmp(&session, &before, sizeof session) == 0, "a refusal changes nothing");
+    hold(same(&session, &before), "a refusal changes nothing");
 }
 
 int main(void)
@@ -144,9 +174,9 @@ int main(void)
     uint64_t answer;
     uint8_t short_line[MILESTARLING_SHORT_MAX];
     const uint8_t over[3] = {1, 2, 3};
-    structs_are_one_run();
-    a_registers_taint_is_set_with_it();
     a_session_is_changed_in_place();
+    a_run_goes_on_from_a_session();
+    a_host_opens_the_monitor();
     hold(milestarling_list(over, 3, short_line, sizeof short_line).length == MILESTARLING_SHORT_MAX, "the short line");
     for (answer = 0; answer < 64; answer++) {
         const char *text = milestarling_answer_text(answer);

@@ -100,12 +100,13 @@ impl fmt::Display for Answer {
             Answer::Unpredictable => "the word names the same register twice where it must not",
             Answer::TaintedAddress => "the address would come from a secret value",
             Answer::Misaligned => {
-                "SP as the base isn't a multiple of 16, or the ordered access crosses the border of a 16-byte block"
+                "SP as the base isn't a multiple of 16, the exclusive access's address isn't a multiple of its size, \
+                 or the ordered access crosses the border of a 16-byte block"
             }
             Answer::OutOfWindow => "the access isn't wholly inside the memory window",
             Answer::ReadOnly => "the store touches read-only memory",
             Answer::NoSuchText => "the text isn't the line of any load or store",
-            Answer::NoRoom => "the buffer or the trace lent is too short",
+            Answer::NoRoom => "the buffer, the trace or the list of statuses lent is too short",
             Answer::NoSuchInstruction => "no word has this instruction",
             Answer::Closed => "the lister is closed, or is said to hold more than three bytes",
         })
