@@ -345,6 +345,8 @@ struct milestarling_decode_reply milestarling_decode(uint32_t word);
  */
 struct milestarling_word_reply milestarling_encode(struct milestarling_instruction instruction);
 
+/* ---- A session's record by its parts. */
+
 /* The value of x0 to x30 or sp; 0 for any other number. Ask for its taint too before it is branched on or shown. */
 static inline uint64_t milestarling_value(const struct milestarling_session *session, uint32_t number)
 {

@@ -8,7 +8,7 @@
 //!
 //! runs the file with two passwords, and prints what a log would have of each run: the trace, and how it ended.
 
-use milestarling::{Answer, Memory, Register, Registers, TaintedBytes, Window};
+use milestarling::{Answer, Memory, Register, Session, TaintedBytes, Window};
 use std::io::{self, Write};
 use std::path::Path;
 use std::{env, fs};
@@ -27,20 +27,20 @@ fn of_both(a: Value, b: Value, computed: impl Fn(u64, u64) -> u64) -> Value {
     (computed(a.0, b.0), a.1 || b.1)
 }
 
-/// Registers, and the flag Z with its taint: no other is looked at here.
+/// The session, and the flag Z with its taint: no other is looked at here.
 struct Host {
-    registers: Registers,
+    session: Session,
     zero: Value,
 }
 
 impl Host {
     /// Register 31 is the zero register in all words here but add and sub of a number, where it is SP.
     fn get(&self, number: u32) -> Value {
-        Register::x(number as u8).map_or((0, false), |register| self.registers.get(register))
+        Register::x(number as u8).map_or((0, false), |register| self.session.get(register))
     }
 
     fn get_or_sp(&self, number: u32) -> Value {
-        self.registers.get(Register::x(number as u8).unwrap_or(Register::SP))
+        self.session.get(Register::x(number as u8).unwrap_or(Register::SP))
     }
 
     /// Sets a register to a result of 64 or 32 bits, and with flags those too.
@@ -51,13 +51,13 @@ impl Host {
         }
         let sp = (is_sp && !flags).then_some(Register::SP);
         if let Some(register) = Register::x((word & 31) as u8).or(sp) {
-            self.registers.set(register, bits, tainted);
+            self.session.set(register, bits, tainted);
         }
     }
 
     /// Does one word that is no load or store.
     fn compute(&mut self, word: u32) -> Result<(), &'static str> {
-        let pc = self.registers.pc();
+        let pc = self.session.pc();
         let (n, m, number) = (word >> 5 & 31, word >> 16 & 31, u64::from(word >> 10 & 0xfff));
         let operation = word >> 29 & 3;
         let (subtract, flags) = (operation & 2 != 0, operation & 1 != 0);
@@ -92,7 +92,7 @@ impl Host {
             }
             let taken = zero != u64::from(word & 1);
             let offset = i64::from((word << 8) as i32 >> 13) * 4;
-            self.registers.set_pc(pc.wrapping_add(if taken { offset as u64 } else { 4 }));
+            self.session.set_pc(pc.wrapping_add(if taken { offset as u64 } else { 4 }));
             return Ok(());
         } else if word & 0xffff_fc1f == 0xd65f_0000 {
             // ret
@@ -100,12 +100,12 @@ impl Host {
             if tainted {
                 return Err("a return to a tainted address");
             }
-            self.registers.set_pc(address);
+            self.session.set_pc(address);
             return Ok(());
         } else {
             return Err(UNKNOWN);
         }
-        self.registers.set_pc(pc.wrapping_add(4));
+        self.session.set_pc(pc.wrapping_add(4));
         Ok(())
     }
 }
@@ -113,24 +113,24 @@ impl Host {
 /// Runs a plugin's words until it returns, and writes the trace.
 fn run(words: &[u32], password: &[u8; 8], log: &mut impl Write) -> io::Result<()> {
     let mut memory = Memory::new(Window::at(GIVEN), TaintedBytes { bytes: [0; 32], taint: [1; 32] });
-    let mut host = Host { registers: Registers::new(), zero: (0, false) };
+    let mut host = Host { session: Session::new(), zero: (0, false) };
     memory.write(GIVEN, password, true).expect("it has a place");
     memory.write(STORED, b"sesame42", true).expect("it has a place");
     for (register, value) in [(Register::X0, GIVEN), (Register::X1, STORED), (Register::X2, 8), (Register::X30, END)] {
-        host.registers.set(register, value, false);
+        host.session.set(register, value, false);
     }
     for _ in 0..LIMIT {
-        let pc = host.registers.pc();
+        let pc = host.session.pc();
         if pc == END {
-            let known = host.registers.known(Register::X0).is_some();
+            let known = host.session.known(Register::X0).is_some();
             return writeln!(log, " returned, x0 is {}", if known { "known" } else { "tainted" });
         }
         let Some(&word) = words.get((pc / 4) as usize).filter(|_| pc % 4 == 0) else {
             return writeln!(log, " no word at {pc}");
         };
-        let done = match memory.step(&mut host.registers, word) {
-            Ok(access) => {
-                write!(log, " {}@{:x}", access.code, access.address)?;
+        let done = match host.session.step(&mut memory, word) {
+            Ok(step) => {
+                write!(log, " {}@{:x}", step.access.code, step.access.address)?;
                 Ok(())
             }
             Err(refusal) if refusal.answer() == Answer::NotInSet => host.compute(word).map_err(String::from),

@@ -22,13 +22,16 @@ pub enum Answer {
     BadWindow = 1,
     /// The word is no load or store that this machine takes.
     NotInSet = 2,
-    /// The word is one of the loads and stores that Arm left undefined.
+    /// The word is one of the loads and stores that Arm left undefined, or has unused register fields that aren't all
+    /// ones.
     Undefined = 3,
-    /// The word is allocated, and its registers collide.
+    /// The word is allocated, and its registers collide: also the status register of a store-exclusive with its data
+    /// register or its base.
     Unpredictable = 4,
     /// The base or the index register is tainted.
     TaintedAddress = 5,
-    /// SP is the base and isn't a multiple of 16, or an ordered access crosses the border of a 16-byte block.
+    /// SP is the base and isn't a multiple of 16, the address of an exclusive access isn't a multiple of its size, or an
+    /// ordered access crosses the border of a 16-byte block.
     Misaligned = 6,
     /// The access isn't wholly inside the window.
     OutOfWindow = 7,
@@ -36,7 +39,7 @@ pub enum Answer {
     ReadOnly = 8,
     /// The text isn't the line of any word.
     NoSuchText = 9,
-    /// A lent buffer or trace is too short.
+    /// A lent buffer, trace or list of statuses is too short.
     NoRoom = 10,
     /// No word has this instruction.
     NoSuchInstruction = 11,
@@ -155,10 +158,10 @@ impl From<Answer> for u64 {
 /// effects stay, and the refused step has none.
 ///
 /// ```
-/// use milestarling::{Answer, Machine, Memory, Window};
+/// use milestarling::{Answer, Memory, Session, Window};
 ///
-/// let mut machine = Machine::new(Memory::zeroed(Window::at(4096), 16));
-/// let refusal = machine.step(0xf9400020).unwrap_err(); // ldr x0, [x1], with 0 in x1
+/// let mut memory = Memory::zeroed(Window::at(4096), 16);
+/// let refusal = Session::new().step(&mut memory, 0xf9400020).unwrap_err(); // ldr x0, [x1], with 0 in x1
 /// assert_eq!(refusal.answer(), Answer::OutOfWindow);
 /// assert_eq!(refusal.address(), Some(0));
 /// assert_eq!(refusal.word(), Some(0xf9400020));

@@ -10,10 +10,7 @@ extern "C" {
     fn milestarling_run(
         words: *const u32,
         words_len: usize,
-        registers: *mut u64,
-        registers_len: usize,
-        register_taints: *mut u8,
-        register_taints_len: usize,
+        session: SessionRecord,
         origin: u64,
         readonly: u64,
         memory: *mut u8,
@@ -22,6 +19,8 @@ extern "C" {
         taint_len: usize,
         trace: *mut u64,
         trace_len: usize,
+        statuses: *mut u8,
+        statuses_len: usize,
     ) -> RunReply;
     fn milestarling_step(
         word: u32,
@@ -58,23 +57,20 @@ extern "C" {
 #[inline]
 pub(crate) fn run(
     words: &[u32],
-    registers: &mut [u64],
-    register_taints: &mut [u8],
+    session: SessionRecord,
     origin: u64,
     readonly: u64,
     memory: &mut [u8],
     taint: &mut [u8],
     trace: &mut [u64],
+    statuses: &mut [u8],
 ) -> RunReply {
-    // SAFETY: each pointer and length come from one slice.
+    // SAFETY: each pointer and length come from one slice, and the record is of C's layout, of which any bits are one.
     unsafe {
         milestarling_run(
             words.as_ptr(),
             words.len(),
-            registers.as_mut_ptr(),
-            registers.len(),
-            register_taints.as_mut_ptr(),
-            register_taints.len(),
+            session,
             origin,
             readonly,
             memory.as_mut_ptr(),
@@ -83,6 +79,8 @@ pub(crate) fn run(
             taint.len(),
             trace.as_mut_ptr(),
             trace.len(),
+            statuses.as_mut_ptr(),
+            statuses.len(),
         )
     }
 }

@@ -1,6 +1,6 @@
 //! The library's functions as they are: slices and numbers in, numbers out.
 //!
-//! For hosts that keep registers, trace and buffers in a layout of their own. Answers are the numbers of documents
+//! For hosts that keep sessions, trace and buffers in a layout of their own. Answers are the numbers of documents
 //! 01 and 02; [`Answer::try_from`](crate::Answer) names them. No function here has a condition that its caller must meet.
 //!
 //! ```
@@ -12,23 +12,10 @@
 
 use crate::ffi;
 
-/// What a run returns beside what it leaves in the slices.
-#[repr(C)]
-#[derive(Clone, Copy, Debug, Default, PartialEq, Eq)]
-pub struct RunReply {
-    /// How many steps were done.
-    pub steps: u64,
-    /// The answer of the last step tried, or of the run where it wasn't begun.
-    pub answer: u64,
-    /// The bytes touched by the last step, and 64 more for a store; 0 for a refusal or a prefetch.
-    pub code: u64,
-    /// The address of the last access tried; 0 for a prefetch and for answers 1 to 5 and 10.
-    pub address: u64,
-}
-
-/// A session's record, which a host keeps and lends to [`step`]. The default is a new one.
+/// A session's record, which a host keeps, hands to [`run`] by value, and lends to [`step`]. The default is a new one.
 ///
-/// Every record is one that a call takes, and gets an answer. [`Session`](crate::Session) is the same with names.
+/// Any bits in it have a meaning: every record is one that a call takes, and gets an answer.
+/// [`Session`](crate::Session) is the same with names, and says what the monitor is.
 #[repr(C)]
 #[derive(Clone, Copy, Default, PartialEq, Eq, Hash)]
 pub struct SessionRecord {
@@ -42,6 +29,22 @@ pub struct SessionRecord {
     pub monitor_address: u64,
     /// How many bytes the monitor has; it is open where they are 0.
     pub monitor_size: u64,
+}
+
+/// What a run returns beside what it leaves in the slices.
+#[repr(C)]
+#[derive(Clone, Copy, Debug, Default, PartialEq, Eq)]
+pub struct RunReply {
+    /// The record after the steps done; with answers 1 and 10 the one that was handed in.
+    pub session: SessionRecord,
+    /// How many steps were done.
+    pub steps: u64,
+    /// The answer of the last step tried, or of the run where it wasn't begun.
+    pub answer: u64,
+    /// The bytes touched by the last step, and 64 more for a store; 0 for a refusal or a prefetch.
+    pub code: u64,
+    /// The address of the last access tried; 0 for a prefetch and for answers 1 to 5 and 10.
+    pub address: u64,
 }
 
 /// What a step returns beside what it leaves in the record and in the slices.
@@ -110,38 +113,37 @@ pub struct ListerReply {
 
 /// Runs a list of words.
 ///
-/// `registers` holds x0 to x30, SP and PC, and `register_taints` a byte for each but PC, where any but 0 is tainted;
-/// shorter slices are refused with 10, and longer ones keep their rest. `memory` begins at the address `origin`, and
-/// its first `readonly` bytes can't be stored to. `taint` has a byte for each of memory's, and `trace` gets two
-/// numbers for each step done. A run that isn't begun (answers 1 and 10) changes nothing; any other leaves 0 or 1 in
-/// each of the 32 register taints.
+/// `session` is the record to begin with, and the reply has the one after the steps done. `memory` begins at the address
+/// `origin`, and its first `readonly` bytes can't be stored to. `taint` has a byte for each of memory's. For each step
+/// done `trace` gets two numbers, its code and its address, and `statuses` a byte: 1 for a store-exclusive that has
+/// failed, and else 0. A trace or a list of statuses too short for all words is refused with 10, and longer ones keep
+/// their rest. A run that isn't begun (answers 1 and 10) changes nothing.
 ///
 /// ```
-/// use milestarling::raw;
+/// use milestarling::raw::{run, SessionRecord};
 ///
-/// let (mut registers, mut register_taints) = ([0; 33], [0; 32]);
-/// let (mut memory, mut taint, mut trace) = ([7; 16], [0; 16], [0; 2]);
-/// registers[1] = 4096;
+/// let mut session = SessionRecord::default();
+/// let (mut memory, mut taint, mut trace, mut statuses) = ([7; 16], [0; 16], [0; 2], [9]);
+/// session.value[1] = 4096;
 /// let words = [0xf9400420]; // ldr x0, [x1, #8]
-/// let reply = raw::run(
-///     &words, &mut registers, &mut register_taints, 4096, 0, &mut memory, &mut taint, &mut trace,
-/// );
+/// let reply = run(&words, session, 4096, 0, &mut memory, &mut taint, &mut trace, &mut statuses);
 /// assert_eq!((reply.steps, reply.answer, reply.code, reply.address), (1, 0, 8, 4104));
-/// assert_eq!((registers[0], registers[32]), (0x0707_0707_0707_0707, 4));
+/// assert_eq!((reply.session.value[0], reply.session.pc), (0x0707_0707_0707_0707, 4));
+/// assert_eq!((trace, statuses), ([8, 4104], [0]));
 /// ```
 #[allow(clippy::too_many_arguments)]
 #[inline]
 pub fn run(
     words: &[u32],
-    registers: &mut [u64],
-    register_taints: &mut [u8],
+    session: SessionRecord,
     origin: u64,
     readonly: u64,
     memory: &mut [u8],
     taint: &mut [u8],
     trace: &mut [u64],
+    statuses: &mut [u8],
 ) -> RunReply {
-    ffi::run(words, registers, register_taints, origin, readonly, memory, taint, trace)
+    ffi::run(words, session, origin, readonly, memory, taint, trace, statuses)
 }
 
 /// Does one word on a session's record, in memory as [`run`] has it. A refused word (answers 1 to 8) changes nothing.

@@ -1,32 +1,70 @@
 use crate::raw::{self, SessionRecord};
-use crate::{Access, Answer, Memory, Refusal, Register};
+use crate::{ffi, Access, Answer, Memory, Refusal, Register, TaintedBytes};
 use std::fmt;
 
 /// One session: its registers with their taints, PC, and the monitor of exclusive accesses.
 ///
-/// It is the record that the library changes in place, so that a step converts nothing: the way to step a word at a time.
-/// A value goes in and comes out together with its taint, as in [`Registers`](crate::Registers).
+/// A value goes in and comes out together with its taint, so that neither is dropped or kept by mistake: a host that
+/// computes hands [`set`](Session::set) the taint of its operands, and one that branches asks for
+/// [`known`](Session::known), which has no value where there is a taint.
 ///
 /// ```
-/// use milestarling::{Answer, Memory, Register, Session, Window};
+/// use milestarling::{Answer, Memory, Register, Session, TaintedBytes, Window};
 ///
 /// # fn main() -> Result<(), milestarling::Refusal> {
-/// let mut memory = Memory::new(Window::at(4096), vec![7; 16], vec![0; 16]);
+/// let mut memory = Memory::zeroed(Window::at(4096), 16);
+/// memory.write(4104, b"s", true)?; // a letter of a password
 /// let mut session = Session::new();
 /// session.set(Register::X1, 4096, false);
 ///
-/// let done = session.step(&mut memory, 0xf9400420)?; // ldr x0, [x1, #8]
-/// assert_eq!(done.access.to_string(), "load of 8 at 0x1008");
-/// assert_eq!(session.get(Register::X0), (0x0707_0707_0707_0707, false));
+/// let done = session.step(&mut memory, 0x39402020)?; // ldrb w0, [x1, #8]
+/// assert_eq!(done.to_string(), "load of 1 at 0x1008");
+/// assert!(session.is_tainted(Register::X0));
 ///
-/// // What is refused changes nothing.
+/// // and x2, x0, #15, which the host computes, and its taint too
+/// let (letter, tainted) = session.get(Register::X0);
+/// session.set(Register::X2, letter & 15, tainted);
+/// // cbz x2, ..: the branch would tell the letter.
+/// assert_eq!(session.known(Register::X2), None);
+///
+/// // A secret can't choose an address, and what is refused changes nothing.
 /// let before = session.clone();
-/// let refusal = session.step(&mut memory, 0xf9400820).unwrap_err(); // ldr x0, [x1, #16]
-/// assert_eq!(refusal.answer(), Answer::OutOfWindow);
+/// let refusal = session.step(&mut memory, 0x38626823).unwrap_err(); // ldrb w3, [x1, x2]
+/// assert_eq!(refusal.answer(), Answer::TaintedAddress);
 /// assert!(session == before);
 /// # Ok(())
 /// # }
 /// ```
+///
+/// # The monitor
+///
+/// A load-exclusive arms it with its address and size, and a store-exclusive asks it: with the same address and size it
+/// stores, and else it fails and stores nothing. Either way the monitor is open then; no other word touches it. A host
+/// that lets another thread or plugin at the memory between two calls opens it by [`open`](Session::open).
+///
+/// ```
+/// use milestarling::{Memory, Register, Session, Window};
+///
+/// # fn main() -> Result<(), milestarling::Refusal> {
+/// let mut memory = Memory::zeroed(Window::at(4096), 8);
+/// let mut session = Session::new();
+/// session.set(Register::X0, 4096, false);
+/// session.set(Register::X2, 1, false);
+/// let (load, store) = (0x885ffc01, 0x88037c02); // ldaxr w1, [x0]; stxr w3, w2, [x0]
+///
+/// session.step(&mut memory, load)?;
+/// session.open(); // another plugin's turn
+/// let done = session.step(&mut memory, store)?;
+/// assert_eq!(done.to_string(), "store of 4 at 0x1000, which failed");
+/// assert_eq!((session.known(Register::X3), memory.bytes()[0]), (Some(1), 0));
+///
+/// session.step(&mut memory, load)?;
+/// assert!(!session.step(&mut memory, store)?.failed);
+/// assert_eq!((session.known(Register::X3), memory.bytes()[0]), (Some(0), 1));
+/// # Ok(())
+/// # }
+/// ```
+// The record that the library takes, so that a step converts nothing.
 #[derive(Clone, Default, PartialEq, Eq)]
 #[repr(transparent)]
 pub struct Session {
@@ -42,14 +80,37 @@ pub struct Monitor {
     pub bytes: u64,
 }
 
-/// What a step of a session did.
-#[derive(Clone, Copy, Debug, PartialEq, Eq)]
+/// What a step did.
+#[derive(Clone, Copy, Debug, Default, PartialEq, Eq)]
 #[non_exhaustive]
 pub struct Step {
     /// Its access.
     pub access: Access,
     /// Whether it is a store-exclusive that failed: its access is shown, and it has stored nothing.
     pub failed: bool,
+}
+
+impl Step {
+    /// The step of an access and of a status, as a run writes them.
+    pub const fn new(access: Access, status: u8) -> Step {
+        Step { access, failed: status != 0 }
+    }
+}
+
+impl fmt::Display for Step {
+    fn fmt(&self, f: &mut fmt::Formatter<'_>) -> fmt::Result {
+        write!(f, "{}{}", self.access, if self.failed { ", which failed" } else { "" })
+    }
+}
+
+/// A run whose words were all done.
+#[derive(Clone, Copy, Debug, PartialEq, Eq)]
+#[non_exhaustive]
+pub struct Run {
+    /// How many steps were done: one for each word.
+    pub steps: usize,
+    /// What the last one did; all 0 where there were no words.
+    pub last: Step,
 }
 
 impl Session {
@@ -99,10 +160,16 @@ impl Session {
         }
     }
 
+    /// Sets the monitor; none opens it.
+    pub fn set_monitor(&mut self, monitor: Option<Monitor>) {
+        let Monitor { address, bytes } = monitor.unwrap_or(Monitor { address: 0, bytes: 0 });
+        self.record.monitor_address = address;
+        self.record.monitor_size = bytes;
+    }
+
     /// Opens the monitor, as another processor's store would.
     pub fn open(&mut self) {
-        self.record.monitor_address = 0;
-        self.record.monitor_size = 0;
+        self.set_monitor(None);
     }
 
     /// Does one word.
@@ -116,7 +183,7 @@ impl Session {
         word: u32,
     ) -> Result<Step, Refusal> {
         let window = memory.window;
-        let (bytes, taint) = memory.parts_mut();
+        let TaintedBytes { bytes, taint } = memory.parts_mut();
         let reply = raw::step(word, &mut self.record, window.origin, window.readonly, bytes, taint);
         match Answer::of_reply(reply.answer) {
             Answer::Done => {
@@ -124,6 +191,60 @@ impl Session {
                 Ok(Step { access, failed: reply.status != 0 })
             }
             answer => Err(Refusal::after(0, answer, reply.address).of_word(Some(&word))),
+        }
+    }
+
+    /// Does a step for each word, up to the first refusal, and writes what each did into the trace, and its status: 1
+    /// for a store-exclusive that failed, and else 0.
+    ///
+    /// The rest of the trace and of the statuses stays as it was.
+    ///
+    /// # Errors
+    ///
+    /// Answer 1 or 10 (trace or statuses are shorter than the words) before anything is done, else 2 to 8 of the step
+    /// that was refused: [`Refusal::steps`] says how many were done, and those stay done, and [`Refusal::word`] which it
+    /// was.
+    ///
+    /// ```
+    /// use milestarling::{Access, Answer, Memory, Register, Session, Window};
+    ///
+    /// let mut memory = Memory::zeroed(Window::at(4096), 32);
+    /// let mut session = Session::new();
+    /// session.set(Register::SP, 4128, false);
+    /// let words = [
+    ///     0xa9bf7bfd, // stp x29, x30, [sp, #-16]!
+    ///     0xc8007fe1, // stxr w0, x1, [sp]: nothing has armed the monitor
+    ///     0xf84107e0, // ldr x0, [sp], #16
+    ///     0xf84107e0, // ldr x0, [sp], #16: behind the end
+    /// ];
+    /// let (mut trace, mut statuses) = ([Access::default(); 4], [9; 4]);
+    /// let refusal = session.run(&mut memory, &words, &mut trace, &mut statuses).unwrap_err();
+    /// assert_eq!((refusal.answer(), refusal.steps()), (Answer::OutOfWindow, 3));
+    /// assert_eq!(trace[0].to_string(), "store of 16 at 0x1010");
+    /// assert_eq!(trace[2].to_string(), "load of 8 at 0x1010");
+    /// assert_eq!(statuses, [0, 1, 0, 9]);
+    /// ```
+    pub fn run<M: AsRef<[u8]> + AsMut<[u8]>, T: AsRef<[u8]> + AsMut<[u8]>>(
+        &mut self,
+        memory: &mut Memory<M, T>,
+        words: &[u32],
+        trace: &mut [Access],
+        statuses: &mut [u8],
+    ) -> Result<Run, Refusal> {
+        let window = memory.window;
+        let TaintedBytes { bytes, taint } = memory.parts_mut();
+        let trace = ffi::rows(trace);
+        let reply = raw::run(words, self.record, window.origin, window.readonly, bytes, taint, trace, statuses);
+        self.record = reply.session;
+        // There are no more steps than words.
+        let steps = reply.steps as usize;
+        match Answer::of_reply(reply.answer) {
+            Answer::Done => {
+                let access = Access { code: reply.code, address: reply.address };
+                let status = statuses[..steps].last().copied().unwrap_or(0);
+                Ok(Run { steps, last: Step::new(access, status) })
+            }
+            answer => Err(Refusal::after(steps, answer, reply.address).of_word(words.get(steps))),
         }
     }
 

@@ -1,8 +1,8 @@
 //! 01's own examples, and the package's types, by their safe names.
 
 use milestarling::{
-    listing, raw, step_in, words, Access, Answer, Instruction, Machine, Memory, Refusal, Register, Registers,
-    TaintedBytes, Window,
+    listing, step_in, words, Access, Answer, Instruction, Memory, Refusal, Register, Session, Step, TaintedBytes,
+    Window,
 };
 use std::array::from_fn;
 use std::error::Error;
@@ -44,29 +44,34 @@ fn of_16(window: Window) -> Memory<Vec<u8>, Vec<u8>> {
 }
 
 /// Origin 4096, len 16, r 4, X1 = 4101, byte 128 at 4100, and other bytes elsewhere.
-fn example() -> Machine<Vec<u8>, Vec<u8>> {
-    let mut machine = Machine::new(of_16(Window::at(4096).readonly(4)));
-    machine.memory.write(4100, &[128], false).unwrap();
-    machine.registers.set(Register::X1, 4101, false);
-    machine
+fn example() -> (Session, Memory<Vec<u8>, Vec<u8>>) {
+    let (mut session, mut memory) = (Session::new(), of_16(Window::at(4096).readonly(4)));
+    memory.write(4100, &[128], false).unwrap();
+    session.set(Register::X1, 4101, false);
+    (session, memory)
+}
+
+/// A step that is no store-exclusive that failed.
+fn done(code: u64, address: u64) -> Result<Step, Refusal> {
+    Ok(Step::new(Access { code, address }, 0))
 }
 
 #[test]
 fn examples_of_loads() {
     for (word, value) in [(0x385f_f020, 128), (0x38df_f020, 4294967168), (0x389f_f020, 128u64.wrapping_neg())] {
-        let mut machine = example();
-        assert_eq!(machine.step(word), Ok(Access { code: 1, address: 4100 }));
-        assert_eq!(machine.registers.get(Register::X0).0, value);
-        assert_eq!(machine.registers.pc(), 4);
+        let (mut session, mut memory) = example();
+        assert_eq!(session.step(&mut memory, word), done(1, 4100));
+        assert_eq!(session.get(Register::X0).0, value);
+        assert_eq!(session.pc(), 4);
     }
 }
 
 #[test]
 fn examples_of_refusals() {
     let at = |word, address| {
-        let mut machine = example();
-        machine.registers.set(Register::X1, address, false);
-        machine.step(word).map_err(|refusal| refusal.answer())
+        let (mut session, mut memory) = example();
+        session.set(Register::X1, address, false);
+        session.step(&mut memory, word).map_err(|refusal| refusal.answer())
     };
     let load = 0xf940_0020; // ldr x0, [x1]
     assert!(at(load, 4104).is_ok());
@@ -76,29 +81,29 @@ fn examples_of_refusals() {
     assert!(at(store, 4100).is_ok());
     assert_eq!(at(0xa940_0020, 4096), Err(Answer::Unpredictable));
 
-    let mut machine = Machine::new(of_16(Window::at(16u64.wrapping_neg())));
+    let (mut session, mut memory) = (Session::new(), of_16(Window::at(16u64.wrapping_neg())));
     // ldurb, ldurh and ldapurh w0, [x1, #-1], with 0 in x1
-    assert_eq!(machine.step(0x385f_f020), Ok(Access { code: 1, address: u64::MAX }));
-    assert_eq!(machine.registers.get(Register::X0).0, 16);
-    assert_eq!(machine.step(0x785f_f020).unwrap_err().answer(), Answer::OutOfWindow);
-    assert_eq!(machine.step(0x595f_f020).unwrap_err().answer(), Answer::Misaligned);
+    assert_eq!(session.step(&mut memory, 0x385f_f020), done(1, u64::MAX));
+    assert_eq!(session.get(Register::X0).0, 16);
+    assert_eq!(session.step(&mut memory, 0x785f_f020).unwrap_err().answer(), Answer::OutOfWindow);
+    assert_eq!(session.step(&mut memory, 0x595f_f020).unwrap_err().answer(), Answer::Misaligned);
 }
 
 /// CR 1: `ldr x0, [sp], #16` is done where SP is a multiple of 16, and refused with SP's own value where it isn't.
 #[test]
 fn a_stack_pointer_is_aligned() {
     for sp in 4096..4104 {
-        let mut machine = example();
-        machine.registers.set(Register::SP, sp, false);
-        let before = machine.registers.clone();
-        let stepped = machine.step(0xf841_07e0);
+        let (mut session, mut memory) = example();
+        session.set(Register::SP, sp, false);
+        let before = session.clone();
+        let stepped = session.step(&mut memory, 0xf841_07e0);
         if sp == 4096 {
-            assert_eq!(stepped, Ok(Access { code: 8, address: sp }));
-            assert_eq!(machine.registers.get(Register::SP).0, 4112);
+            assert_eq!(stepped, done(8, sp));
+            assert_eq!(session.get(Register::SP).0, 4112);
         } else {
             let refusal = stepped.unwrap_err();
             assert_eq!((refusal.answer(), refusal.address()), (Answer::Misaligned, Some(sp)));
-            assert_eq!(machine.registers, before);
+            assert_eq!(session, before);
         }
     }
 }
@@ -108,26 +113,25 @@ fn lent_memory_is_changed_in_place() {
     let (mut memory, mut taint): ([u8; 16], [u8; 16]) = (from_fn(|at| 50 + at as u8), from_fn(|at| 7 + at as u8));
     let (mut left, mut left_taint) = (memory, taint);
     let lent = TaintedBytes { bytes: &mut memory[..], taint: &mut taint[..] };
-    let mut machine = Machine::new(Memory::new(Window::at(0), lent));
-    machine.registers.set(Register::X0, 0x0102, false);
-    assert_eq!(machine.step(0x7900_0020), Ok(Access { code: 66, address: 0 })); // strh w0, [x1]
-    let registers = machine.registers;
+    let mut session = Session::new();
+    session.set(Register::X0, 0x0102, false);
+    assert_eq!(session.step(&mut Memory::new(Window::at(0), lent), 0x7900_0020), done(66, 0)); // strh w0, [x1]
     left[..2].copy_from_slice(&[2, 1]);
     left_taint[..2].fill(0);
-    assert_eq!((registers.pc(), memory, taint), (4, left, left_taint));
+    assert_eq!((session.pc(), memory, taint), (4, left, left_taint));
 }
 
 #[test]
 fn a_run_keeps_what_was_done_before_a_refusal() {
-    let mut machine = example();
+    let (mut session, mut memory) = example();
     let words = [0x385f_f020, 0x3800_1420, 0x0000_0000, 0x385f_f020]; // ldurb, strb w0, [x1], #1, not of the set
     let rest: [Access; 5] = from_fn(|at| Access { code: 90 + at as u64, address: 99 - at as u64 });
-    let mut trace = rest;
-    let refusal = machine.run(&words, &mut trace).unwrap_err();
+    let (mut trace, mut statuses) = (rest, [7, 8, 9, 10, 11]);
+    let refusal = session.run(&mut memory, &words, &mut trace, &mut statuses).unwrap_err();
     assert_eq!((refusal.answer(), refusal.steps(), refusal.address()), (Answer::NotInSet, 2, None));
     assert_eq!(trace[..2], [Access { code: 1, address: 4100 }, Access { code: 65, address: 4101 }]);
-    assert_eq!(trace[2..], rest[2..]);
-    assert_eq!((machine.registers.get(Register::X1).0, machine.registers.pc()), (4102, 8));
+    assert_eq!((&trace[2..], statuses), (&rest[2..], [0, 0, 9, 10, 11]));
+    assert_eq!((session.get(Register::X1).0, session.pc()), (4102, 8));
     assert_eq!(refusal.word(), Some(0));
     let said = "refused (2): the word is no load or store that this machine takes, by 00000000, after 2 steps";
     assert_eq!(refusal.to_string(), said);
@@ -135,15 +139,20 @@ fn a_run_keeps_what_was_done_before_a_refusal() {
 
 #[test]
 fn a_run_not_begun_changes_nothing() {
-    let mut machine = example();
-    let before = machine.registers.clone();
-    let refusal = machine.run(&[0x385f_f020; 2], &mut [Access::default()]).unwrap_err();
-    assert_eq!((refusal.answer(), refusal.steps()), (Answer::NoRoom, 0));
-    machine.memory.window.readonly = 17;
-    assert_eq!(machine.run(&[], &mut []).unwrap_err().answer(), Answer::BadWindow);
-    machine.memory.window.readonly = 16;
-    assert_eq!(machine.run(&[], &mut []).map(|run| (run.steps, run.last)), Ok((0, Access::default())));
-    assert!(machine.registers == before);
+    let (mut session, mut memory) = example();
+    let before = session.clone();
+    for (accesses, places) in [(1, 2), (2, 1), (0, 0)] {
+        let (mut trace, mut statuses) = (vec![Access::default(); accesses], vec![9; places]);
+        let refusal = session.run(&mut memory, &[0x385f_f020; 2], &mut trace, &mut statuses).unwrap_err();
+        assert_eq!((refusal.answer(), refusal.steps()), (Answer::NoRoom, 0));
+        assert!(trace.iter().all(|access| access.code == 0) && statuses.iter().all(|&status| status == 9));
+    }
+    memory.window.readonly = 17;
+    assert_eq!(session.run(&mut memory, &[], &mut [], &mut []).unwrap_err().answer(), Answer::BadWindow);
+    memory.window.readonly = 16;
+    let run = session.run(&mut memory, &[], &mut [], &mut []).unwrap();
+    assert_eq!((run.steps, run.last), (0, Step::default()));
+    assert!(session == before);
 }
 
 #[test]
@@ -173,14 +182,12 @@ fn a_refusal_is_an_error() {
 /// What is tainted is a secret, and a log is read by many.
 #[test]
 fn a_tainted_value_is_not_shown() {
-    let mut registers = Registers::new();
-    registers.set(Register::X3, 0x5ec3e7, false);
-    assert!(format!("{registers:?}").contains("5ec3e7"));
-    registers.set(Register::X3, 0x5ec3e7, true);
-    assert!(!format!("{registers:?}").contains("5ec3e7"));
-    let mut machine = example();
-    machine.registers = registers;
-    assert!(!format!("{machine:?}").contains("5ec3e7"));
+    let mut session = Session::new();
+    session.set(Register::X3, 0x5ec3e7, false);
+    assert!(format!("{session:?}").contains("5ec3e7"));
+    session.set(Register::X3, 0x5ec3e7, true);
+    assert!(!format!("{session:?}").contains("5ec3e7"));
+    assert!(!format!("{:?}", example().1).contains("128"));
 }
 
 /// `docs/ANSWERS.md` and the C header say the same of each answer.
@@ -194,27 +201,24 @@ fn answers_are_said_in_one_way() {
 
 #[test]
 fn a_value_goes_with_its_taint() {
-    let mut registers = Registers::new();
+    let mut session = Session::new();
     for register in Register::all() {
         for tainted in [true, false] {
-            registers.set(register, 5, tainted);
-            assert_eq!(registers.get(register), (5, tainted));
-            assert_eq!((registers.known(register), registers.is_tainted(register)), ((!tainted).then_some(5), tainted));
+            session.set(register, 5, tainted);
+            assert_eq!(session.get(register), (5, tainted));
+            assert_eq!((session.known(register), session.is_tainted(register)), ((!tainted).then_some(5), tainted));
         }
         assert_eq!(register.to_string().parse(), Ok(register));
     }
     for name in ["x31", "X0", "x01", "wsp", "", "x+1"] {
         assert!(name.parse::<Register>().is_err(), "{name}");
     }
-    assert_eq!(registers.pc(), 0);
-    registers.set_pc(1 << 63);
-    assert_eq!(registers.get(Register::SP), (5, false));
-    let (values, taints) = registers.as_raw_mut();
-    (values[3], taints[3]) = (9, 200);
-    assert_eq!(registers.get(Register::X3), (9, true));
-    let (values, taints) = registers.as_raw_mut();
-    let same = Registers::from_raw(*values, *taints);
-    assert!(same == registers);
+    assert_eq!(session.pc(), 0);
+    session.set_pc(1 << 63);
+    assert_eq!(session.get(Register::SP), (5, false));
+    let record = session.as_raw_mut();
+    (record.value[3], record.taint[3]) = (9, 200);
+    assert_eq!(session.get(Register::X3), (9, true));
 }
 
 /// The host's mistake that the documents warn of, and the same with the taint carried.
@@ -223,18 +227,17 @@ fn a_host_that_drops_a_taint_shows_the_secret() {
     let run = |letter: u8, carried: bool| {
         let mut memory = Memory::zeroed(Window::at(0x1000), 32);
         memory.write(0x1000, &[letter], true).unwrap();
-        let mut registers = Registers::new();
-        registers.set(Register::X0, 0x1000, false);
-        registers.set(Register::X7, 0x1010, false);
-        memory.step(&mut registers, 0x3940_0001).unwrap(); // ldrb w1, [x0]
-        let (value, tainted) = registers.get(Register::X1);
-        registers.set(Register::X2, value & 15, tainted && carried);
-        memory.step(&mut registers, 0x3862_68e3).map_err(|refusal| refusal.answer())
-        // ldrb w3, [x7, x2]
+        let mut session = Session::new();
+        session.set(Register::X0, 0x1000, false);
+        session.set(Register::X7, 0x1010, false);
+        session.step(&mut memory, 0x3940_0001).unwrap(); // ldrb w1, [x0]
+        let (value, tainted) = session.get(Register::X1);
+        session.set(Register::X2, value & 15, tainted && carried);
+        session.step(&mut memory, 0x3862_68e3) // ldrb w3, [x7, x2]
     };
-    assert_eq!(run(b's', false), Ok(Access { code: 1, address: 0x1013 }));
-    assert_eq!(run(b'o', false), Ok(Access { code: 1, address: 0x101f }));
-    assert_eq!(run(b's', true), Err(Answer::TaintedAddress));
+    assert_eq!(run(b's', false), done(1, 0x1013));
+    assert_eq!(run(b'o', false), done(1, 0x101f));
+    assert_eq!(run(b's', true).unwrap_err().answer(), Answer::TaintedAddress);
 }
 
 #[test]
@@ -260,11 +263,11 @@ fn a_step_finds_its_region() {
         Memory::new(Window::at(origin).readonly(readonly), TaintedBytes { bytes: vec![byte; 32], taint: vec![0; 32] })
     };
     let mut regions = [region(0x1000, 32, 1), region(0x1020, 0, 2), region(16u64.wrapping_neg() - 16, 0, 3)];
-    let mut registers = Registers::new();
+    let mut session = Session::new();
     let mut at = |address, word| {
-        registers.set(Register::X1, address, false);
-        let done = step_in(&mut regions, &mut registers, word).map_err(|refusal| refusal.answer());
-        done.map(|access| (access.address, registers.get(Register::X0).0 as u8))
+        session.set(Register::X1, address, false);
+        let done = step_in(&mut regions, &mut session, word).map_err(|refusal| refusal.answer());
+        done.map(|done| (done.access.address, session.get(Register::X0).0 as u8))
     };
     let (load, store) = (0xf940_0020, 0xf900_0020); // ldr and str x0, [x1]
     assert_eq!(at(0x1018, load), Ok((0x1018, 1)));
@@ -279,7 +282,7 @@ fn a_step_finds_its_region() {
     assert_eq!(at(0, 0), Err(Answer::NotInSet));
     assert_eq!(regions[1].bytes()[..9], [3, 3, 3, 3, 3, 3, 3, 3, 2]);
     let mut none: [Memory<Vec<u8>, Vec<u8>>; 0] = [];
-    assert_eq!(step_in(&mut none, &mut Registers::new(), load).unwrap_err().answer(), Answer::OutOfWindow);
+    assert_eq!(step_in(&mut none, &mut Session::new(), load).unwrap_err().answer(), Answer::OutOfWindow);
 }
 
 #[test]
@@ -303,26 +306,12 @@ fn an_image_is_gone_through_word_by_word() {
 fn a_refusal_names_its_word() {
     assert_eq!(Instruction::new(0xb8c0_0020).unwrap_err().word(), Some(0xb8c0_0020));
     assert_eq!("ldr".parse::<Instruction>().unwrap_err().word(), None);
-    let mut machine = example();
-    let refusal = machine.run(&[0x385f_f020, 0xb8c0_0020], &mut [Access::default(); 2]).unwrap_err();
+    let (mut session, mut memory) = example();
+    let words = [0x385f_f020, 0xb8c0_0020];
+    let refusal = session.run(&mut memory, &words, &mut [Access::default(); 2], &mut [0; 2]).unwrap_err();
     let said = "refused (3): the word is an undefined load or store, by b8c00020, after 1 step";
     assert_eq!((refusal.word(), refusal.to_string().as_str()), (Some(0xb8c0_0020), said));
-    machine.memory.window.readonly = 17;
-    assert_eq!(machine.step(0x385f_f020).unwrap_err().word(), None);
-    assert_eq!(machine.run(&[0x385f_f020], &mut []).unwrap_err().word(), None);
-}
-
-/// The registers of a host go through the plain function as they go through a step.
-#[test]
-fn registers_are_those_of_every_entry() {
-    let mut ours = example();
-    let mut theirs = ours.clone();
-    ours.step(0x385f_f020).unwrap();
-    let (values, taints) = theirs.registers.as_raw_mut();
-    let TaintedBytes { bytes, taint } = theirs.memory.parts_mut();
-    let reply = raw::run(&[0x385f_f020], values, taints, 4096, 4, bytes, taint, &mut [0; 2]);
-    assert_eq!((reply.answer, reply.steps), (0, 1));
-    assert!(ours.registers == theirs.registers);
-    let TaintedBytes { bytes, taint } = ours.memory.into_parts();
-    assert_eq!((&bytes[..], &taint[..]), (theirs.memory.bytes(), theirs.memory.taint()));
+    memory.window.readonly = 17;
+    assert_eq!(session.step(&mut memory, 0x385f_f020).unwrap_err().word(), None);
+    assert_eq!(session.run(&mut memory, &[0x385f_f020], &mut [], &mut []).unwrap_err().word(), None);
 }

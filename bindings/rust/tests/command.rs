@@ -230,6 +230,34 @@ pc 0x8008
     assert_eq!(call(&["run"], b"prfm pldl1keep, [x1]\n").status, Some(0));
 }
 
+/// A spin lock's two halves: taken, and lost with the monitor of another place.
+#[test]
+fn runs_a_lock() {
+    let case = "origin 0x1000\nzeros 8\nx0 0x1000\nx2 1\nmonitor 0x1004 4\nstxr w3, w2, [x0]\nldaxr w1, [x0]\n";
+    let failed = "\
+step 1: store of 4 at 0x1000, which failed, by 88037c02, `stxr w3, w2, [x0]`
+step 2: load of 4 at 0x1000, by 885ffc01, `ldaxr w1, [x0]`
+done, after 2 steps
+x0 0x1000
+x2 0x1
+x3 0x1
+pc 0x8
+monitor 0x1000 4
+0x1000: 00 00 00 00 00 00 00 00
+";
+    assert_eq!(call(&["run"], case.as_bytes()), Ended::well(failed));
+    let taken = "\
+step 1: store of 4 at 0x1000, by 88037c02, `stxr w3, w2, [x0]`
+done, after 1 steps
+x0 0x1000
+x2 0x1
+pc 0x4
+0x1000: 01 00 00 00 00 00 00 00
+";
+    let case = case.replace("0x1004", "0x1000").replace("ldaxr w1, [x0]\n", "");
+    assert_eq!(call(&["run"], case.as_bytes()), Ended::well(taken));
+}
+
 /// The README shows the beginning of what the example writes.
 #[test]
 fn runs_the_example() {
@@ -249,6 +277,9 @@ fn a_wrong_case_is_named_by_its_line() {
         ("bytes 1", "no byte of two hexadecimal digits"),
         ("bytes +1", "no byte of two hexadecimal digits"),
         ("tainted pc 4", "tainted are"),
+        ("tainted monitor 1 4", "tainted are"),
+        ("monitor 1", "is no number"),
+        ("monitor 1 4 8", "is no number"),
         ("tainted", "tainted are"),
         ("zeros 1073741825", "more than 1073741824 bytes"),
         ("zeros 18446744073709551615", "more than 1073741824 bytes"),

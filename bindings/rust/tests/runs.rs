@@ -3,11 +3,11 @@
 mod reference;
 mod support;
 
-use milestarling::raw;
+use milestarling::raw::{self, SessionRecord};
 use reference::decoding::{decode, Family, Instruction, Operation};
-use reference::running::{self, Outcome, State, Window};
+use reference::running::{self, Outcome, Window};
 use reference::*;
-use support::{about_power, about_powers, any_word, distinct, word_of_line, Random};
+use support::{about_power, about_powers, any_word, distinct, kept_or_set, state_of, word_of_line, Random};
 
 /// What lies before and behind a buffer that was lent, and in a trace that wasn't written.
 const GUARD: usize = 24;
@@ -16,14 +16,13 @@ const GUARD: usize = 24;
 #[derive(Clone)]
 struct Case {
     words: Vec<u32>,
-    registers: [u64; 33],
-    /// Any byte but 0 is a taint.
-    register_taints: [u8; 32],
+    session: SessionRecord,
     window: Window,
-    /// With guards about the part that is lent, as taint and trace have.
+    /// With guards about the part that is lent, as taint, trace and statuses have.
     memory: Vec<u8>,
     taint: Vec<u8>,
     trace: Vec<u64>,
+    statuses: Vec<u8>,
 }
 
 fn inner<T>(guarded: &mut [T]) -> &mut [T] {
@@ -36,25 +35,26 @@ impl Case {
         self.memory.len() - 2 * GUARD
     }
 
-    /// Runs it by the library and by the reference, compares all that they say and leave, and returns the outcome.
     fn compare(&self) -> Outcome {
+        self.compare_statuses().0
+    }
+
+    /// Runs it by the library and by the reference, and compares all that they say and leave: the outcome, and the
+    /// statuses of the steps done.
+    fn compare_statuses(&self) -> (Outcome, Vec<u8>) {
         let mut ours = self.clone();
         let reply = raw::run(
             &ours.words,
-            &mut ours.registers,
-            &mut ours.register_taints,
+            ours.session,
             ours.window.origin,
             ours.window.readonly,
             inner(&mut ours.memory),
             inner(&mut ours.taint),
             inner(&mut ours.trace),
+            inner(&mut ours.statuses),
         );
         let mut theirs = self.clone();
-        let mut state = State {
-            registers: self.registers[..32].try_into().unwrap(),
-            taints: self.register_taints.map(|byte| byte != 0),
-            pc: self.registers[32],
-        };
+        let mut state = state_of(&self.session);
         let outcome = running::run(
             &theirs.words,
             &mut state,
@@ -62,34 +62,33 @@ impl Case {
             inner(&mut theirs.memory),
             inner(&mut theirs.taint),
             inner(&mut theirs.trace),
+            inner(&mut theirs.statuses),
         );
-        // A run that isn't begun leaves the taint bytes of registers as they are; any other leaves 0 or 1.
-        if outcome.answer != BAD_WINDOW && outcome.answer != NO_ROOM {
-            theirs.register_taints = state.taints.map(|taint| taint as u8);
-        }
-        theirs.registers[..32].copy_from_slice(&state.registers);
-        theirs.registers[32] = state.pc;
         let said = (reply.steps, reply.answer, reply.code, reply.address);
         let expected = (outcome.steps, outcome.answer as u64, outcome.code, outcome.address);
         assert_eq!(said, expected, "{}", self.show());
-        assert_eq!(ours.registers, theirs.registers, "registers, {}", self.show());
-        assert_eq!(ours.register_taints, theirs.register_taints, "register taints, {}", self.show());
+        assert_eq!(state_of(&reply.session), state, "session, {}", self.show());
+        assert!(kept_or_set(&self.session, &reply.session), "taints of registers, {}", self.show());
+        assert!(outcome.steps > 0 || reply.session == self.session, "a session without a step, {}", self.show());
         assert!(ours.memory == theirs.memory, "memory, {}", self.show());
         assert!(ours.taint == theirs.taint, "taint, {}", self.show());
         assert!(ours.trace == theirs.trace, "trace, {}", self.show());
-        outcome
+        assert!(ours.statuses == theirs.statuses, "statuses, {}", self.show());
+        let statuses = inner(&mut theirs.statuses)[..outcome.steps as usize].to_vec();
+        (outcome, statuses)
     }
 
     fn show(&self) -> String {
         format!(
-            "words {:08x?}, registers {:x?}, taints {:?}, {:x?}, {} bytes, {} taint bytes, trace of {}",
+            "words {:08x?}, {:x?}, taints {:?}, {:x?}, {} bytes, {} taint bytes, trace of {}, {} statuses",
             &self.words[..self.words.len().min(40)],
-            self.registers,
-            self.register_taints,
+            state_of(&self.session),
+            self.session.taint,
             self.window,
             self.len(),
             self.taint.len() - 2 * GUARD,
-            self.trace.len() - 2 * GUARD
+            self.trace.len() - 2 * GUARD,
+            self.statuses.len() - 2 * GUARD
         )
     }
 }
@@ -175,25 +174,33 @@ fn blank(random: &mut Random, len: usize, words: usize) -> Case {
         2..=8 => 2 * words + random.below(6),
         _ => 2 * words,
     };
+    let places = match random.below(30) {
+        0 => random.below(words + 1),
+        1 => words.saturating_sub(1),
+        2..=8 => words + random.below(6),
+        _ => words,
+    };
     let mut case = Case {
         words: Vec::with_capacity(words),
-        registers: [0; 33],
-        register_taints: [0; 32],
+        session: SessionRecord::default(),
         window,
         memory,
         taint,
         trace: (0..room + 2 * GUARD).map(|_| random.next()).collect(),
+        statuses: guarded(random, places),
     };
-    for register in &mut case.registers[..32] {
+    for register in &mut case.session.value {
         *register = if random.once_in(3) { number(random) } else { address(random, window, len) };
     }
-    taints(random, &mut case.register_taints);
+    taints(random, &mut case.session.taint);
     let pc = match random.below(4) {
         0 => number(random),
         1 => (4 * random.below(4) as u64).wrapping_neg(),
         _ => address(random, window, len),
     };
-    case.registers[32] = if random.once_in(40) { pc } else { pc & !3 };
+    case.session.pc = if random.once_in(40) { pc } else { pc & !3 };
+    case.session.monitor_address = if random.once_in(2) { number(random) } else { address(random, window, len) };
+    case.session.monitor_size = if random.once_in(4) { number(random) } else { *random.choose(&[0, 1, 2, 4, 8]) };
     case
 }
 
@@ -226,25 +233,34 @@ fn aim(random: &mut Random, case: &mut Case, instruction: &Instruction) {
     };
     let offset = instruction.offset as u64;
     match instruction.family {
-        Family::Literal => case.registers[32] = target.wrapping_sub(offset) & !3,
+        Family::Literal => case.session.pc = target.wrapping_sub(offset) & !3,
         Family::Register => {
             let index = match instruction.rm {
                 31 => 0,
                 rm => {
-                    case.registers[rm as usize] = number(random);
-                    case.registers[rm as usize]
+                    case.session.value[rm as usize] = number(random);
+                    case.session.value[rm as usize]
                 }
             };
             if instruction.rn != instruction.rm || instruction.rn == 31 {
-                case.registers[instruction.rn as usize] = target.wrapping_sub(index_taken(instruction, index));
+                case.session.value[instruction.rn as usize] = target.wrapping_sub(index_taken(instruction, index));
             }
         }
-        _ if instruction.is_post() => case.registers[instruction.rn as usize] = target,
-        _ => case.registers[instruction.rn as usize] = target.wrapping_sub(offset),
+        _ if instruction.is_post() => case.session.value[instruction.rn as usize] = target,
+        _ => case.session.value[instruction.rn as usize] = target.wrapping_sub(offset),
     }
     // SP as a base is mostly aligned, up to 15 bytes lower.
     if !random.once_in(4) {
-        case.registers[31] &= !15;
+        case.session.value[31] &= !15;
+    }
+    if instruction.is_monitored() {
+        let base = &mut case.session.value[instruction.rn as usize];
+        if !random.once_in(4) {
+            *base &= !(width - 1);
+        }
+        if random.once_in(2) {
+            (case.session.monitor_address, case.session.monitor_size) = (*base, width);
+        }
     }
 }
 
@@ -305,7 +321,7 @@ fn wild_runs() {
                 aim(&mut random, &mut case, &instruction);
                 // The literal's PC is that of the start.
                 if instruction.family == Family::Literal {
-                    case.registers[32] = case.registers[32].wrapping_sub(4 * at as u64);
+                    case.session.pc = case.session.pc.wrapping_sub(4 * at as u64);
                 }
             }
         }
@@ -344,6 +360,13 @@ fn tame_word(random: &mut Random) -> u32 {
             // x0 is never loaded, so that it stays a small index.
             Family::Register => word &= !(0x1f << 16),
             Family::Unsigned => word &= !(0xfc0 << 10),
+            // A byte is always aligned. The status goes to another one of 9 to 31.
+            Family::Exclusive { .. } => {
+                word &= !(0b11 << 30);
+                if instruction.has_status() {
+                    word = word & !(0x1f << 16) | (9 + (data - 8 + random.below(22) as u32) % 23) << 16;
+                }
+            }
             _ => {}
         }
         return word;
@@ -359,16 +382,16 @@ fn long_runs() {
         let words = 1 + random.below(1500);
         let mut case = blank(&mut random, 1 << 16, words);
         case.window = Window { origin: 1 << 20, readonly: 4096 };
-        case.registers[0] = random.below(64) as u64;
-        for register in &mut case.registers[1..32] {
+        case.session.value[0] = random.below(64) as u64;
+        for register in &mut case.session.value[1..] {
             *register = (1 << 20) + (1 << 15) + random.below(4096) as u64;
         }
         // A base of SP that isn't aligned is refused at once.
-        case.registers[31] &= !15;
-        case.registers[32] = (1 << 20) + 8192;
+        case.session.value[31] &= !15;
+        case.session.pc = (1 << 20) + 8192;
         if !random.once_in(4) {
-            case.register_taints[..9].fill(0);
-            case.register_taints[31] = 0;
+            case.session.taint[..9].fill(0);
+            case.session.taint[31] = 0;
         }
         case.words.extend((0..words).map(|_| tame_word(&mut random)));
         let outcome = case.compare();
@@ -378,6 +401,56 @@ fn long_runs() {
     }
     println!("runs by answer: {counts:?}, steps done: {steps}, longest: {longest}");
     assert!(steps > 500_000 && longest > 1000, "{steps} steps, the longest run {longest}");
+}
+
+/// Load-exclusives and store-exclusives at two places that are one or near each other, of any size, with other words
+/// between them, so that the lock is taken and lost in every way.
+#[test]
+fn locks() {
+    let mut random = Random::new(17);
+    let (mut counts, mut answers) = ([0; 2], [0; 11]);
+    for _ in 0..200_000 {
+        let words = 2 + random.below(10);
+        let mut case = blank(&mut random, 48, words);
+        case.window = Window { origin: 4096, readonly: *random.choose(&[0, 0, 0, 17]) };
+        case.taint = vec![0; 48 + 2 * GUARD];
+        taints(&mut random, &mut case.taint);
+        let place = 4096 + 16;
+        case.session.value[1] = place;
+        case.session.value[2] = place + *random.choose(&[0, 1, 2, 4, 8, 16]);
+        case.session.pc &= !3;
+        case.session.taint[1..3].fill(0);
+        case.session.monitor_address = *random.choose(&[place, place, 0, place + 8]);
+        let often = random.below(4) as u32;
+        for _ in 0..words {
+            let size = if random.once_in(3) { random.below(4) as u32 } else { often };
+            let base = 1 + random.once_in(3) as u32;
+            let data = *random.choose(&[3u32, 4, 5, 31]);
+            // Bits 23, 22, 20 to 15, and 14 to 10: stxr, stlxr, ldxr, ldaxr, stlr, ldar; or str, ldr of the same size.
+            let status = *random.choose(&[6u32, 7, 31]);
+            let kind = *random.choose(&[
+                status << 16 | 0x7c00,
+                status << 16 | 0xfc00,
+                0x5f_7c00,
+                0x5f_fc00,
+                0x9f_fc00,
+                0xdf_fc00,
+                0x3100_0000,
+                0x3140_0000,
+            ]);
+            case.words.push(size << 30 | 0x0800_0000 | kind | base << 5 | data);
+        }
+        let (outcome, statuses) = case.compare_statuses();
+        answers[outcome.answer as usize] += 1;
+        for (&word, status) in case.words.iter().zip(statuses) {
+            counts[status as usize] += decode(word).is_ok_and(|it| it.has_status()) as u64;
+        }
+    }
+    println!("locks by answer: {answers:?}, taken and lost: {counts:?}");
+    assert!(counts.iter().all(|&count| count > 20_000), "taken and lost: {counts:?}");
+    for answer in [DONE, UNPREDICTABLE, MISALIGNED, READ_ONLY] {
+        assert!(answers[answer as usize] > 1000, "answer {answer} came up too seldom: {answers:?}");
+    }
 }
 
 /// One word of each operation and width that moves x2, and x3 where it is a pair, with x1 as base and offset 0: ordered
@@ -409,9 +482,9 @@ fn every_place_of_a_small_window() {
                     if random.once_in(2) {
                         case.taint = distinct(32 + 2 * GUARD);
                     }
-                    case.register_taints[1] = 0;
-                    case.registers[1] = origin.wrapping_add(place as u64);
-                    case.registers[32] &= !3;
+                    case.session.taint[1] = 0;
+                    case.session.value[1] = origin.wrapping_add(place as u64);
+                    case.session.pc &= !3;
                     case.words.push(word);
                     case.compare();
                     compared += 1;
@@ -430,10 +503,11 @@ fn plain_case(random: &mut Random, word: u32) -> Case {
     case.taint = vec![0; 48 + 2 * GUARD];
     taints(random, &mut case.taint);
     case.trace = (0..2 + 2 * GUARD).map(|_| random.next()).collect();
-    case.registers[1] = 4096 + 16;
-    case.registers[32] &= !3;
-    case.register_taints[1] = 0;
-    case.register_taints[4] = 0;
+    case.statuses = guarded(random, 1);
+    case.session.value[1] = 4096 + 16;
+    case.session.pc &= !3;
+    case.session.taint[1] = 0;
+    case.session.taint[4] = 0;
     case.words.push(word);
     case
 }
@@ -448,7 +522,7 @@ fn values_about_powers() {
         for (at, &value) in values.iter().enumerate() {
             let mut case = plain_case(&mut random, word);
             let second = values[(at + 1) % values.len()];
-            (case.registers[2], case.registers[3]) = (value, second);
+            (case.session.value[2], case.session.value[3]) = (value, second);
             let memory = &mut inner(&mut case.memory)[16..];
             memory[..width].copy_from_slice(&value.to_le_bytes()[..width]);
             memory[width..2 * width].copy_from_slice(&second.to_le_bytes()[..width]);
@@ -472,35 +546,10 @@ fn indexes_about_powers() {
         for value in about_powers() {
             for index in [value, random.next() << 32 | value & 0xffff_ffff] {
                 let mut case = plain_case(&mut random, word);
-                case.registers[4] = index;
-                case.registers[1] = (4096u64 + 16).wrapping_sub(index_taken(&instruction, index));
+                case.session.value[4] = index;
+                case.session.value[1] = (4096u64 + 16).wrapping_sub(index_taken(&instruction, index));
                 assert_eq!(case.compare().answer, DONE);
             }
         }
     }
-}
-
-/// Slices too short for the registers, which only a caller of `raw` can lend.
-#[test]
-fn short_registers() {
-    let words = [0xf940_0420];
-    let numbers = |length| (0..length as u64).map(|at| 4 + 8 * at).collect::<Vec<u64>>();
-    for (values, taints) in [(32, 32), (33, 31), (0, 0), (33, 0), (0, 32)] {
-        let (mut registers, mut register_taints) = (numbers(values), distinct(taints));
-        let (mut memory, mut taint, mut trace) = (distinct(16), distinct(16), numbers(2));
-        let reply = raw::run(&words, &mut registers, &mut register_taints, 0, 0, &mut memory, &mut taint, &mut trace);
-        assert_eq!((reply.steps, reply.answer, reply.code, reply.address), (0, 10, 0, 0));
-        assert_eq!((registers, register_taints), (numbers(values), distinct(taints)));
-        assert_eq!((memory, taint, trace), (distinct(16), distinct(16), numbers(2)));
-    }
-    // Longer ones keep their rest.
-    let (mut registers, mut register_taints) = (numbers(40), distinct(40));
-    registers[1] = 0;
-    register_taints[1] = 0;
-    let (mut memory, mut taint, mut trace) = (distinct(16), vec![0; 16], numbers(2));
-    let reply = raw::run(&words, &mut registers, &mut register_taints, 0, 0, &mut memory, &mut taint, &mut trace);
-    assert_eq!((reply.steps, reply.answer, reply.code, reply.address), (1, 0, 8, 8));
-    assert_eq!((registers[0], registers[2], registers[32]), (0x0f0e_0d0c_0b0a_0908, 20, 4 + 8 * 32 + 4));
-    assert_eq!((&registers[33..], &register_taints[32..]), (&numbers(40)[33..], &distinct(40)[32..]));
-    assert_eq!((memory, taint, trace), (distinct(16), vec![0; 16], vec![8, 8]));
 }

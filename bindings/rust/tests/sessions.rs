@@ -4,12 +4,12 @@ mod reference;
 mod support;
 
 use milestarling::raw::{self, SessionRecord, StepReply};
-use milestarling::{Memory, Register, Session, Window as Place};
-use reference::running::{self, State, Window};
+use milestarling::{Memory, Register, Session, TaintedBytes, Window as Place};
+use reference::running::{self, Window};
 use reference::DONE;
 use std::mem::{align_of, size_of};
 use std::ptr::addr_of;
-use support::{about_power, any_word, Random};
+use support::{about_power, any_word, kept_or_set, state_of, Random};
 
 const CASES: usize = 400_000;
 const ORIGIN: u64 = 0x1000;
@@ -51,8 +51,8 @@ fn any_record(random: &mut Random) -> SessionRecord {
     let clear = random.below(16) as u8;
     record.taint = record.taint.map(|byte| if byte & 15 < clear { 0 } else { byte });
     record.pc = if random.once_in(64) { random.next() } else { ORIGIN + 4 * random.below(16) as u64 };
-    record.monitor_address = random.next();
-    record.monitor_size = random.next();
+    record.monitor_address = if random.once_in(8) { random.next() } else { ORIGIN + 8 * random.below(4) as u64 };
+    record.monitor_size = if random.once_in(8) { random.next() } else { 1 << random.below(4) };
     record
 }
 
@@ -69,20 +69,14 @@ fn a_step_in_place_is_the_reference() {
 
         let (mut record, mut ours, mut marks) = (before, memory.clone(), taint.clone());
         let reply = raw::step(word, &mut record, window.origin, window.readonly, &mut ours, &mut marks);
-        let mut state = State { registers: before.value, taints: before.taint.map(|byte| byte != 0), pc: before.pc };
-        let said = running::run(&[word], &mut state, window, &mut memory, &mut taint, &mut [0; 2]);
+        let (mut state, mut status) = (state_of(&before), [0]);
+        let said = running::run(&[word], &mut state, window, &mut memory, &mut taint, &mut [0; 2], &mut status);
 
-        assert_eq!(
-            (reply.answer, reply.code, reply.address),
-            (said.answer.into(), said.code, said.address),
-            "{word:08x}"
-        );
+        let ours_said = (reply.answer, reply.code, reply.address, reply.status);
+        assert_eq!(ours_said, (said.answer.into(), said.code, said.address, status[0].into()), "{word:08x}");
         assert!(ours == memory && marks == taint, "{word:08x}");
-        assert_eq!((record.value, record.pc), (state.registers, state.pc), "{word:08x}");
-        assert_eq!(record.taint.map(|byte| byte != 0), state.taints, "{word:08x}");
-        // What isn't set keeps its bits, and what is becomes 0 or 1.
-        let kept = |(&after, &before): (&u8, &u8)| after == before || after < 2;
-        assert!(record.taint.iter().zip(&before.taint).all(kept), "{word:08x}");
+        assert_eq!(state_of(&record), state, "{word:08x}");
+        assert!(kept_or_set(&before, &record), "{word:08x}");
         if said.answer == DONE {
             done += 1;
         } else {
@@ -129,7 +123,7 @@ fn a_session_has_names_and_shows_no_secret() {
     session.open();
     assert_eq!(session.monitor(), None);
 
-    let mut memory = Memory::new(Place::at(0x2000), [1; 16], [0; 16]);
+    let mut memory = Memory::new(Place::at(0x2000), TaintedBytes { bytes: [1; 16], taint: [0; 16] });
     let done = session.step(&mut memory, 0xf9000fe3).unwrap_err(); // str x3, [sp, #24]
     assert_eq!((done.address(), done.word(), done.steps()), (Some(0x2018), Some(0xf9000fe3), 0));
     let done = session.step(&mut memory, 0xf90003e3).unwrap(); // str x3, [sp]

@@ -3,12 +3,23 @@
 use super::decoding::{decode, Family, Instruction, Operation};
 use super::*;
 
-/// The register file. Number 31 is SP.
+/// What a monitor is when it opens.
+const OPEN: Monitor = Monitor { address: 0, size: 0 };
+
+/// Where the last load-exclusive was, and how many bytes it had; open where that is 0.
+#[derive(Clone, Copy, Debug, PartialEq, Eq)]
+pub struct Monitor {
+    pub address: u64,
+    pub size: u64,
+}
+
+/// The register file, of which number 31 is SP, and the monitor.
 #[derive(Clone, Debug, PartialEq, Eq)]
 pub struct State {
     pub registers: [u64; 32],
     pub taints: [bool; 32],
     pub pc: u64,
+    pub monitor: Monitor,
 }
 
 #[derive(Clone, Copy, Debug, PartialEq, Eq)]
@@ -79,19 +90,28 @@ fn joined(instruction: &Instruction, bytes: &[u8]) -> u64 {
     }
 }
 
-/// A step whose window and PC were tested: the code and the address.
+/// Answer 6: an exclusive goes by its size, and what acquires or releases by the block of 16 bytes.
+fn is_misaligned(instruction: &Instruction, address: u64, length: usize) -> bool {
+    match instruction.family {
+        Family::Exclusive { monitored: true, .. } => address % length as u64 != 0,
+        Family::Ordered | Family::Exclusive { .. } => address % 16 + length as u64 > 16,
+        _ => false,
+    }
+}
+
+/// A step whose window and PC were tested: the code, the address and the status.
 fn walk(
     word: u32,
     state: &mut State,
     window: Window,
     memory: &mut [u8],
     taint: &mut [u8],
-) -> Result<(u64, u64), Refused> {
+) -> Result<(u64, u64, u8), Refused> {
     let early = |answer| Refused { answer, address: 0 };
     let instruction = decode(word).map_err(early)?;
     if instruction.operation == Operation::Prefetch {
         state.pc = state.pc.wrapping_add(4);
-        return Ok((0, 0));
+        return Ok((0, 0, 0));
     }
     if instruction.is_unpredictable() {
         return Err(early(UNPREDICTABLE));
@@ -121,7 +141,7 @@ fn walk(
     let width = 1usize << instruction.size;
     let length = if instruction.is_pair() { 2 * width } else { width };
     let refused = |answer| Err(Refused { answer, address });
-    if instruction.family == Family::Ordered && address % 16 + length as u64 > 16 {
+    if is_misaligned(&instruction, address, length) {
         return refused(MISALIGNED);
     }
     let end = window.origin as u128 + memory.len() as u128;
@@ -133,12 +153,19 @@ fn walk(
         return refused(READ_ONLY);
     }
     // Nothing is refused from here on, so that nothing was changed by a refused step.
+    let asked = Monitor { address, size: length as u64 };
+    let status = (instruction.has_status() && state.monitor != asked) as u8;
+    if instruction.is_monitored() {
+        state.monitor = if instruction.is_store() { OPEN } else { asked };
+    }
     let at = at as usize;
     let memory = &mut memory[at..at + length];
     let taint = &mut taint[at..at + length];
     let moved = [instruction.rt, instruction.rt2];
     let parts = memory.chunks_exact_mut(width).zip(taint.chunks_exact_mut(width)).zip(moved);
-    if instruction.is_store() {
+    if status == 1 {
+        // "Stores nothing, marks included."
+    } else if instruction.is_store() {
         for ((bytes, taints), register) in parts {
             let (value, tainted) = state.data(register);
             bytes.copy_from_slice(&value.to_le_bytes()[..width]);
@@ -154,9 +181,12 @@ fn walk(
         state.registers[instruction.rn as usize] = base.wrapping_add(instruction.offset as u64);
         state.taints[instruction.rn as usize] = false;
     }
+    if instruction.has_status() {
+        state.set_data(instruction.rs, status as u64, false);
+    }
     state.pc = state.pc.wrapping_add(4);
     let direction = if instruction.is_store() { 64 } else { 0 };
-    Ok((length as u64 + direction, address))
+    Ok((length as u64 + direction, address, status))
 }
 
 /// A run. Everything lent is changed in place.
@@ -167,20 +197,22 @@ pub fn run(
     memory: &mut [u8],
     taint: &mut [u8],
     trace: &mut [u64],
+    statuses: &mut [u8],
 ) -> Outcome {
     let mut outcome = Outcome { steps: 0, answer: DONE, code: 0, address: 0 };
     if is_bad(window, memory.len(), taint.len(), state.pc) {
         outcome.answer = BAD_WINDOW;
         return outcome;
     }
-    if trace.len() < 2 * words.len() {
+    if trace.len() < 2 * words.len() || statuses.len() < words.len() {
         outcome.answer = NO_ROOM;
         return outcome;
     }
-    for (&word, row) in words.iter().zip(trace.chunks_exact_mut(2)) {
+    for ((&word, row), place) in words.iter().zip(trace.chunks_exact_mut(2)).zip(statuses) {
         match walk(word, state, window, memory, taint) {
-            Ok((code, address)) => {
+            Ok((code, address, status)) => {
                 row.copy_from_slice(&[code, address]);
+                *place = status;
                 outcome.steps += 1;
                 (outcome.code, outcome.address) = (code, address);
             }

@@ -3,6 +3,8 @@
 // Each test takes the part that it needs.
 #![allow(dead_code)]
 
+use crate::reference::running::{Monitor, State};
+use milestarling::raw::SessionRecord;
 use std::fs;
 use std::path::Path;
 
@@ -10,6 +12,22 @@ use std::path::Path;
 pub fn stored(program: &str, name: &str) -> Vec<u8> {
     let path = Path::new(env!("CARGO_MANIFEST_DIR")).join("../../crates").join(program).join(name);
     fs::read(&path).unwrap_or_else(|error| panic!("{}: {error}", path.display()))
+}
+
+/// The reference's state of a session's record, in which any taint byte but 0 is a taint.
+pub fn state_of(record: &SessionRecord) -> State {
+    State {
+        registers: record.value,
+        taints: record.taint.map(|byte| byte != 0),
+        pc: record.pc,
+        monitor: Monitor { address: record.monitor_address, size: record.monitor_size },
+    }
+}
+
+/// Whether a call has left a record's taint bytes as it has to: what it doesn't set keeps its bits, and what it does
+/// becomes 0 or 1.
+pub fn kept_or_set(before: &SessionRecord, after: &SessionRecord) -> bool {
+    before.taint.iter().zip(&after.taint).all(|(before, &after)| after == *before || after < 2)
 }
 
 /// Steele, Lea and Flood's SplitMix64.

@@ -2,7 +2,7 @@
 
 use crate::input::{Failure, Source};
 use crate::{hexadecimal, number};
-use milestarling::{Access, Instruction, Machine, Memory, Register, Registers, TaintedBytes, Window};
+use milestarling::{Access, Instruction, Memory, Monitor, Register, Session, Step, TaintedBytes, Window};
 use std::io::{self, Write};
 
 /// The most bytes of memory that a case may have.
@@ -11,7 +11,7 @@ const MEMORY_MAX: usize = 1 << 30;
 /// What a case says.
 #[derive(Default)]
 struct Case {
-    registers: Registers,
+    session: Session,
     window: Window,
     bytes: Vec<u8>,
     taint: Vec<u8>,
@@ -31,7 +31,12 @@ impl Case {
             ("origin", rest) => self.window.origin = number(rest.trim())?,
             ("readonly", rest) => self.window.readonly = number(rest.trim())?,
             ("word", rest) => self.words.push(hexadecimal(rest.trim())?),
-            ("pc", rest) => self.registers.set_pc(number(rest.trim())?),
+            ("pc", rest) => self.session.set_pc(number(rest.trim())?),
+            ("monitor", rest) => {
+                let (address, bytes) = first_word(rest.trim());
+                let monitor = Monitor { address: number(address)?, bytes: number(bytes.trim())? };
+                self.session.set_monitor(Some(monitor));
+            }
             ("tainted", rest) => {
                 let (name, value) = first_word(rest);
                 if !self.put(name, value, true)? {
@@ -60,7 +65,7 @@ impl Case {
                 self.add(length, std::iter::repeat(0).take(length as usize), tainted)?;
             }
             _ => match name.parse::<Register>() {
-                Ok(register) => self.registers.set(register, number(value.trim())?, tainted),
+                Ok(register) => self.session.set(register, number(value.trim())?, tainted),
                 Err(_) => return Ok(false),
             },
         }
@@ -94,39 +99,42 @@ pub fn run(mut source: Source, secrets: bool, output: &mut impl Write) -> Result
         number += 1;
         case.statement(&line).map_err(|said| source.wrong(format!("line {number}: {said}")))?;
     }
-    let Case { registers, window, bytes, taint, words } = case;
-    let mut machine = Machine::new(Memory::new(window, TaintedBytes { bytes, taint }));
-    machine.registers = registers;
-    let mut trace = vec![Access::default(); words.len()];
-    let ran = machine.run(&words, &mut trace);
+    let Case { mut session, window, bytes, taint, words } = case;
+    let mut memory = Memory::new(window, TaintedBytes { bytes, taint });
+    let (mut trace, mut statuses) = (vec![Access::default(); words.len()], vec![0; words.len()]);
+    let ran = session.run(&mut memory, &words, &mut trace, &mut statuses);
     let steps = ran.map_or_else(|refusal| refusal.steps(), |run| run.steps);
     let mut show = || -> io::Result<()> {
-        for (step, (&word, access)) in words.iter().zip(&trace).take(steps).enumerate() {
+        let done = trace.iter().zip(&statuses).map(|(&access, &status)| Step::new(access, status));
+        for (number, (&word, step)) in words.iter().zip(done).take(steps).enumerate() {
             let instruction = Instruction::new(word).map_or_else(|_| "-".into(), |found| found.to_string());
-            writeln!(output, "step {}: {access}, by {word:08x}, `{instruction}`", step + 1)?;
+            writeln!(output, "step {}: {step}, by {word:08x}, `{instruction}`", number + 1)?;
         }
         match ran {
             Ok(_) => writeln!(output, "done, after {steps} steps")?,
             Err(refusal) => writeln!(output, "{refusal}")?,
         }
-        show_registers(&machine.registers, secrets, output)?;
-        let at = machine.memory.window.origin;
-        show_memory(at, machine.memory.bytes(), machine.memory.taint(), secrets, output)
+        show_session(&session, secrets, output)?;
+        show_memory(window.origin, memory.bytes(), memory.taint(), secrets, output)
     };
     show().map_err(Failure::write)?;
     ran.map(|_| ()).map_err(|_| Failure::Refused)
 }
 
-fn show_registers(registers: &Registers, secrets: bool, output: &mut impl Write) -> io::Result<()> {
+fn show_session(session: &Session, secrets: bool, output: &mut impl Write) -> io::Result<()> {
     for register in Register::all() {
-        match registers.get(register) {
+        match session.get(register) {
             (0, false) => {}
             (value, false) => writeln!(output, "{register} {value:#x}")?,
             (value, true) if secrets => writeln!(output, "tainted {register} {value:#x}")?,
             (_, true) => writeln!(output, "tainted {register}")?,
         }
     }
-    writeln!(output, "pc {:#x}", registers.pc())
+    writeln!(output, "pc {:#x}", session.pc())?;
+    match session.monitor() {
+        Some(Monitor { address, bytes }) => writeln!(output, "monitor {address:#x} {bytes}"),
+        None => Ok(()),
+    }
 }
 
 /// Sixteen bytes a line. With secrets a tainted byte has a star behind it.

@@ -30,7 +30,8 @@ milestarling: the loads and stores of an AArch64 emulator
       milestarling text 'ldr x0, [x1, #8]'
 
   milestarling run [FILE] [--secrets]
-      Runs a case and shows each step, and then the registers that aren't 0 and memory.
+      Runs a case and shows each step, and whether it is a store-exclusive that failed,
+      and then the registers that aren't 0, the monitor where it isn't open, and memory.
       What is tainted is shown as `tainted` and `**`, and by --secrets as it is. A case
       has one statement a line, with numbers in decimal or after 0x in hexadecimal:
 
@@ -42,6 +43,9 @@ milestarling: the loads and stores of an AArch64 emulator
         letters LETTERS      more bytes of memory: the rest of the line
         zeros NUMBER         more bytes of memory, so many and all 0
         x0 NUMBER            the value of x0 to x30, sp or pc, at first 0
+        monitor NUMBER NUMBER
+                             the address and the size that a load-exclusive has armed
+                             the monitor with, at first open
         tainted STATEMENT    bytes, letters, zeros or a register that are tainted
         word HEX             one more word to run
         ldr x0, [x1, #8]     one more word to run, by its text: any line that begins

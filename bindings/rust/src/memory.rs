@@ -1,4 +1,4 @@
-use crate::{ffi, Answer, Refusal, Registers};
+use crate::{Answer, Refusal, Session, Step};
 use std::fmt;
 
 /// Where memory is: the address of its first byte, and how many of its first bytes are read-only. Its length is the
@@ -78,12 +78,12 @@ pub struct TaintedBytes<M, T> {
     pub taint: T,
 }
 
-/// One region of memory with its taints, on which steps and runs are done for any [`Registers`].
+/// One region of memory with its taints, in which any [`Session`] is stepped and run.
 ///
 /// It owns its bytes and their taint bytes, or they are lent to it. A store leaves 0 or 1 in a taint byte.
 ///
 /// ```
-/// use milestarling::{Memory, Register, Registers, TaintedBytes, Window};
+/// use milestarling::{Memory, Register, Session, TaintedBytes, Window};
 ///
 /// # fn main() -> Result<(), milestarling::Refusal> {
 /// let (mut bytes, mut taint) = ([0; 16], [0; 16]);
@@ -91,10 +91,10 @@ pub struct TaintedBytes<M, T> {
 /// let mut memory = Memory::new(Window::at(4096).readonly(8), lent);
 /// memory.write(4104, b"key", true)?;
 ///
-/// let mut registers = Registers::new();
-/// registers.set(Register::X1, 4096, false);
-/// memory.step(&mut registers, 0xf9400420)?; // ldr x0, [x1, #8]
-/// assert!(registers.is_tainted(Register::X0));
+/// let mut session = Session::new();
+/// session.set(Register::X1, 4096, false);
+/// session.step(&mut memory, 0xf9400420)?; // ldr x0, [x1, #8]
+/// assert!(session.is_tainted(Register::X0));
 /// # Ok(())
 /// # }
 /// ```
@@ -171,42 +171,6 @@ impl<M: AsRef<[u8]> + AsMut<[u8]>, T: AsRef<[u8]> + AsMut<[u8]>> Memory<M, T> {
         self.taint.as_mut()[places].fill(tainted.into());
         Ok(())
     }
-
-    /// Does one word.
-    ///
-    /// # Errors
-    ///
-    /// Answers 1 to 8. Nothing is changed then.
-    pub fn step(&mut self, registers: &mut Registers, word: u32) -> Result<Access, Refusal> {
-        self.run(registers, &[word], &mut [Access::default()]).map(|run| run.last)
-    }
-
-    /// Does a step for each word, up to the first refusal, and writes what each did into the trace.
-    ///
-    /// The rest of the trace stays as it was.
-    ///
-    /// # Errors
-    ///
-    /// Answer 1 or 10 (the trace is shorter than the words) before anything is done, else 2 to 8 of the step that was
-    /// refused: [`Refusal::steps`] says how many were done, and those stay done, and [`Refusal::word`] which it was.
-    pub fn run(&mut self, registers: &mut Registers, words: &[u32], trace: &mut [Access]) -> Result<Run, Refusal> {
-        let reply = ffi::run(
-            words,
-            &mut registers.values,
-            &mut registers.taints,
-            self.window.origin,
-            self.window.readonly,
-            self.bytes.as_mut(),
-            self.taint.as_mut(),
-            ffi::rows(trace),
-        );
-        // There are no more steps than words.
-        let steps = reply.steps as usize;
-        match Answer::of_reply(reply.answer) {
-            Answer::Done => Ok(Run { steps, last: Access { code: reply.code, address: reply.address } }),
-            answer => Err(Refusal::after(steps, answer, reply.address).of_word(words.get(steps))),
-        }
-    }
 }
 
 /// Memory may hold secrets, so only its length is shown.
@@ -225,18 +189,18 @@ impl<M: AsRef<[u8]>, T> fmt::Debug for Memory<M, T> {
 /// holds it. An access that runs on from one region into the next is outside both, and is refused with 7.
 ///
 /// ```
-/// use milestarling::{step_in, Answer, Memory, Register, Registers, Window};
+/// use milestarling::{step_in, Answer, Memory, Register, Session, Window};
 ///
 /// let mut regions = [
 ///     Memory::zeroed(Window::at(0x1000).readonly(16), 16), // constants
 ///     Memory::zeroed(Window::at(0x8000), 64),              // a stack
 /// ];
-/// let mut registers = Registers::new();
-/// registers.set(Register::X1, 0x1000, false);
-/// registers.set(Register::SP, 0x8040, false);
-/// assert!(step_in(&mut regions, &mut registers, 0xf9400020).is_ok()); // ldr x0, [x1]
-/// assert!(step_in(&mut regions, &mut registers, 0xa9bf7bfd).is_ok()); // stp x29, x30, [sp, #-16]!
-/// let refusal = step_in(&mut regions, &mut registers, 0xf9000020).unwrap_err(); // str x0, [x1]
+/// let mut session = Session::new();
+/// session.set(Register::X1, 0x1000, false);
+/// session.set(Register::SP, 0x8040, false);
+/// assert!(step_in(&mut regions, &mut session, 0xf9400020).is_ok()); // ldr x0, [x1]
+/// assert!(step_in(&mut regions, &mut session, 0xa9bf7bfd).is_ok()); // stp x29, x30, [sp, #-16]!
+/// let refusal = step_in(&mut regions, &mut session, 0xf9000020).unwrap_err(); // str x0, [x1]
 /// assert_eq!(refusal.answer(), Answer::ReadOnly);
 /// ```
 ///
@@ -245,100 +209,14 @@ impl<M: AsRef<[u8]>, T> fmt::Debug for Memory<M, T> {
 /// Answers 1 to 8. Nothing is changed then.
 pub fn step_in<M: AsRef<[u8]> + AsMut<[u8]>, T: AsRef<[u8]> + AsMut<[u8]>>(
     regions: &mut [Memory<M, T>],
-    registers: &mut Registers,
+    session: &mut Session,
     word: u32,
-) -> Result<Access, Refusal> {
-    let tried = Memory::new(Window::default(), TaintedBytes { bytes: [], taint: [] }).step(registers, word);
+) -> Result<Step, Refusal> {
+    let mut nowhere = Memory::new(Window::default(), TaintedBytes { bytes: [], taint: [] });
+    let tried = session.step(&mut nowhere, word);
     let Err(refusal) = tried else { return tried };
     match regions.iter_mut().find(|region| refusal.outside().is_some_and(|address| region.holds(address))) {
-        Some(region) => region.step(registers, word),
+        Some(region) => session.step(region, word),
         None => tried,
     }
-}
-
-/// Registers and one region of memory.
-///
-/// ```
-/// use milestarling::{Access, Answer, Machine, Memory, Register, Window};
-///
-/// # fn main() -> Result<(), milestarling::Refusal> {
-/// let mut machine = Machine::new(Memory::zeroed(Window::at(4096).readonly(8), 16));
-/// machine.memory.write(4104, b"key", true)?;
-/// machine.registers.set(Register::X1, 4096, false);
-///
-/// let access = machine.step(0xf9400420)?; // ldr x0, [x1, #8]
-/// assert_eq!(access, Access { code: 8, address: 4104 });
-/// assert!(machine.registers.is_tainted(Register::X0));
-///
-/// // A secret can't choose an address, and what is refused changes nothing.
-/// let refusal = machine.step(0xf9400001).unwrap_err(); // ldr x1, [x0]
-/// assert_eq!(refusal.answer(), Answer::TaintedAddress);
-/// assert_eq!(machine.registers.pc(), 4);
-/// # Ok(())
-/// # }
-/// ```
-#[derive(Clone)]
-pub struct Machine<M, T> {
-    /// The registers.
-    pub registers: Registers,
-    /// The memory.
-    pub memory: Memory<M, T>,
-}
-
-impl<M: AsRef<[u8]> + AsMut<[u8]>, T: AsRef<[u8]> + AsMut<[u8]>> Machine<M, T> {
-    /// A machine with all registers 0 and none tainted.
-    pub fn new(memory: Memory<M, T>) -> Machine<M, T> {
-        Machine { registers: Registers::new(), memory }
-    }
-
-    /// Does one word, as [`Memory::step`] does.
-    ///
-    /// # Errors
-    ///
-    /// Answers 1 to 8. Nothing is changed then.
-    pub fn step(&mut self, word: u32) -> Result<Access, Refusal> {
-        self.memory.step(&mut self.registers, word)
-    }
-
-    /// Does a step for each word, up to the first refusal, as [`Memory::run`] does.
-    ///
-    /// # Errors
-    ///
-    /// Those of [`Memory::run`].
-    ///
-    /// ```
-    /// use milestarling::{Access, Answer, Machine, Memory, Register, Window};
-    ///
-    /// let mut machine = Machine::new(Memory::zeroed(Window::at(4096), 32));
-    /// machine.registers.set(Register::SP, 4128, false);
-    /// let words = [
-    ///     0xa9bf7bfd, // stp x29, x30, [sp, #-16]!
-    ///     0xf84107e0, // ldr x0, [sp], #16
-    ///     0xf84107e0, // ldr x0, [sp], #16: behind the end
-    /// ];
-    /// let mut trace = [Access::default(); 3];
-    /// let refusal = machine.run(&words, &mut trace).unwrap_err();
-    /// assert_eq!((refusal.answer(), refusal.steps()), (Answer::OutOfWindow, 2));
-    /// assert_eq!(trace[0].to_string(), "store of 16 at 0x1010");
-    /// assert_eq!(trace[1].to_string(), "load of 8 at 0x1010");
-    /// ```
-    pub fn run(&mut self, words: &[u32], trace: &mut [Access]) -> Result<Run, Refusal> {
-        self.memory.run(&mut self.registers, words, trace)
-    }
-}
-
-impl<M: AsRef<[u8]>, T> fmt::Debug for Machine<M, T> {
-    fn fmt(&self, f: &mut fmt::Formatter<'_>) -> fmt::Result {
-        f.debug_struct("Machine").field("registers", &self.registers).field("memory", &self.memory).finish()
-    }
-}
-
-/// A run whose words were all done.
-#[derive(Clone, Copy, Debug, PartialEq, Eq)]
-#[non_exhaustive]
-pub struct Run {
-    /// How many steps were done: one for each word.
-    pub steps: usize,
-    /// What the last one did; all 0 where there were no words.
-    pub last: Access,
 }
