@@ -10,9 +10,9 @@ target/coverage, and holds each against its checksum there. Neither root nor a f
 of their executable sections is handed to the program list and to objdump.
 
 A load or store is a word with bit 27 = 1 and bit 25 = 0, as Arm's top table has it, that objdump knows as an
-instruction. It is taken where list gives it a text and answer 0; else it is one that a later request brings, an
-exclusive or a vector, or one of the rest. The files have no symbols that part code from data, so that tables which
-stand among the code are counted as the words that they look like.
+instruction. It is taken where list gives it a text and answer 0, and of those the ninth family's, exclusives, are
+counted; else it is a vector, which a later request brings, or one of the rest. The files have no symbols that part code
+from data, so that tables which stand among the code are counted as the words that they look like.
 """
 import argparse
 import collections
@@ -144,7 +144,7 @@ def is_vector(word):
 def sort_of(word, answer):
     if answer == '0':
         return 'taken'
-    return 'exclusives' if is_exclusive(word) else 'vectors' if is_vector(word) else 'rest'
+    return 'vectors' if is_vector(word) else 'rest'
 
 
 def counted(code, rest, other_texts):
@@ -161,6 +161,7 @@ def counted(code, rest, other_texts):
         sort = sort_of(word, answer)
         counts['all'] += 1
         counts[sort] += 1
+        counts['exclusives'] += sort == 'taken' and is_exclusive(word)
         if sort == 'rest':
             rest[theirs.text.split()[0]] += 1
         elif sort == 'taken' and text != line_in(theirs.text, ORIGIN + 4 * (place % BATCH)):
@@ -174,9 +175,10 @@ def percent(part, whole):
 
 
 def row(name, versions, counts):
-    shares = [percent(counts[sort], counts['all']) for sort in ('taken', 'exclusives', 'vectors', 'rest')]
+    taken, *others = (percent(counts[sort], counts['all']) for sort in ('taken', 'vectors', 'rest'))
     texts = '{:,} of {:,}'.format(counts['taken'] - counts['other texts'], counts['taken'])
-    print('| %s | %s | %s | %s | %s |' % (name, versions, '{:,}'.format(counts['all']), ' | '.join(shares), texts))
+    fields = name, versions, '{:,}'.format(counts['all']), taken, '{:,}'.format(counts['exclusives']), *others, texts
+    print('| %s |' % ' | '.join(fields))
 
 
 def main():
@@ -189,7 +191,7 @@ def main():
     os.makedirs(ROOM, exist_ok=True)
     packages = index(chosen.mirror, chosen.suite)
     total, rest, other_texts = collections.Counter(), collections.Counter(), collections.Counter()
-    print('| Of | Packages | Loads and stores | Taken | Exclusives | Vectors | The rest | Texts as objdump\'s |')
+    print('| Of | Packages | Loads and stores | Taken | Exclusives of them | Vectors | The rest | Texts as objdump\'s |')
     print('|---|---|---|---|---|---|---|---|')
     for name, members in GROUPS:
         missing = [member for member in members if member not in packages]
