@@ -14,7 +14,7 @@
  *
  * A slice is a pointer and the number of its elements. The pointer is never null, even where the length is 0. A slice
  * that isn't const overlaps no other slice of the call: to run a word that stands in memory, copy the word out first and
- * hand in the copy. Beyond that no function has a condition to meet.
+ * hand in the copy. A session that is lent is as such a slice. Beyond that no function has a condition to meet.
  *
  * Threads: nothing here is static, and a call touches what it is lent and nothing else. So calls that are lent different
  * sessions, memory and output may go on at the same time; those that are lent the same need a lock of the host's. A host
@@ -166,8 +166,9 @@ struct milestarling_lister_reply {
  * statuses         a byte for each word, of which those of the steps done are written: 1 for a store-exclusive that has
  *                  failed, whose code and address are those of one that hasn't, and 0 for every other step
  *
- * Answers 0 to 8, or 10 where trace or statuses is too short. With answers 1 and 10 nothing is changed in any slice, and
- * the session returned is the one handed in. A longer slice keeps its rest.
+ * Answers 0 to 8, or 10 where trace or statuses is too short for all words, which is looked at after 1 and before the
+ * first step. With answers 1 and 10 nothing is changed in any slice, and the session returned is the one handed in. A
+ * longer slice keeps its rest.
  */
 struct milestarling_run_reply milestarling_run(
     const uint32_t *words, size_t words_length,

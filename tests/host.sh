@@ -1,8 +1,7 @@
 #!/usr/bin/env bash
 # Builds the library for C and C++ hosts from nothing but this repository, and tries it: the examples, the header in each
 # version of both languages and with each compiler that is there, the program that the README prints, and what
-# tools/install.sh puts below a prefix. Structs cross by value, so that each example is compiled without optimizing and
-# with it.
+# tools/install.sh puts below a prefix. Structs cross by value, so that each is compiled without optimizing and with it.
 set -eo pipefail
 cd "$(dirname "${BASH_SOURCE[0]}")/.."
 bash tools/library.sh
@@ -46,9 +45,11 @@ for compiler in gcc g++ clang clang++; do
     *) standards="c99 c11 c17" language=c ;;
     esac
     for standard in $standards; do
-        "$compiler" -x "$language" "-std=$standard" "${strict[@]}" -Wconversion -Iinclude -o "$room/header" \
-            tests/header.c -x none "$archive"
-        "$room/header" | diff - "$room/said"
+        for level in -O0 -O2; do
+            "$compiler" -x "$language" "-std=$standard" "$level" "${strict[@]}" -Wconversion -Iinclude -o "$room/header" \
+                tests/header.c -x none "$archive"
+            "$room/header" | diff - "$room/said"
+        done
         versions=$((versions + 1))
     done
 done
