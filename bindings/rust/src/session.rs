@@ -9,7 +9,7 @@ use std::fmt;
 /// [`known`](Session::known), which has no value where there is a taint.
 ///
 /// ```
-/// use milestarling::{Answer, Memory, Register, Session, TaintedBytes, Window};
+/// use milestarling::{Answer, Memory, Register, Session, Window};
 ///
 /// # fn main() -> Result<(), milestarling::Refusal> {
 /// let mut memory = Memory::zeroed(Window::at(4096), 16);

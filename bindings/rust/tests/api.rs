@@ -315,3 +315,25 @@ fn a_refusal_names_its_word() {
     assert_eq!(session.step(&mut memory, 0x385f_f020).unwrap_err().word(), None);
     assert_eq!(session.run(&mut memory, &[0x385f_f020], &mut [], &mut []).unwrap_err().word(), None);
 }
+
+/// A spin lock taken and lost: a run leaves and says what its steps do one by one.
+#[test]
+fn a_run_is_its_steps() {
+    let words = [0x885f_fc01, 0x8803_7c02, 0x8803_7c02, 0x385f_f020]; // ldaxr w1, [x0]; stxr w3, w2, [x0] twice; ldurb
+    let (mut ours, mut memory) = example();
+    ours.set(Register::X0, 4100, false);
+    ours.set(Register::X2, 1, true);
+    let (mut theirs, mut region) = (ours.clone(), memory.clone());
+    let (mut trace, mut statuses) = ([Access::default(); 4], [9; 4]);
+    let refusal = ours.run(&mut memory, &words, &mut trace, &mut statuses).unwrap_err();
+    assert_eq!((refusal.answer(), refusal.steps(), statuses), (Answer::OutOfWindow, 3, [0, 0, 1, 9]));
+    for (at, &word) in words[..3].iter().enumerate() {
+        assert_eq!(theirs.step(&mut region, word), Ok(Step::new(trace[at], statuses[at])));
+    }
+    assert!(ours == theirs && ours.monitor().is_none());
+    assert_eq!((memory.bytes(), memory.taint()), (region.bytes(), region.taint()));
+    assert_eq!(memory.into_parts().taint[4..9], [1, 1, 1, 1, 0]);
+
+    let run = theirs.run(&mut region, &words[2..3], &mut trace, &mut statuses).unwrap();
+    assert_eq!((run.steps, run.last.to_string()), (1, "store of 4 at 0x1004, which failed".to_string()));
+}
