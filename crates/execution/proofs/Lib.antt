@@ -1,4 +1,3 @@
-pub mod Files
 pub mod Refusals
 pub mod Secrecy
 pub mod Walks
