@@ -6,7 +6,9 @@ ghost use mathlib.Core.Path.{_≡_};
 ghost use Rattle.instruction.specs.Answers.{answerNumber};
 ghost use Rattle.decoder.specs.Decoding.{classOf};
 ghost use Rattle.plain.specs.Coding.{decodePlain};
+ghost use Rattle.bits.specs.Choice.{pick};
 ghost use Rattle.records.specs.Replies.{decodeNumbered, EncodedAs};
+ghost use Rattle.records.specs.Space.{loadOrStore, setsBlock, touchesMemory};
 
 // The numbers are zeros where the answer is not 0.
 #[repr(C)]
@@ -28,6 +30,31 @@ pub extern "C" fn milestarling_classify(word: u32) -> u64
     ensures { λ r. ⌜ r ≡ answerNumber (classOf word) ⌝ }
 {
     answer_number(decoder::classify(word))
+}
+
+// Whether a word touches memory, of the set or not: 1, or 0. One that doesn't is no load or store, and never needs a step.
+#[no_mangle]
+pub extern "C" fn milestarling_touches_memory(word: u32) -> u64
+    ensures { λ r. ⌜ r ≡ pick (touchesMemory word) 1 0 ⌝ }
+{
+    if is_load_or_store(word) | sets_block(word) {
+        return 1;
+    }
+    0
+}
+
+fn is_load_or_store(word: u32) -> bool
+    ensures { λ r. ⌜ r ≡ loadOrStore word ⌝ }
+{
+    (word / 0x800_0000 % 2 == 1) & (word / 0x200_0000 % 2 == 0)
+}
+
+// The data cache operations that set a block of memory or its tags.
+fn sets_block(word: u32) -> bool
+    ensures { λ r. ⌜ r ≡ setsBlock word ⌝ }
+{
+    let op2 = word / 0x20 % 8;
+    (word / 0x100 % 0x100_0000 == 0xd5_0b74) & ((op2 == 1) | (op2 == 3) | (op2 == 4))
 }
 
 // The numbers of a word's instruction.
