@@ -1,9 +1,14 @@
 // A session's record, which its host keeps, lent and changed in place: by a step, and by setting one register. Both copy
-// the record out, call the form by value, and store what it returns back whole.
+// the record out, call the form by value, and store what it returns back whole. Between two steps the host opens the
+// monitor, or tells what another has stored, by value.
+mod watch;
+
 use machine::State;
 use machine::Window;
 ghost use mathlib.Core.Path.{_≡_};
+ghost use Rattle.machine.specs.Machine.{opened};
 ghost use Rattle.session.specs.Lent.{withRegister, lentOutcome, lentStep};
+ghost use Rattle.session.specs.Watch.{observed};
 
 // What a step says beside the record that it leaves, the answer by its number; the status is 0 but for a store-exclusive
 // that fails.
@@ -41,6 +46,27 @@ pub extern "C" fn milestarling_set_register(state: &mut State, n: u32, value: u6
     ensures { λ _. ⌜ now (state .exit) ≡ withRegister n value mark (now (state .entry)) ⌝ }
 {
     *state = with_register(*state, n, value, mark);
+}
+
+// The record with its monitor open.
+#[no_mangle]
+pub extern "C" fn milestarling_opened(state: State) -> State
+    ensures { λ r. ⌜ r ≡ opened state ⌝ }
+{
+    machine::open(state)
+}
+
+// The record after a step of another that showed this code, address and status: the monitor is open where that step has
+// stored a byte that it watches.
+#[no_mangle]
+pub extern "C" fn milestarling_observed(state: State, code: u64, address: u64, status: u64) -> State
+    ensures { λ r. ⌜ r ≡ observed code address status state ⌝ }
+{
+    let monitor = state.monitor;
+    if watch::stores_watched(monitor, code, address, status) {
+        return machine::open(state);
+    }
+    state
 }
 
 fn step_replied(
