@@ -7,14 +7,14 @@ use lib.ListN.{length, getD, take}
 use Rattle.memory.specs.Taints.{tainted}
 use Rattle.registers.specs.File.{taintIn}
 use Rattle.machine.specs.Machine.{Machine}
-use Rattle.secrecy.specs.Agree.{Agree}
+use Rattle.secrecy.specs.Agree.{Agree, EqualMonitors}
 use Rattle.execution.specs.Walk.{Log, Result}
 
--- two machines with the same PC, monitor, registers' taints and taint bytes, that agree on each register that is not tainted and on each byte whose
--- taint byte is 0: a byte that has none may differ. A register has a taint of its own.
+-- two machines with the same PC, registers' taints and taint bytes and with equal monitors, that agree on each register that is not
+-- tainted and on each byte whose taint byte is 0: a byte that has none may differ. A register has a taint of its own.
 pub record Same (m n : Machine) : Type 0 where
   pub pc : m .pc ≡ n .pc
-  pub monitor : m .monitor ≡ n .monitor
+  pub monitor : EqualMonitors (m .monitor) (n .monitor)
   pub marks : map tainted (m .taints .registers) ≡ map tainted (n .taints .registers)
   pub taints : m .taints .bytes ≡ n .taints .bytes
   pub full : length (m .values) ≡ length (m .taints .registers)

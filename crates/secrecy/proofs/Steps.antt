@@ -1,10 +1,13 @@
 -- A step takes machines that agree on what may be seen to such machines, and shows the same of both. Assumes
 -- nothing.
-use Prim.Native.Nat.{ℕ, _+_, _-_}
+use Prim.Native.Nat.{ℕ, _+_, _-_, _<_}
 use mathlib.Core.Path.{_≡_, refl, sym, ap, subst, _∙_}
 use mathlib.Core.Bool.{Bool, true, false}
 use mathlib.Core.List.{List, [], _∷_, _++_}
+use mathlib.Core.Logic.{inl, inr}
 use native.Mathlib.Omega.{arith}
+use borrow.Author.Tests.{ne-eqb}
+use lib.Dec.{eqb}
 use lib.ListN.{length, set, getD, replicate, length-set}
 use lib.Seq.{sets, length-sets}
 use Rattle.bits.specs.Choice.{pick}
@@ -12,6 +15,8 @@ use Rattle.instruction.specs.declared.answer.Answer.{Answer}
 use Rattle.instruction.specs.declared.answer.Answer.the-variants.{BadWindow}
 use Rattle.bits.specs.Bytes.{joined, spanOf}
 use Rattle.bits.specs.Extension.{extendedOf}
+use Rattle.bits.proofs.Choices.{pick-by}
+use Rattle.decoder.specs.Decoding.{decodeOf}
 use Rattle.memory.specs.Taints.{taintByte, anyTainted}
 use Rattle.registers.specs.File.{taintIn}
 use Rattle.access.specs.declared.transfer.Transfer.{Transfer}
@@ -27,16 +32,17 @@ use Rattle.plan.specs.Plans.{refusalsOf}
 use Rattle.plan.proofs.Refusals.{Passed}
 use Rattle.plan.proofs.Tests.{same-lengths}
 use Rattle.access.specs.Accesses.{wordAccess}
+use Rattle.access.proofs.Bounds.{Moving, moving}
 use Rattle.machine.specs.Rule.{moveRule}
 use Rattle.machine.specs.declared.monitor.Monitor.{Monitor}
-use Rattle.machine.specs.Monitor.{statusOf, monitorAfter, writtenBack, madeOf}
+use Rattle.machine.specs.Monitor.{matches, statusOf, monitorAfter, writtenBack, madeOf}
 use Rattle.machine.specs.Machine.{Machine, operandsOf, effectOf}
 use Rattle.machine.specs.Refusals.{bad, classRefusals, accessRefusals}
 use Rattle.machine.specs.Step.{Step, stopped, touchOf, stepOf}
 use Rattle.machine.specs.route.Parts.{wordStep, accessStep}
 use Rattle.machine.proofs.Answers.{step-bad}
 use Rattle.machine.proofs.Writing.{load-made}
-use Rattle.secrecy.specs.Agree.{Shows}
+use Rattle.secrecy.specs.Agree.{EqualMonitors, Shows}
 use Rattle.secrecy.specs.route.Alike.{Alike}
 use Rattle.secrecy.proofs.Agreement.{agree-sets, Seen, span-taints, store-alike, span-alike, set-alike, same-taint, set-tainted}
 
@@ -60,6 +66,26 @@ first-after : {A : Type 0} (R : A → A → Type 0) (x y : Step A) (es fs gs : L
 first-after R x y [] fs gs h = h
 first-after R x y (e ∷ es) fs gs h = shows-at R (e .holds) (e .answer) (e .address) _ _ (λ f. first-after R x y es fs gs h)
 
+-- ---- equal monitors
+
+-- an open monitor lets no store-exclusive pass
+open-fails : (r : Monitor) (address size : ℕ) → r .size ≡ 0 → 0 < size → matches r address size ≡ false
+unfolding matches
+open-fails r address size e l = rw (e, ne-eqb 0 size (omega arith)) (pick-by (λ b. b ≡ false) (eqb (r .address) address) (λ _. refl) (λ _. refl))
+
+status-same : (t : Transfer) (address : ℕ) (r s : Monitor) → 0 < t .bytes → EqualMonitors r s → statusOf t address r ≡ statusOf t address s
+unfolding statusOf
+status-same t address r s l (inl e) = rw e
+status-same t address r s l (inr (p, q)) = rw (open-fails r address (t .bytes) p l, open-fails s address (t .bytes) q l)
+
+after-same : (t : Transfer) (address : ℕ) (r s : Monitor) → EqualMonitors r s → EqualMonitors (monitorAfter t address r) (monitorAfter t address s)
+unfolding monitorAfter
+after-same t address r s h = set-same (t .exclusive) _ h
+  where
+    set-same : (z : Bool) (set : Monitor) → EqualMonitors r s → EqualMonitors (pick z set r) (pick z set s)
+    set-same true set h = inl refl
+    set-same false set h = h
+
 -- `none`: what is untainted is clear
 module _ (sees : ℕ → Type 0) (clear : Bool → Type 0) (none : clear false) (each : (b c : Bool) → clear (pick b true c) → clear b × clear c) where
   module _ (m n : Machine) (h : Alike sees clear m n) where
@@ -78,9 +104,9 @@ module _ (sees : ℕ → Type 0) (clear : Bool → Type 0) (none : clear false) 
         rw (value (a .base) (rw base none), value (a .index) (rw index none), h .pc, same (a .base), same (a .index))
 
     -- both make the same access, and a load is allowed to look at its bytes
-    module _ (long : length (m .memory) ≡ length (m .taints .bytes)) (t : Transfer) (written at next : ℕ) (after : Monitor) (seen : t .store ≡ false → Seen sees at (totalOf t)) where
+    module _ (long : length (m .memory) ≡ length (m .taints .bytes)) (t : Transfer) (written at next : ℕ) (after later : Monitor) (still : EqualMonitors after later) (seen : t .store ≡ false → Seen sees at (totalOf t)) where
       abbrev Kept : Type 0
-      Kept = Alike sees clear (effectOf t written at next after m) (effectOf t written at next after n)
+      Kept = Alike sees clear (effectOf t written at next after m) (effectOf t written at next later n)
 
       effect-at : (z : Bool) → t .store ≡ z → Kept
       unfolding effectOf moveRule
@@ -93,7 +119,7 @@ module _ (sees : ℕ → Type 0) (clear : Bool → Type 0) (none : clear false) 
           rw (e, ← same (t .target), ← same (t .second))
           (record {
             pc = rw (h .pc);
-            monitor = refl;
+            monitor = still;
             registers = set-tainted u (n .taints .registers) (h .registers) written 0;
             full = simp length-set (h .full);
             values = set-alike clear u (m .values) (n .values) written next next false (h .full) (h .values) (λ z. refl);
@@ -117,7 +143,7 @@ module _ (sees : ℕ → Type 0) (clear : Bool → Type 0) (none : clear false) 
           rw e
           (record {
             pc = rw (h .pc);
-            monitor = refl;
+            monitor = still;
             registers =
                 rw (← g₁, ← g₂)
                 (set-tainted first (set other (t .target) p) (set-tainted based other (set-tainted u (n .taints .registers) (h .registers) written 0) (t .target) p) (t .second) q);
@@ -138,37 +164,37 @@ module _ (sees : ℕ → Type 0) (clear : Bool → Type 0) (none : clear false) 
     module _ (long : length (m .memory) ≡ length (m .taints .bytes)) (origin : ℕ) (admit : Transfer → ℕ → List Refusal)
         (safe : (t : Transfer) (a : ℕ) → Passed (admit t a) → t .store ≡ false → Seen sees (a - origin) (totalOf t)) where
       -- an access by operands that are the same
-      touch-alike : (t : Transfer) (a : Addressing) (o p : Operands) → o ≡ p
+      touch-alike : (t : Transfer) (a : Addressing) → 0 < t .bytes → (o p : Operands) → o ≡ p
           → Shows (Alike sees clear) (firstOf stopped (touchOf origin t (a .written) (addressOf a o) (sumOf a o) m) (refusalsOf admit t a o))
           (firstOf stopped (touchOf origin t (a .written) (addressOf a p) (sumOf a p) n) (refusalsOf admit t a p))
       unfolding effectOf
-      touch-alike t a o p e =
+      touch-alike t a l o p e =
           let at = addressOf a o in
           let status = statusOf t at (m .monitor) in
-          rw (← e, ← h .monitor)
+          rw (← e, ← status-same t at (m .monitor) (n .monitor) l (h .monitor))
           (first-shows (Alike sees clear) _ _ (refusalsOf admit t a o)
           (λ q. (
-            effect-alike long (madeOf t status) (a .written) (at - origin) (writtenBack t status (sumOf a o)) (monitorAfter t at (m .monitor))
-                (λ l. subst (λ x. Seen sees (at - origin) (totalOf x)) (sym (load-made t status l)) (safe t at (q .1 .1) l)),
+            effect-alike long (madeOf t status) (a .written) (at - origin) (writtenBack t status (sumOf a o)) (monitorAfter t at (m .monitor)) (monitorAfter t at (n .monitor))
+                (after-same t at (m .monitor) (n .monitor) (h .monitor)) (λ l. subst (λ x. Seen sees (at - origin) (totalOf x)) (sym (load-made t status l)) (safe t at (q .1 .1) l)),
             refl,
           )))
 
-      moves-at : (t : Transfer) (a : Addressing) (z : Bool) → operandsOf a m .tainted ≡ z → Shows (Alike sees clear) (accessStep origin admit (Moves t a) m) (accessStep origin admit (Moves t a) n)
+      moves-at : (t : Transfer) (a : Addressing) → 0 < t .bytes → (z : Bool) → operandsOf a m .tainted ≡ z → Shows (Alike sees clear) (accessStep origin admit (Moves t a) m) (accessStep origin admit (Moves t a) n)
       unfolding accessStep
-      moves-at t a true e =
+      moves-at t a l true e =
           let other : operandsOf a n .tainted ≡ true = sym (tainted-same a) ∙ e in
           rw (e, other) (refl, refl)
-      moves-at t a false e = touch-alike t a (operandsOf a m) (operandsOf a n) (operands-same a e)
+      moves-at t a l false e = touch-alike t a l (operandsOf a m) (operandsOf a n) (operands-same a e)
 
-      access-alike : (x : Access) → Shows (Alike sees clear) (accessStep origin admit x m) (accessStep origin admit x n)
+      access-alike : (x : Access) → Moving x → Shows (Alike sees clear) (accessStep origin admit x m) (accessStep origin admit x n)
       unfolding accessStep
-      access-alike Nothing = (record { pc = rw (h .pc); monitor = h .monitor; registers = h .registers; full = h .full; values = h .values; taints = h .taints; bytes = h .bytes }, refl)
-      access-alike (Moves t a) = moves-at t a (operandsOf a m .tainted) refl
+      access-alike Nothing l = (record { pc = rw (h .pc); monitor = h .monitor; registers = h .registers; full = h .full; values = h .values; taints = h .taints; bytes = h .bytes }, refl)
+      access-alike (Moves t a) l = moves-at t a l (operandsOf a m .tainted) refl
 
       -- a step under an admission that lets a load look only at what may be seen
       pub word-alike : (word : ℕ) → Shows (Alike sees clear) (wordStep origin admit word m) (wordStep origin admit word n)
       unfolding wordStep accessStep
-      word-alike word = first-after (Alike sees clear) _ _ (classRefusals word) (accessRefusals admit (wordAccess word) m) (accessRefusals admit (wordAccess word) n) (access-alike (wordAccess word))
+      word-alike word = first-after (Alike sees clear) _ _ (classRefusals word) (accessRefusals admit (wordAccess word) m) (accessRefusals admit (wordAccess word) n) (access-alike (wordAccess word) (moving (decodeOf word .instruction)))
 
   -- a step in a window whose admission lets a load look only at what may be seen
   module _ (w : Window) (safe : (len : ℕ) (t : Transfer) (a : ℕ) → Passed (admitOf w len t a) → t .store ≡ false → Seen sees (a - w .origin) (totalOf t)) (m n : Machine) (h : Alike sees clear m n) where

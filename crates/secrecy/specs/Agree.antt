@@ -1,13 +1,19 @@
--- Lists that agree where they must, and steps that show the same: what demand 3 is said with.
+-- Lists that agree where they must, monitors that are equal, and steps that show the same: what demand 3 is said with.
 use Prim.Native.Nat.{ℕ}
 use mathlib.Core.Path.{_≡_}
 use mathlib.Core.List.{List}
+use mathlib.Core.Logic.{_⊎_}
 use lib.ListN.{length, getD}
+use Rattle.machine.specs.declared.monitor.Monitor.{Monitor}
 use Rattle.machine.specs.Step.{Step, stopped, moved}
 
 pub record Agree (must : ℕ → Type 0) (xs ys : List ℕ) : Type 0 where
   pub size : length xs ≡ length ys
   pub same : (i : ℕ) → must i → getD xs i 0 ≡ getD ys i 0
+
+-- 02, CR 3: a monitor is "open, or an address and a size", so that two open ones are equal, whatever numbers they hold
+abbrev pub EqualMonitors : Monitor → Monitor → Type 0
+EqualMonitors r s = (r ≡ s) ⊎ ((r .size ≡ 0) × (s .size ≡ 0))
 
 -- two steps that show the same, and leave machines in a relation
 abbrev pub Shows : {A : Type 0} → (A → A → Type 0) → Step A → Step A → Type 0

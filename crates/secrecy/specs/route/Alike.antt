@@ -8,11 +8,11 @@ use lib.ListN.{length, getD}
 use Rattle.memory.specs.Taints.{tainted}
 use Rattle.registers.specs.File.{taintIn}
 use Rattle.machine.specs.Machine.{Machine}
-use Rattle.secrecy.specs.Agree.{Agree}
+use Rattle.secrecy.specs.Agree.{Agree, EqualMonitors}
 
 pub record Alike (sees : ℕ → Type 0) (clear : Bool → Type 0) (m n : Machine) : Type 0 where
   pub pc : m .pc ≡ n .pc
-  pub monitor : m .monitor ≡ n .monitor
+  pub monitor : EqualMonitors (m .monitor) (n .monitor)
   pub registers : map tainted (m .taints .registers) ≡ map tainted (n .taints .registers)
   -- a taint for each register
   pub full : length (m .values) ≡ length (m .taints .registers)
