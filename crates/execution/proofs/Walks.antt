@@ -261,7 +261,7 @@ module _ {A : Type 0} (f : ℕ → A → Step A) where
     keeps-at false true e g = rw (e, g) (record { machine = refl; log = refl; steps = refl; done = refl })
     keeps-at false false e g =
         let t = walk-keeps ws m (shown 0 0 0) in
-        rw (e, g, zero-add) (record { machine = t .machine; log = ap (logged 0 l) (t .shows); steps = ap length (t .shows); done = t .done })
+        rw (e, g, zero-add) (record { machine = t .machine; log = ap (logged 0 l) (t .shows); steps = ap length (t .shows); done = ap answerNumber (t .done) })
 
     -- a run leaves what the steps done leave, run alone and not refused
     pub run-keeps : Kept f ws m l (runOf bad f ws m l)
@@ -315,8 +315,8 @@ module _ {A : Type 0} (f : ℕ → A → Step A) (refuses : (w : ℕ) (m : A) �
   walk-ends (w ∷ ws) m last = go-ends w ws m last (f w m) refl (refuses w m) (walk-ends ws)
 
   ends-from : (ws : List ℕ) (m : A) (log : Log) (t : Walked A) → EndsFrom ws m (shown 0 0 0) t → Ends f ws m (0 + length (t .done)) (lastOf (glue 0 log t))
-  ends-from [] m log t (inl (l, d, h)) = rw zero-add (inl (l, d, h))
-  ends-from (w ∷ ws) m log t (inl (l, d, h)) = rw zero-add (inl (l, d, h))
+  ends-from [] m log t (inl (l, d, h)) = rw zero-add (inl (l, ap answerNumber d, (ap (λ (o : Outcome A). o .machine) h, ap (λ (o : Outcome A). o .shown) h)))
+  ends-from (w ∷ ws) m log t (inl (l, d, h)) = rw zero-add (inl (l, ap answerNumber d, h))
   ends-from ws m log t (inr (d, h)) = rw zero-add (inr (d, h))
 
   -- a run that is begun ends with every word done, or at the one that is refused

@@ -4,7 +4,6 @@ use mathlib.Core.Path.{_≡_}
 use mathlib.Core.List.{List, [], _∷_}
 use mathlib.Core.Logic.{_⊎_}
 use lib.ListN.{length, take, getD}
-use Rattle.instruction.specs.declared.answer.Answer.the-variants.{Done}
 use Rattle.instruction.specs.Answers.{answerNumber}
 use Rattle.machine.specs.Step.{shown, Step, Outcome, leaves}
 use Rattle.execution.specs.Walk.{Walked, walkOf, Log, logged, Result}
@@ -18,7 +17,7 @@ pub record Kept {A : Type 0} (f : ℕ → A → Step A) (ws : List ℕ) (m : A) 
   pub machine : t .machine ≡ alone f ws m (t .steps) .machine
   pub log : t .log ≡ logged 0 before (alone f ws m (t .steps) .done)
   pub steps : t .steps ≡ length (alone f ws m (t .steps) .done)
-  pub done : alone f ws m (t .steps) .answer ≡ Done
+  pub done : answerNumber (alone f ws m (t .steps) .answer) ≡ 0
 
 -- the step of the word at i, from the machine as the steps before left it
 abbrev pub stepAt : {A : Type 0} → (ℕ → A → Step A) → List ℕ → A → ℕ → Outcome A
@@ -30,13 +29,13 @@ Tried f ws m i o = (i < length ws) × (stepAt f ws m i ≡ o)
 
 -- every word is done, and the last step tried is that of the last word; an empty list has code and address 0
 abbrev pub AllDone : {A : Type 0} → (ℕ → A → Step A) → List ℕ → A → Outcome A → Type 0
-AllDone f [] m o = o ≡ record { machine = m; answer = Done; shown = shown 0 0 0 }
+AllDone f [] m o = (o .machine ≡ m) × (o .shown ≡ shown 0 0 0)
 AllDone f (w ∷ ws) m o = Tried f (w ∷ ws) m (length ws) o
 
 -- every word is done and the answer is 0, or the word at the number of steps done is the one that is refused
 abbrev pub Ends : {A : Type 0} → (ℕ → A → Step A) → List ℕ → A → ℕ → Outcome A → Type 0
 Ends f ws m steps o =
-    ((steps ≡ length ws) × (o .answer ≡ Done) × AllDone f ws m o)
+    ((steps ≡ length ws) × (answerNumber (o .answer) ≡ 0) × AllDone f ws m o)
     ⊎ (¬ (answerNumber (o .answer) ≡ 0) × Tried f ws m steps o)
 
 -- what a run says of the last step tried

@@ -2,10 +2,11 @@
 use Prim.Native.Nat.{ℕ, _-_, _^_}
 use mathlib.Core.Path.{_≡_, refl, sym, ap, subst, _∙_}
 use mathlib.Core.Bool.{Bool, true, false}
-use mathlib.Core.List.{List, _∷_, _++_}
+use mathlib.Core.List.{List, [], _∷_, _++_}
 use native.Mathlib.Omega.{arith}
 use lib.Dec.{eqb}
 use lib.ListN.{length}
+use lib.Pow.{pow-pos}
 use borrow.Author.Tests.{eqb-true, eqb-false, not-false}
 use Rattle.bits.specs.Choice.{pick}
 use Rattle.bits.specs.Fields.{part, field}
@@ -13,6 +14,7 @@ use Rattle.bits.specs.Bytes.{bytesOf}
 use Rattle.bits.proofs.Parts.{has-true}
 use Rattle.registers.specs.File.{zeroSlot}
 use Rattle.instruction.specs.declared.row.Row.{Row}
+use Rattle.instruction.specs.declared.answer.Answer.{Answer}
 use Rattle.instruction.specs.declared.answer.Answer.the-variants.{BadWindow}
 use Rattle.instruction.specs.Answers.{answerNumber}
 use Rattle.instruction.specs.Operands.{exclusiveIn, storeExclusiveIn}
@@ -27,7 +29,7 @@ use Rattle.access.specs.Accesses.{exclusiveAccess, storeExclusiveAccess, family
 use Rattle.access.proofs.Rows.{row-access, bytes-in, load-exclusive-transfer, Plain, plain-row}
 use Rattle.plan.specs.declared.window.Window.{Window}
 use Rattle.plan.specs.Address.{sumOf, addressOf}
-use Rattle.plan.specs.Refusals.{Refusal, refusal, answerIn}
+use Rattle.plan.specs.Refusals.{Refusal, refusal, firstOf}
 use Rattle.plan.specs.Admission.{admitOf}
 use Rattle.plan.proofs.Refusals.{Passed, each, each-map, first-by, none-holds}
 use Rattle.machine.specs.declared.monitor.Monitor.{Monitor}
@@ -35,7 +37,7 @@ use Rattle.machine.specs.Monitor.{matches, statusOf, monitorAfter, writt
 use Rattle.machine.specs.Rule.{moveRule}
 use Rattle.machine.specs.Machine.{Machine, operandsOf, effectOf, codeOf}
 use Rattle.machine.specs.Refusals.{bad, classRefusals, accessRefusals, refusals}
-use Rattle.machine.specs.Step.{shown, Step, stopped, moved, touchOf, performOf, stepOf, performed}
+use Rattle.machine.specs.Step.{shown, Step, stopped, moved, Outcome, touchOf, performOf, stepOf, performed}
 use Rattle.machine.specs.Exclusives.{Armed, StoresExclusive, withMonitor}
 use Rattle.machine.proofs.Answers.{answers-exact, all-refuse}
 
@@ -157,14 +159,47 @@ others-keep w word m l s =
     differ : _≡_ {A = Bool} true false → ⊥
     differ e = let z : _≡_ {A = ℕ} 0 1 = cc in omega arith
 
--- "All tests come before the monitor is looked at": the answer is the same with any other
+-- from an open monitor it fails
+pub open-fails : (w : Window) (word : ℕ) (m : Machine) → matchesRow word Row.StoreExclusiveRow ≡ true → answerNumber (performed m (stepOf w word m) .answer) ≡ 0
+    → m .monitor .size ≡ 0 → performed m (stepOf w word m) .shown .status ≡ 1
+open-fails w word m e done size =
+    store-exclusive w word m e done .fails .1 (λ armed. let some = pow-pos (field 31 30 word) in omega (arith, size, armed .1))
+
+-- ---- "All tests come before the monitor is looked at": with any other the answer is the same, and so are code and address
+
+record SameTests (a b : Outcome Machine) : Type 0 where
+  answer : a .answer ≡ b .answer
+  code : a .shown .code ≡ b .shown .code
+  address : a .shown .address ≡ b .shown .address
+
+same-at : (m n : Machine) (z : Bool) (answer : Answer) (address : ℕ) (s t : Step Machine) → SameTests (performed m s) (performed n t)
+    → SameTests (performed m (pick z (stopped answer address) s)) (performed n (pick z (stopped answer address) t))
+same-at m n true answer address s t h = record { answer = refl; code = refl; address = refl }
+same-at m n false answer address s t h = h
+
+same-first : (m n : Machine) (s t : Step Machine) (es : List Refusal) → SameTests (performed m s) (performed n t) → SameTests (performed m (firstOf stopped s es)) (performed n (firstOf stopped t es))
+same-first m n s t [] h = h
+same-first m n s t (e ∷ es) h = same-at m n (e .holds) (e .answer) (e .address) _ _ (same-first m n s t es h)
+
+same-performed : (origin : ℕ) (x : Access) (m : Machine) (r : Monitor) → SameTests (performed (withMonitor r m) (performOf origin x (withMonitor r m))) (performed m (performOf origin x m))
+same-performed origin Nothing m r = record { answer = refl; code = refl; address = refl }
+same-performed origin (Moves t a) m r = record { answer = refl; code = refl; address = refl }
+
 same-tests : (admit : Transfer → ℕ → List Refusal) (x : Access) (m : Machine) (r : Monitor) → accessRefusals admit x (withMonitor r m) ≡ accessRefusals admit x m
 same-tests admit Nothing m r = refl
 same-tests admit (Moves t a) m r = refl
 
 pub tests-first : (w : Window) (word : ℕ) (m : Machine) (r : Monitor)
-    → performed (withMonitor r m) (stepOf w word (withMonitor r m)) .answer ≡ performed m (stepOf w word m) .answer
+    → let other = performed (withMonitor r m) (stepOf w word (withMonitor r m)) in
+    let this = performed m (stepOf w word m) in
+    (answerNumber (other .answer) ≡ answerNumber (this .answer)) × (other .shown .code ≡ this .shown .code) × (other .shown .address ≡ this .shown .address)
+unfolding stepOf
 tests-first w word m r =
-    answers-exact w word (withMonitor r m)
-    ∙ ap (λ (es : List Refusal). answerIn (refusal BadWindow (bad w m) 0 ∷ (classRefusals word ++ es))) (same-tests (admitOf w (length (m .memory))) (wordAccess word) m r)
-    ∙ sym (answers-exact w word m)
+    let x = wordAccess word in
+    let n = withMonitor r m in
+    let same : refusals w word n ≡ refusals w word m =
+    ap (λ (es : List Refusal). refusal BadWindow (bad w m) 0 ∷ (classRefusals word ++ es)) (same-tests (admitOf w (length (m .memory))) x m r) in
+    let t =
+    subst (λ (es : List Refusal). SameTests (performed n (firstOf stopped (performOf (w .origin) x n) es)) (performed m (firstOf stopped (performOf (w .origin) x m) (refusals w word m)))) (sym same)
+    (same-first n m (performOf (w .origin) x n) (performOf (w .origin) x m) (refusals w word m) (same-performed (w .origin) x m r)) in
+    (ap answerNumber (t .answer), t .code, t .address)

@@ -105,24 +105,18 @@ read-answered t = record { some = read-some t; one = read-once t; answer = read-
 abbrev replied : Reading → WordReply
 replied q = record { answer = answerNumber (q .answer); word = q .word }
 
-word-some : (t : List ℕ) → (r : Reading) × ReadOf t r → (r : WordReply) × ReadAs t r
-word-some t (r, h) = (replied r, read-as t r refl h)
+pub word-some : (t : List ℕ) → (r : WordReply) × ReadAs t r
+word-some t = of-reading (read-some t)
+  where
+    of-reading : (r : Reading) × ReadOf t r → (r : WordReply) × ReadAs t r
+    of-reading (r, h) = (replied r, read-as t r refl h)
 
 -- a reply is that of a reading
 word-read : (t : List ℕ) (r : WordReply) → ReadAs t r → (q : Reading) × (ReadOf t q × (r ≡ replied q))
 word-read t r (inl (d, l)) = (record { answer = Done; word = r .word }, (inl (refl, l), λ i. record { answer = d i; word = r .word }))
 word-read t r (inr (d, z, n)) = (record { answer = NoSuchText; word = r .word }, (inr (refl, z, n), λ i. record { answer = d i; word = r .word }))
 
-word-one : (t : List ℕ) (r s : WordReply) → ReadAs t r → ReadAs t s → r ≡ s
-word-one t r s h k =
-    let (p, (of-p, is-p)) = word-read t r h in
-    let (q, (of-q, is-q)) = word-read t s k in
-    is-p ∙ ap replied (read-once t p q of-p of-q) ∙ sym is-q
-
-word-number : (t : List ℕ) (r : WordReply) → ReadAs t r → oneOf (0 ∷ 9 ∷ []) (r .answer) ≡ true
+pub word-number : (t : List ℕ) (r : WordReply) → ReadAs t r → oneOf (0 ∷ 9 ∷ []) (r .answer) ≡ true
 word-number t r h =
     let (q, (of-q, is-q)) = word-read t r h in
     ap (λ (v : WordReply). oneOf (0 ∷ 9 ∷ []) (v .answer)) is-q ∙ read-number t q of-q
-
-pub word-answered : (t : List ℕ) → Answered (ReadAs t) (λ r. r .answer) (0 ∷ 9 ∷ [])
-word-answered t = record { some = word-some t (read-some t); one = word-one t; answer = word-number t }

@@ -1,27 +1,36 @@
 -- The demands and requests hold, by the theorems of the crates below and by the cases of their tests. Assumes nothing.
-use Prim.Native.Nat.{ℕ}
-use mathlib.Core.Path.{_≡_, refl, sym, ap, _∙_}
+use Prim.Native.Nat.{ℕ, _+_, _≤_, _<_}
+use mathlib.Core.Path.{_≡_, refl, sym, ap, subst, _∙_}
 use mathlib.Core.Bool.{Bool, true, false, not, _&&_}
-use mathlib.Core.List.{List, [], _∷_}
-use mathlib.Core.Logic.{_↔_, inl, inr}
+use mathlib.Core.List.{List, [], _∷_, _++_}
+use mathlib.Core.Logic.{_↔_, _⊎_, inl, inr}
 use native.Mathlib.Omega.{arith}
-use borrow.Author.Tests.{ne-eqb}
+use borrow.Author.Tests.{ne-eqb, eqb-false}
 use lib.Dec.{ltb, eqb}
-use lib.ListN.{length, take}
-use lib.Seq.{sets}
+use lib.ListN.{length, take, List·getD-eq-default}
+use lib.Seq.{sets, set-out}
 use Rattle.bits.specs.Choice.{pick}
+use Rattle.bits.specs.Fields.{part}
+use Rattle.bits.specs.Signed.{signedOf}
 use Rattle.bits.proofs.Choices.{pick-by}
 use Rattle.instruction.specs.declared.answer.Answer.{Answer}
-use Rattle.instruction.specs.declared.answer.Answer.the-variants.{Done, BadWindow, NotInSet, Undefined, Unpredictable, TaintedAddress, NoSuchText, NoRoom}
+use Rattle.instruction.specs.declared.answer.Answer.the-variants.{Done, BadWindow, NotInSet, Undefined, Unpredictable, TaintedAddress, NoRoom}
+use Rattle.instruction.specs.declared.answer.Encoded.{Encoded}
+use Rattle.instruction.specs.declared.family.Instruction.{Instruction}
 use Rattle.instruction.specs.Answers.{answerNumber}
-use Rattle.instruction.specs.Table.{inSet, undefined, allocated, unpredictable}
-use Rattle.decoder.specs.Decoding.{decodeOf, classOf}
+use Rattle.instruction.specs.Operations.{sizedAt}
+use Rattle.instruction.specs.Operands.{sizedIn, signedIn}
+use Rattle.instruction.specs.Table.{inSet, rowOf, undefined, allocated, unpredictable, instructionOf}
+use Rattle.decoder.specs.Decoding.{decodeOf, classOf, empty}
 use Rattle.lookup.proofs.Same.{decode-same}
 use Rattle.lookup.proofs.Exact.{entry-names, entry-code}
 use Rattle.encoder.specs.Encoding.{encodeOf}
 use Rattle.instruction.proofs.Rows.{never-overlap}
 use Rattle.instruction.proofs.Sorts.{exactly-one}
 use Rattle.plan.proofs.Refusals.{first-by}
+use Rattle.memory.specs.Taints.{tainted}
+use Rattle.registers.specs.declared.Registers.{Registers}
+use Rattle.registers.specs.File.{zeroSlot, valueAt, taintAt, setAt}
 use Rattle.machine.specs.declared.Shown.{Shown}
 use Rattle.machine.specs.Rule.{Taints, wordRule}
 use Rattle.machine.specs.Machine.{Machine}
@@ -30,8 +39,9 @@ use Rattle.machine.specs.Step.{Step, stopped, moved, stepOf, performed}
 use Rattle.machine.proofs.Answers.{answers-exact, answers-given, refused-unchanged, tainted-refused, Refuses, step-refuses, stack-refused, stack-aligned}
 use Rattle.machine.proofs.Taints.{Follows, taintsIn, taints-by-rule}
 use Rattle.session.proofs.Exact.{step-exact, register-exact}
-use Rattle.machine.proofs.Exclusives.{load-arms, store-exclusive, others-keep, tests-first}
-use Rattle.execution.specs.Walk.{runOf}
+use Rattle.session.proofs.Watching.{observed-opens, observed-keeps}
+use Rattle.machine.proofs.Exclusives.{load-arms, store-exclusive, others-keep, open-fails, tests-first}
+use Rattle.execution.specs.Walk.{Log, Result, notBegun, runOf}
 use Rattle.execution.specs.Run.{machineRun}
 use Rattle.execution.proofs.Walks.{run-keeps, run-ends, run-bad, run-short}
 use Rattle.execution.proofs.Refusals.{begun-late, early-unchanged}
@@ -39,7 +49,11 @@ use Rattle.execution.proofs.Secrecy.{step-same, demand-3 as demand-3-of-runs, t
 use Rattle.arm.proofs.Arm.{step-as-arm}
 use Rattle.arm.proofs.Runs.{run-as-arm}
 use Rattle.arm.proofs.Reals.{step-real, cleared, cleared-real}
+use Rattle.encoder.specs.Exact.{Word, Exact}
 use Rattle.encoder.proofs.RoundTrip.{encode-exact}
+use Rattle.ascii.specs.Ascii.{asc, dec}
+use Rattle.text.specs.Hints.{hintText}
+use Rattle.text.specs.Texts.{baseText, offsetTail, frontText, sizedText, textOf}
 use Rattle.text.specs.Writing.{Outcome, wordText, copied, writeOf}
 use Rattle.text.proofs.Examples.{starred-examples}
 use Rattle.text.proofs.Lengths.{text-short, text-reached}
@@ -51,15 +65,10 @@ use Rattle.reader.specs.declared.Reading.{Reading}
 use Rattle.reader.specs.Reading.{LineOf, ReadOf}
 use Rattle.reader.proofs.RoundTrip.{read-once}
 use Rattle.reader.proofs.Triangle.{triangle}
-use Rattle.stream.specs.declared.Lister.{Lister}
-use Rattle.stream.specs.Streams.{refuses, Call, lent, linesOf, callOf}
 use Rattle.stream.proofs.Calls.{streamed, call-answer, call-closed, call-open, call-unchanged, call-puts}
-use Rattle.host.specs.Replies.{numbered, listerNumbered}
-use Rattle.host.specs.Hosting.{hostRun}
-use Rattle.host.proofs.Secrecy.{hosted-same, hosted-taints, refused-unchanged as refused-calls}
-use Rattle.promises.specs.Answered.{oneOf}
-use Rattle.promises.specs.Demands.{Demand1, Demand2, Demand3, Library, Requests}
-use Rattle.promises.proofs.Answered.{by-definition, step-number, run-number, encode-number, read-answered, word-answered}
+use Rattle.promises.specs.Answered.{oneOf, Each}
+use Rattle.promises.specs.Demands.{NotBegun, Demand1, Demand2, Demand3, Requests}
+use Rattle.promises.proofs.Answered.{by-definition, step-number, run-number, encode-number, read-answered}
 
 decode-answer : (member wrong : Bool) → answerNumber (pick member (pick wrong Undefined Done) NotInSet) ≡ answerNumber (pick (not member) NotInSet (pick wrong Undefined Done))
 decode-answer true true = refl
@@ -85,12 +94,17 @@ write-number : (word : ℕ) (buffer : List ℕ)
 unfolding writeOf decodeOf copied allocated
 write-number word buffer = write-answer (inSet word) (undefined word) (ltb (length buffer) (length (wordText word))) (copied (wordText word) buffer) _ refl refl
 
-done-not-none : {answer : Answer} → answer ≡ Done → ¬ (answer ≡ NoSuchText)
-done-not-none d e = let z : _≡_ {A = ℕ} 0 9 = ap answerNumber (sym d ∙ e) in omega arith
+pub not-both : {n : ℕ} → n ≡ 0 → ¬ (n ≡ 9)
+not-both d e = omega arith
 
-read-answer : (t : List ℕ) (r : Reading) → ReadOf t r → ((r .answer ≡ NoSuchText) ↔ ((word : ℕ) → ¬ LineOf word t)) × ((r .answer ≡ Done) ↔ LineOf (r .word) t)
-read-answer t r (inl (d, l)) = (((λ e. absurd (done-not-none d e)), (λ n. absurd (n (r .word) l))), ((λ e. l), (λ k. d)))
-read-answer t r (inr (d, z, n)) = (((λ e. n), (λ k. d)), ((λ e. absurd (done-not-none e d)), (λ l. absurd (n (r .word) l))))
+read-answer : (t : List ℕ) (r : Reading) → ReadOf t r → ((answerNumber (r .answer) ≡ 9) ↔ ((word : ℕ) → ¬ LineOf word t)) × ((answerNumber (r .answer) ≡ 0) ↔ LineOf (r .word) t)
+read-answer t r (inl (d, l)) = (((λ e. absurd (not-both (ap answerNumber d) e)), (λ n. absurd (n (r .word) l))), ((λ e. l), (λ k. ap answerNumber d)))
+read-answer t r (inr (d, z, n)) = (((λ e. n), (λ k. ap answerNumber d)), ((λ e. absurd (not-both e (ap answerNumber d))), (λ l. absurd (n (r .word) l))))
+
+encode-answer : (i : Instruction) {e : Encoded} → Exact i e
+    → ((answerNumber (e .answer) ≡ 0) × Word i (e .word)) ⊎ ((answerNumber (e .answer) ≡ 11) × (e .word ≡ 0) × ((word : ℕ) → ¬ Word i word))
+encode-answer i (inl (w, h, x)) = inl (ap (λ (e : Encoded). answerNumber (e .answer)) h, subst (Word i) (sym (ap (λ (e : Encoded). e .word) h)) x)
+encode-answer i (inr (h, n)) = inr (ap (λ (e : Encoded). answerNumber (e .answer)) h, ap (λ (e : Encoded). e .word) h, n)
 
 -- ---- a text or a listing, refused and done
 
@@ -166,7 +180,11 @@ listed-number bytes output = pick-by (λ a. Among (0 ∷ 10 ∷ []) (answerNumbe
 
 -- ---- steps
 
-step-marks : (rule : Shown → Taints → Taints) (m : Machine) (s : Step Machine) → Refuses s → Follows taintsIn rule m s
+empty-refused : (answerNumber (encodeOf empty .answer) ≡ 11) × (encodeOf empty .word ≡ 0)
+unfolding encodeOf
+empty-refused = (refl, refl)
+
+pub step-marks : (rule : Shown → Taints → Taints) (m : Machine) (s : Step Machine) → Refuses s → Follows taintsIn rule m s
     → performed m s .machine .taints ≡ pick (eqb (answerNumber (performed m s .answer)) 0) (rule (performed m s .shown) (m .taints)) (m .taints)
 step-marks rule m (stopped answer address) r h = rw (ne-eqb (answerNumber answer) 0 r)
 step-marks rule m (moved n shown) r h = h
@@ -175,6 +193,31 @@ tainted-answer : (b d : Bool) (class : Answer) → answerNumber (pick b BadWindo
 tainted-answer true d class = refl
 tainted-answer false true class = refl
 tainted-answer false false class = refl
+
+-- ---- runs that are not begun, and registers that there aren't
+
+not-begun : {answer : Answer} {m : Machine} {l : Log} {r : Result Machine} → r ≡ notBegun answer m l → NotBegun (answerNumber answer) m l r
+not-begun e =
+    record {
+      answer = ap (λ (r : Result Machine). answerNumber (r .answer)) e;
+      steps = ap (λ (r : Result Machine). r .steps) e;
+      code = ap (λ (r : Result Machine). r .shown .code) e;
+      address = ap (λ (r : Result Machine). r .shown .address) e;
+      machine = ap (λ (r : Result Machine). r .machine) e;
+      log = ap (λ (r : Result Machine). r .log) e;
+    }
+
+above-31 : (file : Registers) (n value : ℕ) (mark : Bool) → length (file .value) ≡ 32 → length (file .taint) ≡ 32 → 31 < n
+    → (setAt file n value mark ≡ file) × (valueAt file n ≡ 0) × (taintAt file n ≡ false)
+above-31 file n value mark v t h =
+    let p : length (file .value) ≤ n = omega arith in
+    let q : length (file .taint) ≤ n = omega arith in
+    (simp (set-out, p, q), List·getD-eq-default (file .value) 0 p, ap tainted (List·getD-eq-default (file .taint) 0 q))
+
+zero-register : (file : Registers) (n value : ℕ) (mark : Bool) → length (file .value) ≡ 32 → length (file .taint) ≡ 32 → 30 < n
+    → (setAt file (zeroSlot n) value mark ≡ file) × (valueAt file (zeroSlot n) ≡ 0) × (taintAt file (zeroSlot n) ≡ false)
+zero-register file n value mark v t h =
+    above-31 file (zeroSlot n) value mark v t (pick-by (λ (k : ℕ). 31 < k) (eqb n 31) (λ e. omega arith) (λ e. omega (arith, eqb-false n 31 e)))
 
 pub demand-1 : Demand1
 unfolding decodeOf classOf listOf copied runOf
@@ -199,11 +242,14 @@ demand-1 =
       list-refused = λ bytes output. refused-copy (listingOf bytes) output;
       list-done = λ bytes output. completed-copy (listingOf bytes) output;
       read-answers = read-answer;
-      encode-answers = encode-exact;
-      run-window = λ w words m l e. sym (run-bad (bad w) (stepOf w) words m l refl e);
-      run-room = λ w words m l e g. sym (run-short (bad w) (stepOf w) words m l refl e g);
-      run-early = early-unchanged;
+      encode-answers = λ i. encode-answer i (encode-exact i);
+      encode-empty = empty-refused;
+      run-window = λ w words m l e. not-begun (sym (run-bad (bad w) (stepOf w) words m l refl e));
+      run-room = λ w words m l e g. not-begun (sym (run-short (bad w) (stepOf w) words m l refl e g));
+      run-early = λ w words m l h. not-begun (early-unchanged w words m l h);
       run-answers = λ w words m l e g. (begun-late w words m l e g, run-ends (stepOf w) (step-refuses w) (bad w) words m l e g);
+      register-above = above-31;
+      register-zero = zero-register;
       refused-step = refused-unchanged;
       refused-run = λ w words m l. run-keeps (stepOf w) (bad w) words m l;
     }
@@ -237,23 +283,10 @@ demand-3 =
       marked-address = λ w word m t a e h. ap (λ s. answerNumber (performed m s .answer)) (tainted-refused w word m t a e h) ∙ tainted-answer (bad w m) (eqb (answerNumber (classOf word)) 0) (classOf word);
     }
 
-lister-number : (l : Lister) (c : Call) → Among (0 ∷ 16 ∷ 10 ∷ []) (answerNumber (callOf l c .answer))
-lister-number l c =
-    let among = Among (0 ∷ 16 ∷ 10 ∷ []) in
-    rw (call-answer l c) (pick-by among (refuses l) (λ e. refl) (λ e. pick-by among (ltb (length (lent c)) (length (linesOf l c))) (λ f. refl) (λ f. refl)))
-
-pub library : Library
-library =
-    record {
-      run = λ w words m l. by-definition (hostRun w words m l) (run-number w words m l);
-      text = λ word buffer. by-definition (numbered (writeOf word buffer)) (written-number word buffer);
-      word = word-answered;
-      list = λ bytes output. by-definition (numbered (listOf bytes output)) (listed-number bytes output);
-      lister = λ l c. by-definition (listerNumbered (callOf l c)) (lister-number l c);
-      early = refused-calls;
-      two-calls = hosted-same;
-      marks-at-end = hosted-taints;
-    }
+-- by computing
+decimal-hints : Each (λ r. wordText (0xf8800020 + r) ≡ asc "prfum #" ++ dec r ++ asc ", [x1]") (6 ∷ 7 ∷ 14 ∷ 15 ∷ 22 ∷ 23 ∷ 24 ∷ 25 ∷ 26 ∷ 27 ∷ 28 ∷ 29 ∷ 30 ∷ 31 ∷ [])
+unfolding wordText textOf hintText baseText offsetTail frontText sizedText dec instructionOf rowOf part signedOf sizedAt sizedIn signedIn
+decimal-hints = (refl, (refl, (refl, (refl, (refl, (refl, (refl, (refl, (refl, (refl, (refl, (refl, (refl, (refl, tt))))))))))))))
 
 pub requests : Requests
 requests =
@@ -269,7 +302,11 @@ requests =
       load-arms = load-arms;
       store-exclusive = store-exclusive;
       others-keep = others-keep;
-      tests-first = λ w word m r. ap answerNumber (tests-first w word m r);
+      tests-first = tests-first;
+      opens = λ s. (refl, refl, refl);
+      open-fails = open-fails;
+      observed-opens = observed-opens;
+      observed-keeps = observed-keeps;
       text-most = text-short;
       text-reached = text-reached;
       line-most = line-within;
@@ -282,6 +319,7 @@ requests =
       stream-unchanged = call-unchanged;
       stream-puts = call-puts;
       hints = hints-read;
+      decimal-hints = decimal-hints;
       lent-step = step-exact;
       lent-register = register-exact;
     }

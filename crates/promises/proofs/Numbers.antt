@@ -3,7 +3,7 @@ use Prim.Native.Nat.{ℕ, _^_, _<_}
 use mathlib.Core.Path.{_≡_, refl, sym, ap, _∙_}
 use mathlib.Core.Bool.{Bool, true, false, _&&_, not}
 use mathlib.Core.List.{[], _∷_}
-use mathlib.Core.Logic.{inl, inr}
+use mathlib.Core.Logic.{_↔_, inl, inr}
 use native.Mathlib.Omega.{arith}
 use Rattle.bits.specs.Choice.{pick}
 use Rattle.instruction.specs.declared.answer.Answer.{Answer}
@@ -13,10 +13,12 @@ use Rattle.instruction.specs.Table.{inSet, undefined, allocated, instructionOf}
 use Rattle.decoder.specs.Decoding.{decodeOf, classOf, empty}
 use Rattle.encoder.specs.Exact.{encoded, noWord}
 use Rattle.plain.specs.declared.record.Plain.{Plain}
+use Rattle.plain.specs.declared.record.DecodedPlain.{DecodedPlain}
 use Rattle.plain.specs.Plains.{plainOf, emptyPlain}
-use Rattle.plain.specs.Coding.{decodePlain, EncodedFrom}
+use Rattle.plain.specs.Coding.{decodePlain, NumbersOf, EncodedFrom}
 use Rattle.plain.proofs.RoundTrip.{encoded-some, encoded-once, encode-numbers, decode-numbers}
 use Rattle.plain.proofs.Examples.{examples-hold}
+use Rattle.records.specs.declared.PlainReply.{PlainReply}
 use Rattle.records.specs.declared.EncodedReply.{EncodedReply}
 use Rattle.records.specs.Replies.{decodeNumbered, EncodedAs}
 use Rattle.records.proofs.Replies.{encoded-as}
@@ -25,9 +27,15 @@ use Rattle.promises.specs.Numbers.{Numbers}
 use Rattle.promises.proofs.Answered.{by-definition}
 use Rattle.promises.proofs.Demands.{decoded-number, class-number}
 
-decode-number : (word : ℕ) → oneOf (0 ∷ 2 ∷ 3 ∷ []) (decodeNumbered (decodePlain word) .answer) ≡ true
+decoded-fields : (word : ℕ) (r : PlainReply) → r ≡ decodeNumbered (decodePlain word)
+    → (oneOf (0 ∷ 2 ∷ 3 ∷ []) (r .answer) ≡ true) × (r .answer ≡ answerNumber (decodeOf word .answer)) × (r .plain ≡ plainOf (decodeOf word .instruction))
 unfolding decodePlain
-decode-number word = decoded-number word
+decoded-fields word r e =
+    let answer : r .answer ≡ answerNumber (decodeOf word .answer) = ap (λ (r : PlainReply). r .answer) e in
+    (rw answer (decoded-number word), answer, ap (λ (r : PlainReply). r .plain) e)
+
+not-both : ¬ (_≡_ {A = ℕ} 11 0)
+not-both e = omega arith
 
 -- a reply is that of an encoding
 abbrev replied : Encoded → EncodedReply
@@ -71,18 +79,25 @@ encoded-again word h r x =
     let (e, (of-e, is-e)) = reply-from (decodePlain word .plain) r x in
     answered-with word (allocated word) (is-e ∙ ap replied (encode-numbers word h e of-e))
 
-decoded-again : (p : Plain) (r : EncodedReply) → EncodedAs p r → r .answer ≡ 0 → decodeNumbered (decodePlain (r .word)) ≡ record { plain = p; answer = 0 }
-decoded-again p r (inl (d, n)) e = ap decodeNumbered (decode-numbers p (record { answer = Answer.Done; word = r .word }) (inl (refl, n)) refl)
-decoded-again p r (inr (d, z, n)) e =
-    let y : _≡_ {A = ℕ} 11 0 = sym d ∙ e in
-    absurd (omega arith)
+decoded-again : (p : Plain) (r : EncodedReply) → EncodedAs p r → r .answer ≡ 0 → (answerNumber (decodePlain (r .word) .answer) ≡ 0) × (decodePlain (r .word) .plain ≡ p)
+decoded-again p r (inl (d, n)) e =
+    let back = decode-numbers p (record { answer = Answer.Done; word = r .word }) (inl (refl, n)) refl in
+    (ap (λ (d : DecodedPlain). answerNumber (d .answer)) back, ap (λ (d : DecodedPlain). d .plain) back)
+decoded-again p r (inr (d, z, n)) e = absurd (not-both (sym d ∙ e))
+
+encoded-fields : (p : Plain) (r : EncodedReply) → EncodedAs p r
+    → ((r .answer ≡ 0) ↔ NumbersOf (r .word) p) × ((r .answer ≡ 11) ↔ ((w : ℕ) → ¬ NumbersOf w p)) × (r .answer ≡ 11 → r .word ≡ 0)
+encoded-fields p r (inl (d, n)) =
+    (((λ e. n), (λ k. d)), ((λ e. absurd (not-both (sym e ∙ d))), (λ none. absurd (none (r .word) n))), (λ e. absurd (not-both (sym e ∙ d))))
+encoded-fields p r (inr (d, z, n)) = (((λ e. absurd (not-both (sym d ∙ e))), (λ k. absurd (n (r .word) k))), ((λ e. n), (λ k. d)), (λ e. z))
 
 pub numbers : Numbers
 numbers =
     record {
       classify = λ word. by-definition (answerNumber (classOf word)) (class-number word);
-      decode = λ word. by-definition (decodeNumbered (decodePlain word)) (decode-number word);
+      decode = decoded-fields;
       encode = λ p. record { some = reply-some p (encoded-some p); one = reply-one p; answer = reply-number p };
+      encode-answers = encoded-fields;
       decode-refused = refused-zeros;
       encode-decoded = encoded-again;
       decode-encoded = decoded-again;

@@ -10,6 +10,11 @@ abbrev pub oneOf : List ℕ → ℕ → Bool
 oneOf [] n = false
 oneOf (k ∷ ks) n = pick (eqb n k) true (oneOf ks n)
 
+-- of each of some numbers
+abbrev pub Each : (ℕ → Type 0) → List ℕ → Type 0
+Each P [] = Unit {0}
+Each P (n ∷ ns) = P n × Each P ns
+
 -- `allows` is what is promised of a result, and `numbers` are the answers that can be given
 pub record Answered {R : Type 0} (allows : R → Type 0) (number : R → ℕ) (numbers : List ℕ) : Type 0 where
   pub some : (r : R) × allows r

@@ -2,22 +2,21 @@
 -- that followed. A reader who trusts the definitions that are named here needs no other page. The contracts of the public
 -- functions say that the code returns and leaves what these definitions say, on any input: no function has a condition
 -- to meet.
-use Prim.Native.Nat.{ℕ, suc, _%_, _^_, _≤_, _<_}
+use Prim.Native.Nat.{ℕ, suc, _+_, _%_, _^_, _≤_, _<_}
 use mathlib.Core.Path.{_≡_}
-use mathlib.Core.Bool.{true, false, not}
-use mathlib.Core.List.{List, [], _∷_}
-use mathlib.Core.Logic.{_↔_}
+use mathlib.Core.Bool.{Bool, true, false, not}
+use mathlib.Core.List.{List, [], _∷_, _++_}
+use mathlib.Core.Logic.{_↔_, _⊎_}
 use lib.Dec.{ltb, eqb}
 use lib.ListN
 use lib.Seq.{sets}
 use Rattle.bits.specs.Choice.{pick, howMany}
 use Rattle.bits.specs.Fields.{field}
-use Rattle.instruction.specs.declared.answer.Answer.the-variants.{Done, BadWindow, NoSuchText, NoRoom}
 use Rattle.instruction.specs.declared.family.Instruction.{Instruction}
 use Rattle.instruction.specs.declared.row.Row.{Row}
 use Rattle.instruction.specs.Answers.{answerNumber}
 use Rattle.instruction.specs.Table.{matches, inSet, undefined, allocated, instructionOf}
-use Rattle.decoder.specs.Decoding.{decodeOf, classOf}
+use Rattle.decoder.specs.Decoding.{decodeOf, classOf, empty}
 use Rattle.lookup.specs.Entries.{Allowed, familiesIn, codeIn, names, operationCode, entries}
 use Rattle.lookup.specs.Lookup.{decodeIn}
 use Rattle.encoder.specs.Encoding.{encodeOf}
@@ -29,25 +28,27 @@ use Rattle.plan.specs.Refusals.{answerIn, Given}
 use Rattle.access.specs.Accesses.{wordAccess}
 use Rattle.memory.specs.Taints.{tainted}
 use Rattle.registers.specs.declared.Registers.{Registers}
-use Rattle.registers.specs.File.{setAt}
+use Rattle.registers.specs.File.{zeroSlot, valueAt, taintAt, setAt}
 use Rattle.machine.specs.declared.monitor.Monitor.{Monitor}
 use Rattle.machine.specs.Rule.{wordRule}
 use Rattle.machine.specs.declared.State.{State}
 use Rattle.machine.specs.declared.Stepped.{Stepped}
-use Rattle.machine.specs.Machine.{Machine, machineOf, operandsOf}
+use Rattle.machine.specs.Machine.{Machine, machineOf, opened, operandsOf}
 use Rattle.machine.specs.Refusals.{bad, classRefusals, refusals}
 use Rattle.machine.specs.Step.{shown, Outcome, outcome, stepOf, performed, leaves}
 use Rattle.machine.specs.Exclusives.{StoresExclusive, withMonitor}
 use Rattle.session.specs.declared.StepReply.{StepReply}
-use Rattle.session.specs.Lent.{lentOutcome, lentStep, replyOf, withRegister}
+use Rattle.session.specs.Lent.{lentOutcome, lentStep, withRegister}
+use Rattle.session.specs.Watch.{observed, Stored, Watched}
 use Rattle.secrecy.specs.Agree.{Shows}
-use Rattle.execution.specs.Walk.{Log, log, notBegun, short, runOf, afterSteps}
+use Rattle.execution.specs.Walk.{Log, Result, short, runOf, afterSteps}
 use Rattle.execution.specs.Ends.{Kept, Ends, lastOf, Early}
 use Rattle.execution.specs.Run.{machineRun}
 use Rattle.execution.specs.Secrecy.{Same, SameRoom, ShowsRun}
 use Rattle.arm.specs.Choices.{badStart, armStep}
 use Rattle.arm.specs.Real.{Real}
-use Rattle.encoder.specs.Exact.{Exact}
+use Rattle.encoder.specs.Exact.{Word}
+use Rattle.ascii.specs.Ascii.{asc, dec}
 use Rattle.text.specs.Texts.{textOf, textMost}
 use Rattle.text.specs.Writing.{wordText, writeOf}
 use Rattle.text.specs.Examples.{Holds, examples}
@@ -60,10 +61,7 @@ use Rattle.reader.specs.Triangle.{Bijection, Allocated, Encodable, Readable}
 use Rattle.stream.specs.declared.Lister.{Lister}
 use Rattle.stream.specs.Streams.{holding, refuses, refused, Call, push, close, lent, linesOf, callOf}
 use Rattle.stream.specs.Calls.{played}
-use Rattle.host.specs.Replies.{numbered, ReadAs, listerNumbered}
-use Rattle.host.specs.Hosting.{hostRun}
-use Rattle.host.specs.Secrecy.{ShowsHosted}
-use Rattle.promises.specs.Answered.{Answered, Is}
+use Rattle.promises.specs.Answered.{Each, Answered, Is}
 
 -- all that a step returns and leaves, and its answer
 abbrev pub stepped : Window → ℕ → Machine → Outcome Machine
@@ -71,6 +69,15 @@ stepped w word m = performed m (stepOf w word m)
 
 abbrev pub stepAnswer : Window → ℕ → Machine → ℕ
 stepAnswer w word m = answerNumber (stepped w word m .answer)
+
+-- a run that 1 or 10 stops at its start, by the answer's number: steps, code and address are 0, and nothing is changed or written
+pub record NotBegun (number : ℕ) (m : Machine) (l : Log) (r : Result Machine) : Type 0 where
+  pub answer : answerNumber (r .answer) ≡ number
+  pub steps : r .steps ≡ 0
+  pub code : r .shown .code ≡ 0
+  pub address : r .shown .address ≡ 0
+  pub machine : r .machine ≡ m
+  pub log : r .log ≡ l
 
 pub record Demand1 : Type 0 where
   -- "Any word, any registers, any memory and any text get an answer, and nobody has to check first"
@@ -102,21 +109,28 @@ pub record Demand1 : Type 0 where
   pub list-done : (bytes output : List ℕ) → answerNumber (listOf bytes output .answer) ≡ 0
       → (listOf bytes output .length ≡ ListN.length (listingOf bytes)) × (listOf bytes output .buffer ≡ sets output 0 (listingOf bytes))
   -- of reading a text, 9: no allocated word has it for its line; else 0 and the word
-  pub read-answers : (t : List ℕ) (r : Reading) → ReadOf t r → ((r .answer ≡ NoSuchText) ↔ ((word : ℕ) → ¬ LineOf word t)) × ((r .answer ≡ Done) ↔ LineOf (r .word) t)
-  -- of encoding, 11: the one word that decodes to the instruction, or none does
-  pub encode-answers : (i : Instruction) → Exact i (encodeOf i)
+  pub read-answers : (t : List ℕ) (r : Reading) → ReadOf t r → ((answerNumber (r .answer) ≡ 9) ↔ ((word : ℕ) → ¬ LineOf word t)) × ((answerNumber (r .answer) ≡ 0) ↔ LineOf (r .word) t)
+  -- of encoding, 11 and word 0: no word decodes to the instruction; else 0 and the one that does. The empty record gets 11
+  pub encode-answers : (i : Instruction) → let e = encodeOf i in
+      ((answerNumber (e .answer) ≡ 0) × Word i (e .word)) ⊎ ((answerNumber (e .answer) ≡ 11) × (e .word ≡ 0) × ((word : ℕ) → ¬ Word i word))
+  pub encode-empty : (answerNumber (encodeOf empty .answer) ≡ 11) × (encodeOf empty .word ≡ 0)
   -- of a run, 1 and then 10 at its start, and only there: steps, code and address are 0, and nothing is written. 10 is for a
   -- trace shorter than two numbers a word, or a list of statuses "shorter than the words" (02, CR 8)
-  pub run-window : (w : Window) (words : List ℕ) (m : Machine) (l : Log) → bad w m ≡ true → machineRun w words m l ≡ notBegun BadWindow m l
-  pub run-room : (w : Window) (words : List ℕ) (m : Machine) (l : Log) → bad w m ≡ false → short words l ≡ true
-      → machineRun w words m l ≡ notBegun NoRoom m l
-  pub run-early : (w : Window) (words : List ℕ) (m : Machine) (l : Log) → Early (answerNumber (machineRun w words m l .answer))
-      → machineRun w words m l ≡ notBegun (machineRun w words m l .answer) m l
+  pub run-window : (w : Window) (words : List ℕ) (m : Machine) (l : Log) → bad w m ≡ true → NotBegun 1 m l (machineRun w words m l)
+  pub run-room : (w : Window) (words : List ℕ) (m : Machine) (l : Log) → bad w m ≡ false → short words l ≡ true → NotBegun 10 m l (machineRun w words m l)
+  pub run-early : (w : Window) (words : List ℕ) (m : Machine) (l : Log) → let number = answerNumber (machineRun w words m l .answer) in
+      Early number → NotBegun number m l (machineRun w words m l)
   -- after that every word is done and the answer is 0, or the word at the number of steps done is the one refused, and
   -- answer, code and address are that step's, from the machine as the steps before left it
   pub run-answers : (w : Window) (words : List ℕ) (m : Machine) (l : Log) → bad w m ≡ false → short words l ≡ false
       → let r = machineRun w words m l in
       ¬ Early (answerNumber (r .answer)) × Ends (stepOf w) words m (r .steps) (lastOf r)
+  -- "Setting a register gives back the whole file .. unchanged for register 31 as zero and for a number above 31; reading either of
+  -- those gives 0, unmarked": of a file of 32 registers
+  pub register-above : (file : Registers) (n value : ℕ) (mark : Bool) → ListN.length (file .value) ≡ 32 → ListN.length (file .taint) ≡ 32 → 31 < n
+      → (setAt file n value mark ≡ file) × (valueAt file n ≡ 0) × (taintAt file n ≡ false)
+  pub register-zero : (file : Registers) (n value : ℕ) (mark : Bool) → ListN.length (file .value) ≡ 32 → ListN.length (file .taint) ≡ 32 → 30 < n
+      → (setAt file (zeroSlot n) value mark ≡ file) × (valueAt file (zeroSlot n) ≡ 0) × (taintAt file (zeroSlot n) ≡ false)
   -- "A refused step changes no register, byte, mark or program counter", and "keeps the monitor" (02, CR 3)
   pub refused-step : (w : Window) (word : ℕ) (m : Machine) → ¬ (stepAnswer w word m ≡ 0) → stepped w word m .machine ≡ m
   -- "a refused run keeps the steps done before and nothing of the refused one": machine, trace, statuses and number of steps
@@ -167,24 +181,6 @@ pub record Demand3 : Type 0 where
   pub marked-address : (w : Window) (word : ℕ) (m : Machine) (t : Transfer) (a : Addressing) → wordAccess word ≡ Moves t a → operandsOf a m .tainted ≡ true
       → stepAnswer w word m ≡ pick (bad w m) 1 (pick (eqb (answerNumber (classOf word)) 0) 5 (answerNumber (classOf word)))
 
--- What the library for C and Rust carries over of this. The machine is that of a session's record, which crosses by value, and
--- of the lent memory and its marks; the log is the lent trace and statuses
-pub record Library : Type 0 where
-  -- every call gets an answer
-  pub run : (w : Window) (words : List ℕ) (m : Machine) (l : Log) → Answered (Is (hostRun w words m l)) (λ r. r .answer) (0 ∷ 1 ∷ 2 ∷ 3 ∷ 4 ∷ 5 ∷ 6 ∷ 7 ∷ 8 ∷ 10 ∷ [])
-  pub text : (word : ℕ) (buffer : List ℕ) → Answered (Is (numbered (writeOf word buffer))) (λ r. r .answer) (0 ∷ 2 ∷ 3 ∷ 10 ∷ [])
-  pub word : (t : List ℕ) → Answered (ReadAs t) (λ r. r .answer) (0 ∷ 9 ∷ [])
-  pub list : (bytes output : List ℕ) → Answered (Is (numbered (listOf bytes output))) (λ r. r .answer) (0 ∷ 10 ∷ [])
-  pub lister : (l : Lister) (c : Call) → Answered (Is (listerNumbered (callOf l c))) (λ r. r .answer) (0 ∷ 16 ∷ 10 ∷ [])
-  -- with 1 and 10 the record and every slice are as they were
-  pub early : (w : Window) (words : List ℕ) (m : Machine) (l : Log) → Early (hostRun w words m l .answer) → (hostRun w words m l .machine ≡ m) × (hostRun w words m l .log ≡ l)
-  -- demand 3 of two calls
-  pub two-calls : (w : Window) (words : List ℕ) (m n : Machine) (l k : Log) → Same m n → SameRoom l k → ShowsHosted (hostRun w words m l) (hostRun w words n k)
-  -- and its marks at the end
-  pub marks-at-end : (w : Window) (words : List ℕ) (m : Machine) (l : Log)
-      → let ran = hostRun w words m l in
-      ran .machine .taints ≡ afterSteps (wordRule (w .origin)) words (ran .log) (ran .steps) (m .taints)
-
 -- The requests of document 02, in its words
 pub record Requests : Type 0 where
   -- CR 1: "Every access with SP as its base, prefetches apart, now needs SP itself, before any offset, to be a multiple of
@@ -213,9 +209,18 @@ pub record Requests : Type 0 where
   -- "Ordinary stores don't touch it", nor does any other word, refused or not, and its status is 0
   pub others-keep : (w : Window) (word : ℕ) (m : Machine) → matches word Row.LoadExclusiveRow ≡ false → matches word Row.StoreExclusiveRow ≡ false
       → (stepped w word m .machine .monitor ≡ m .monitor) × (stepped w word m .shown .status ≡ 0)
-  -- "All tests come before the monitor is looked at": the answer is the same with any other; "a refused step keeps the monitor" is
-  -- demand 1's `refused-step`
-  pub tests-first : (w : Window) (word : ℕ) (m : Machine) (r : Monitor) → stepAnswer w word (withMonitor r m) ≡ stepAnswer w word m
+  -- "All tests come before the monitor is looked at": with any other the answer is the same, and so are code and address, a refusal's
+  -- too; "a refused step keeps the monitor" is demand 1's `refused-step`
+  pub tests-first : (w : Window) (word : ℕ) (m : Machine) (r : Monitor) → let other = stepped w word (withMonitor r m) in
+      (answerNumber (other .answer) ≡ stepAnswer w word m) × (other .shown .code ≡ stepped w word m .shown .code) × (other .shown .address ≡ stepped w word m .shown .address)
+  -- "and the host can open it": registers and program counter stay, and the monitor is open, of size 0
+  pub opens : (s : State) → (opened s .registers ≡ s .registers) × (opened s .pc ≡ s .pc) × (opened s .monitor .size ≡ 0)
+  -- from an open one a store-exclusive that is done has status 1, whatever address it holds
+  pub open-fails : (w : Window) (word : ℕ) (m : Machine) → matches word Row.StoreExclusiveRow ≡ true → stepAnswer w word m ≡ 0 → m .monitor .size ≡ 0
+      → stepped w word m .shown .status ≡ 1
+  -- and another's step opens it exactly if it stored a byte that it watches, by the code, address and status that the step showed
+  pub observed-opens : (code address status : ℕ) (s : State) (x : ℕ) → Stored code address status x → Watched (s .monitor) x → observed code address status s ≡ opened s
+  pub observed-keeps : (code address status : ℕ) (s : State) → ((x : ℕ) → Stored code address status x → ¬ Watched (s .monitor) x) → observed code address status s ≡ s
   -- CR 4: "Promise that no allocated word's text is longer than 30 bytes and show a word that reaches it"; CR 7: "CR 4's bound
   -- becomes 35 and a line's becomes 46, both still reached"
   pub text-most : (word : ℕ) → allocated word ≡ true → ListN.length (wordText word) ≤ textMost
@@ -243,13 +248,17 @@ pub record Requests : Type 0 where
       → (callOf l c .length ≡ ListN.length (linesOf l c)) × (callOf l c .buffer ≡ sets (lent c) 0 (linesOf l c))
   -- CR 7: "The reader takes only the new form, so 01's example becomes `prfum pldl1keep, [x1]` and its old line answer 9"
   pub hints : HintsRead
+  -- "Where either pair of bits is 3, `#` and decimal stay": for these fourteen
+  pub decimal-hints : Each (λ r. wordText (0xf8800020 + r) ≡ asc "prfum #" ++ dec r ++ asc ", [x1]")
+      (6 ∷ 7 ∷ 14 ∷ 15 ∷ 22 ∷ 23 ∷ 24 ∷ 25 ∷ 26 ∷ 27 ∷ 28 ∷ 29 ∷ 30 ∷ 31 ∷ [])
   -- CR 9: "lend it and have it changed in place by a step and by setting one register. By value stays; the lent form leaves exactly
   -- what it returns, refused or not": of a step by value that returns `r` and leaves memory and marks, and of the lent one, from one
-  -- record, memory and marks, by their contracts
+  -- record, memory and marks, by their contracts; what the lent one replies is what the other returns, the answer by its number
   pub lent-step : (w : Window) (word : ℕ) (before after : State) (m k m′ k′ m″ k″ : List ℕ) (r : Stepped) (reply : StepReply)
       → outcome r m′ k′ ≡ leaves (stepOf w word) (machineOf before m k)
       → lentOutcome after reply m″ k″ ≡ lentStep w word before m k
-      → (after ≡ r .state) × (m″ ≡ m′) × (k″ ≡ k′) × (reply ≡ replyOf (r .answer) (r .shown))
+      → (after ≡ r .state) × (m″ ≡ m′) × (k″ ≡ k′)
+      × (reply .answer ≡ answerNumber (r .answer)) × (reply .code ≡ r .shown .code) × (reply .address ≡ r .shown .address) × (reply .status ≡ r .shown .status)
   -- and of setting one register: the file is what setting by value returns, and program counter and monitor stay
   pub lent-register : (n value mark : ℕ) (before after : State) (file : Registers) → file ≡ setAt (before .registers) n value (tainted mark)
       → after ≡ withRegister n value mark before → (after .registers ≡ file) × (after .pc ≡ before .pc) × (after .monitor ≡ before .monitor)

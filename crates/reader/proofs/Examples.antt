@@ -7,6 +7,7 @@ use mathlib.Core.Logic.{inl, inr}
 use native.Mathlib.Omega.{arith}
 use lib.Dec.{lit<}
 use lib.ListN.{length}
+use Rattle.instruction.specs.Answers.{answerNumber}
 use Rattle.instruction.specs.Operations.{sizedAt, pairAt}
 use Rattle.encoder.specs.Encoding.{encodeOf}
 use Rattle.instruction.specs.declared.answer.Encoded.{Encoded}
@@ -14,7 +15,7 @@ use Rattle.ascii.specs.Ascii.{asc}
 use Rattle.mnemonic.specs.route.Names.{stemAt, nameAt}
 use Rattle.text.specs.Writing.{wordText}
 use Rattle.text.proofs.Examples.{starred-examples}
-use Rattle.reader.specs.Types.{Done, NoSuchText, Reading}
+use Rattle.reader.specs.Types.{Reading}
 use Rattle.reader.specs.route.Scan.{plainOf, stepOf, scanStart}
 use Rattle.reader.specs.route.Names.{letterFor, isName, searched, nameFor}
 use Rattle.reader.specs.route.Targets.{lowBits, targetAt}
@@ -40,10 +41,10 @@ no-line w l =
 pub hints-read : HintsRead
 hints-read = record { new = taken; old = refused }
   where
-    taken : (r : Reading) → ReadOf (asc newLine) r → r ≡ record { answer = Done; word = 0xf8800020 }
-    taken r (inl (d, l)) = let e = text-injective (r .word) 0xf8800020 _ l new-is in λ i. record { answer = d i; word = e i }
+    taken : (r : Reading) → ReadOf (asc newLine) r → (answerNumber (r .answer) ≡ 0) × (r .word ≡ 0xf8800020)
+    taken r (inl (d, l)) = (ap answerNumber d, text-injective (r .word) 0xf8800020 _ l new-is)
     taken r (inr (d, z, n)) = absurd (n 0xf8800020 new-is)
 
-    refused : (r : Reading) → ReadOf (asc oldLine) r → r ≡ record { answer = NoSuchText; word = 0 }
+    refused : (r : Reading) → ReadOf (asc oldLine) r → (answerNumber (r .answer) ≡ 9) × (r .word ≡ 0)
     refused r (inl (d, l)) = absurd (no-line (r .word) l)
-    refused r (inr (d, z, n)) = λ i. record { answer = d i; word = z i }
+    refused r (inr (d, z, n)) = (ap answerNumber d, z)

@@ -3,6 +3,7 @@
 use Prim.Native.Nat.{ℕ}
 use mathlib.Core.Path.{_≡_, ap, sym, _∙_}
 use mathlib.Core.List.{List}
+use Rattle.instruction.specs.Answers.{answerNumber}
 use Rattle.memory.specs.Taints.{tainted}
 use Rattle.registers.specs.declared.Registers.{Registers}
 use Rattle.registers.specs.File.{setAt}
@@ -11,20 +12,28 @@ use Rattle.machine.specs.Machine.{Machine, machineOf}
 use Rattle.machine.specs.Step.{outcome, stepOf, leaves}
 use Rattle.machine.specs.declared.State.{State}
 use Rattle.machine.specs.declared.Stepped.{Stepped}
-use Rattle.session.specs.Lent.{Lent, lentOutcome, lentOf, lentStep, replyOf, withRegister}
+use Rattle.session.specs.Lent.{Lent, lentOutcome, lentOf, lentStep, withRegister}
 use Rattle.session.specs.declared.StepReply.{StepReply}
 
 -- the record whose machine it is
-abbrev stateIn : Machine → State
+abbrev pub stateIn : Machine → State
 stateIn m = record { registers = record { value = m .values; taint = m .taints .registers }; pc = m .pc; monitor = m .monitor }
 
 pub step-exact : (w : Window) (word : ℕ) (before after : State) (m k m′ k′ m″ k″ : List ℕ) (r : Stepped) (reply : StepReply)
     → outcome r m′ k′ ≡ leaves (stepOf w word) (machineOf before m k)
     → lentOutcome after reply m″ k″ ≡ lentStep w word before m k
-    → (after ≡ r .state) × (m″ ≡ m′) × (k″ ≡ k′) × (reply ≡ replyOf (r .answer) (r .shown))
+    → (after ≡ r .state) × (m″ ≡ m′) × (k″ ≡ k′)
+    × (reply .answer ≡ answerNumber (r .answer)) × (reply .code ≡ r .shown .code) × (reply .address ≡ r .shown .address) × (reply .status ≡ r .shown .status)
 step-exact w word before after m k m′ k′ m″ k″ r reply by-value in-place =
-    let same : lentOutcome after reply m″ k″ ≡ lentOf (outcome r m′ k′) = in-place ∙ sym (ap lentOf by-value) in
-    (ap (λ (l : Lent). stateIn (l .machine)) same, ap (λ (l : Lent). l .machine .memory) same, ap (λ (l : Lent). l .machine .taints .bytes) same, ap (λ (l : Lent). l .reply) same)
+    let same : lentOutcome after reply m″ k″ ≡ lentOf (outcome r m′ k′) = in-place ∙ sym (ap lentOf by-value) in (
+      ap (λ (l : Lent). stateIn (l .machine)) same,
+      ap (λ (l : Lent). l .machine .memory) same,
+      ap (λ (l : Lent). l .machine .taints .bytes) same,
+      ap (λ (l : Lent). l .reply .answer) same,
+      ap (λ (l : Lent). l .reply .code) same,
+      ap (λ (l : Lent). l .reply .address) same,
+      ap (λ (l : Lent). l .reply .status) same,
+    )
 
 pub register-exact : (n value mark : ℕ) (before after : State) (file : Registers) → file ≡ setAt (before .registers) n value (tainted mark)
     → after ≡ withRegister n value mark before → (after .registers ≡ file) × (after .pc ≡ before .pc) × (after .monitor ≡ before .monitor)

@@ -1,0 +1,279 @@
+-- What the library promises: a contract is an equation between what a call returns and leaves and what a definition gives, and
+-- each line is a part of it, or a theorem of the machine carried over it. Assumes nothing.
+use Prim.Native.Nat.{ℕ, _*_}
+use mathlib.Core.Path.{_≡_, refl, sym, ap, subst, _∙_}
+use mathlib.Core.Bool.{Bool, true, false, _&&_, _||_}
+use mathlib.Core.List.{List, [], _∷_}
+use mathlib.Core.Logic.{_↔_, _⊎_, inl, inr}
+use native.Mathlib.Omega.{arith}
+use borrow.Author.Tests.{eqb-true, eq-eqb}
+use lib.Dec.{eqb}
+use lib.ListN.{take}
+use Rattle.bits.specs.Choice.{pick}
+use Rattle.bits.specs.Fields.{field, bits}
+use Rattle.bits.proofs.Parts.{has-true}
+use Rattle.instruction.specs.declared.answer.Answer.{Answer}
+use Rattle.instruction.specs.Answers.{answerNumber}
+use Rattle.instruction.specs.Table.{inSet}
+use Rattle.plan.specs.declared.window.Window.{Window}
+use Rattle.machine.specs.declared.Shown.{Shown}
+use Rattle.machine.specs.Rule.{wordRule}
+use Rattle.machine.specs.Machine.{Machine, machineOf}
+use Rattle.machine.specs.Refusals.{bad}
+use Rattle.machine.specs.Step.{Step, stopped, moved, Outcome, stepOf, performed}
+use Rattle.machine.proofs.Answers.{answers-exact, refused-unchanged, step-refuses}
+use Rattle.machine.proofs.Taints.{taints-by-rule}
+use Rattle.session.specs.declared.StepReply.{StepReply}
+use Rattle.session.specs.Lent.{Lent, replyOf}
+use Rattle.session.proofs.Exact.{stateIn}
+use Rattle.secrecy.specs.Agree.{Shows}
+use Rattle.execution.specs.Walk.{Log, log, Result, notBegun, runOf, afterSteps}
+use Rattle.execution.specs.Ends.{Early}
+use Rattle.execution.specs.Run.{machineRun}
+use Rattle.execution.specs.Secrecy.{Same, SameRoom}
+use Rattle.execution.proofs.Refusals.{early-unchanged}
+use Rattle.execution.proofs.Secrecy.{step-same, demand-3, taints-of-run}
+use Rattle.arm.specs.Real.{Real}
+use Rattle.arm.proofs.Arm.{step-as-arm}
+use Rattle.arm.proofs.Runs.{run-as-arm}
+use Rattle.reader.specs.Reading.{LineOf}
+use Rattle.reader.proofs.RoundTrip.{read-some}
+use Rattle.stream.specs.Streams.{Call}
+use Rattle.host.specs.declared.WordReply.{WordReply}
+use Rattle.host.specs.Replies.{Numbered, ReadAs, ListerNumbered}
+use Rattle.host.specs.Hosting.{Hosted, hosted, hostedOf, hostRun}
+use Rattle.records.specs.Space.{loadOrStore, setsBlock, touchesMemory}
+use Rattle.records.proofs.Spaces.{set-touches}
+use Rattle.promises.specs.Answered.{oneOf}
+use Rattle.promises.specs.Library.{StepCall, stepStart, stepEnd, StepGives, Slices, RunCall, runStart, runEnd, lentLog, RunGives, RunsShow, Library}
+use Rattle.promises.proofs.Answered.{stepNumbers, runNumbers, step-number, run-number, word-some, word-number}
+use Rattle.promises.proofs.Demands.{not-both, step-marks}
+
+-- a relation carried over two equations
+carried : {A : Type 0} (R : A → A → Type 0) {x y t u : A} → x ≡ t → y ≡ u → R t u → R x y
+carried R e f h = rw (e, f) h
+
+-- ---- a step
+
+step-gives : (c : StepCall) → StepGives c (performed (stepStart c) (stepOf (c .window) (c .word) (stepStart c)))
+step-gives c =
+    record {
+      answer = ap (λ (l : Lent). l .reply .answer) (c .allowed);
+      code = ap (λ (l : Lent). l .reply .code) (c .allowed);
+      address = ap (λ (l : Lent). l .reply .address) (c .allowed);
+      status = ap (λ (l : Lent). l .reply .status) (c .allowed);
+      values = ap (λ (l : Lent). l .machine .values) (c .allowed);
+      marks = ap (λ (l : Lent). l .machine .taints .registers) (c .allowed);
+      pc = ap (λ (l : Lent). l .machine .pc) (c .allowed);
+      monitor = ap (λ (l : Lent). l .machine .monitor) (c .allowed);
+      memory = ap (λ (l : Lent). l .machine .memory) (c .allowed);
+      taint = ap (λ (l : Lent). l .machine .taints .bytes) (c .allowed);
+    }
+
+step-unchanged : (c : StepCall) → ¬ (c .reply .answer ≡ 0) → stepEnd c ≡ stepStart c
+step-unchanged c h = ap (λ (l : Lent). l .machine) (c .allowed) ∙ refused-unchanged (c .window) (c .word) (stepStart c) (λ e. h (step-gives c .answer ∙ e))
+
+record ShowsLent (l k : Lent) : Type 0 where
+  reply : l .reply ≡ k .reply
+  machine : Same (l .machine) (k .machine)
+
+abbrev lentBy : Machine → Step Machine → Lent
+lentBy m s = let o = performed m s in record { machine = o .machine; reply = replyOf (o .answer) (o .shown) }
+
+shows-lent : (m n : Machine) (s t : Step Machine) → Same m n → Shows Same s t → ShowsLent (lentBy m s) (lentBy n t)
+shows-lent m n (stopped answer address) (stopped other place) r (e, f) = record { reply = rw (e, f); machine = r }
+shows-lent m n (stopped answer address) (moved q seen) r h = absurd h
+shows-lent m n (moved p shown) (stopped other place) r h = absurd h
+shows-lent m n (moved p shown) (moved q seen) r (h, e) = record { reply = rw e; machine = h }
+
+steps-lent : {w v : Window} {x y : ℕ} (m n : Machine) → w ≡ v → x ≡ y → Same m n → ShowsLent (lentBy m (stepOf w x m)) (lentBy n (stepOf v y n))
+steps-lent {w} {v} {x} {y} m n e f h = rw (← e, ← f) (shows-lent m n (stepOf w x m) (stepOf w x n) h (step-same w m n h x))
+
+two-steps : (c d : StepCall) → c .window ≡ d .window → c .word ≡ d .word → Same (stepStart c) (stepStart d) → (c .reply ≡ d .reply) × Same (stepEnd c) (stepEnd d)
+two-steps c d e f h =
+    let s = carried ShowsLent (c .allowed) (d .allowed) (steps-lent (stepStart c) (stepStart d) e f h) in
+    (s .reply, s .machine)
+
+done-marks : (c : StepCall) → c .reply .answer ≡ 0
+    → stepEnd c .taints ≡ wordRule (c .window .origin) (c .word) (record { code = c .reply .code; address = c .reply .address; status = c .reply .status }) (stepStart c .taints)
+done-marks c e =
+    let m = stepStart c in
+    let s = stepOf (c .window) (c .word) m in
+    let done : answerNumber (performed m s .answer) ≡ 0 = sym (step-gives c .answer) ∙ e in
+    let shown : performed m s .shown ≡ record { code = c .reply .code; address = c .reply .address; status = c .reply .status } =
+    ap (λ (l : Lent). record { code = l .reply .code; address = l .reply .address; status = l .reply .status }) (sym (c .allowed)) in
+    ap (λ (l : Lent). l .machine .taints) (c .allowed)
+    ∙ step-marks (wordRule (c .window .origin) (c .word)) m s (step-refuses (c .window) (c .word) m) (taints-by-rule (c .window) (c .word) m)
+    ∙ rw done (ap (λ (s : Shown). wordRule (c .window .origin) (c .word) s (m .taints)) shown)
+
+-- ---- a run
+
+run-gives : (c : RunCall) → RunGives c (machineRun (c .window) (c .words) (runStart c) (lentLog c))
+run-gives c =
+    record {
+      answer = ap (λ (h : Hosted). h .answer) (c .allowed);
+      code = ap (λ (h : Hosted). h .code) (c .allowed);
+      address = ap (λ (h : Hosted). h .address) (c .allowed);
+      steps = ap (λ (h : Hosted). h .steps) (c .allowed);
+      values = ap (λ (h : Hosted). h .machine .values) (c .allowed);
+      marks = ap (λ (h : Hosted). h .machine .taints .registers) (c .allowed);
+      pc = ap (λ (h : Hosted). h .machine .pc) (c .allowed);
+      monitor = ap (λ (h : Hosted). h .machine .monitor) (c .allowed);
+      memory = ap (λ (h : Hosted). h .machine .memory) (c .allowed);
+      taint = ap (λ (h : Hosted). h .machine .taints .bytes) (c .allowed);
+      trace = ap (λ (h : Hosted). h .log .trace) (c .allowed);
+      statuses = ap (λ (h : Hosted). h .log .statuses) (c .allowed);
+    }
+
+abbrev slicesIn : Hosted → Slices
+slicesIn h = record { memory = h .machine .memory; taint = h .machine .taints .bytes; trace = h .log .trace; statuses = h .log .statuses }
+
+run-unbegun : (c : RunCall) → Early (c .reply .answer)
+    → (c .reply .steps ≡ 0) × (c .reply .code ≡ 0) × (c .reply .address ≡ 0) × (c .reply .session ≡ c .session) × (c .after ≡ c .before)
+run-unbegun c h =
+    let m = runStart c in
+    let l = lentLog c in
+    let ran = early-unchanged (c .window) (c .words) m l (subst Early (run-gives c .answer) h) in
+    let same : hosted (c .reply) (c .after .memory) (c .after .taint) (c .after .trace) (c .after .statuses) ≡ _ = c .allowed ∙ ap hostedOf ran in (
+      ap (λ (h : Hosted). h .steps) same,
+      ap (λ (h : Hosted). h .code) same,
+      ap (λ (h : Hosted). h .address) same,
+      ap (λ (h : Hosted). stateIn (h .machine)) same,
+      ap slicesIn same,
+    )
+
+record ShowsHosted (t u : Hosted) : Type 0 where
+  answer : t .answer ≡ u .answer
+  code : t .code ≡ u .code
+  address : t .address ≡ u .address
+  steps : t .steps ≡ u .steps
+  trace : take (t .steps * 2) (t .log .trace) ≡ take (u .steps * 2) (u .log .trace)
+  statuses : take (t .steps) (t .log .statuses) ≡ take (u .steps) (u .log .statuses)
+  machine : Same (t .machine) (u .machine)
+
+shows-hosted : {w v : Window} {x y : List ℕ} (m n : Machine) (l k : Log) → w ≡ v → x ≡ y → Same m n → SameRoom l k → ShowsHosted (hostRun w x m l) (hostRun v y n k)
+shows-hosted {w} {v} {x} {y} m n l k e f h room =
+    let r = demand-3 w x m n l k h room in
+    rw (← e, ← f)
+    (record {
+      answer = ap answerNumber (r .answer);
+      code = ap (λ (s : Shown). s .code) (r .shown);
+      address = ap (λ (s : Shown). s .address) (r .shown);
+      steps = r .steps;
+      trace = r .trace;
+      statuses = r .statuses;
+      machine = r .machine;
+    })
+
+two-runs : (c d : RunCall) → c .window ≡ d .window → c .words ≡ d .words → Same (runStart c) (runStart d) → SameRoom (lentLog c) (lentLog d) → RunsShow c d
+two-runs c d e f h room =
+    let s = carried ShowsHosted (c .allowed) (d .allowed) (shows-hosted (runStart c) (runStart d) (lentLog c) (lentLog d) e f h room) in
+    record { answer = s .answer; code = s .code; address = s .address; steps = s .steps; trace = s .trace; statuses = s .statuses; machine = s .machine }
+
+run-marks : (c : RunCall)
+    → runEnd c .taints ≡ afterSteps (wordRule (c .window .origin)) (c .words) (log (c .after .trace) (c .after .statuses)) (c .reply .steps) (runStart c .taints)
+run-marks c =
+    subst (λ (h : Hosted). h .machine .taints ≡ afterSteps (wordRule (c .window .origin)) (c .words) (h .log) (h .steps) (runStart c .taints)) (sym (c .allowed))
+    (taints-of-run (c .window) (c .words) (runStart c) (lentLog c))
+
+-- ---- the word of a text
+
+read-fields : (t : List ℕ) (r : WordReply) → ReadAs t r
+    → ((r .answer ≡ 0) ↔ LineOf (r .word) t) × ((r .answer ≡ 9) ↔ ((w : ℕ) → ¬ LineOf w t)) × (r .answer ≡ 9 → r .word ≡ 0)
+read-fields t r (inl (d, l)) = (((λ e. l), (λ k. d)), ((λ e. absurd (not-both d e)), (λ n. absurd (n (r .word) l))), (λ e. absurd (not-both d e)))
+read-fields t r (inr (d, z, n)) = (((λ e. absurd (not-both e d)), (λ l. absurd (n (r .word) l))), ((λ e. n), (λ k. d)), (λ e. z))
+
+-- ---- words that touch memory
+
+either : (a b : Bool) {A B : Type 0} → (a ≡ true → A) → (b ≡ true → B) → (a || b) ≡ true → A ⊎ B
+either true b f g h = inl (f refl)
+either false b f g h = inr (g h)
+
+left-true : (a b : Bool) → a ≡ true → (a || b) ≡ true
+left-true a b e = rw e
+
+right-true : (a b : Bool) → b ≡ true → (a || b) ≡ true
+right-true true b e = refl
+right-true false b e = e
+
+abbrev SetsBlock : ℕ → Type 0
+SetsBlock word = (field 31 8 word ≡ 0xd50b74) × (oneOf (1 ∷ 3 ∷ 4 ∷ []) (field 7 5 word) ≡ true)
+
+-- a group of words with one of three values of a field
+one-group : (h a b c : Bool) → ((h && (a && true)) || ((h && (b && true)) || ((h && (c && true)) || false))) ≡ true → (h ≡ true) × (pick a true (pick b true (pick c true false)) ≡ true)
+one-group true true b c e = (refl, refl)
+one-group true false true c e = (refl, refl)
+one-group true false false true e = (refl, refl)
+one-group true false false false e = absurd (let z : _≡_ {A = ℕ} 0 1 = cc in omega arith)
+one-group false a b c e = absurd (let z : _≡_ {A = ℕ} 0 1 = cc in omega arith)
+
+group-one : (h a b c : Bool) → h ≡ true → pick a true (pick b true (pick c true false)) ≡ true → ((h && (a && true)) || ((h && (b && true)) || ((h && (c && true)) || false))) ≡ true
+group-one h true b c e f = rw e
+group-one h false true c e f = rw e
+group-one h false false true e f = rw e
+group-one h false false false e f = absurd (let z : _≡_ {A = ℕ} 0 1 = cc in omega arith)
+
+block-is : (word : ℕ) → (setsBlock word ≡ true) ↔ SetsBlock word
+unfolding setsBlock
+block-is word =
+    let h = eqb (field 31 8 word) 0xd50b74 in
+    let op2 = field 7 5 word in (
+      (λ e. let g = one-group h (eqb op2 1) (eqb op2 3) (eqb op2 4) e in (eqb-true (field 31 8 word) 0xd50b74 (g .0), g .1)),
+      (λ g. group-one h (eqb op2 1) (eqb op2 3) (eqb op2 4) (eq-eqb (field 31 8 word) 0xd50b74 (g .0)) (g .1)),
+    )
+
+group-is : (word : ℕ) → (loadOrStore word ≡ true) ↔ ((field 27 27 word ≡ 1) × (field 25 25 word ≡ 0))
+unfolding loadOrStore
+group-is word = ((λ e. let g = has-true word (bits 27 27 1 ∷ bits 25 25 0 ∷ []) e in (g .0, g .1 .0)), (λ g. rw (g .0, g .1)))
+
+touches-exactly : (word : ℕ) → (touchesMemory word ≡ true) ↔ (((field 27 27 word ≡ 1) × (field 25 25 word ≡ 0)) ⊎ SetsBlock word)
+unfolding touchesMemory
+touches-exactly word = (either (loadOrStore word) (setsBlock word) (group-is word .0) (block-is word .0), back)
+  where
+    back : ((field 27 27 word ≡ 1) × (field 25 25 word ≡ 0)) ⊎ SetsBlock word → (loadOrStore word || setsBlock word) ≡ true
+    back (inl g) = left-true (loadOrStore word) (setsBlock word) (group-is word .1 g)
+    back (inr g) = right-true (loadOrStore word) (setsBlock word) (block-is word .1 g)
+
+-- a word that doesn't touch memory isn't of the set
+outside-set : (word : ℕ) → touchesMemory word ≡ false → inSet word ≡ false
+outside-set word t = go (inSet word) refl
+  where
+    go : (b : Bool) → inSet word ≡ b → inSet word ≡ false
+    go true e = absurd (let u = set-touches word e in let z : _≡_ {A = ℕ} 0 1 = cc in omega arith)
+    go false e = e
+
+never-stepped : (w : Window) (word : ℕ) (m : Machine) → touchesMemory word ≡ false → answerNumber (performed m (stepOf w word m) .answer) ≡ pick (bad w m) 1 2
+never-stepped w word m t = ap answerNumber (answers-exact w word m) ∙ rw (outside-set word t) (number-at (bad w m))
+  where
+    number-at : (b : Bool) → answerNumber (pick b Answer.BadWindow Answer.NotInSet) ≡ pick b 1 2
+    number-at true = refl
+    number-at false = refl
+
+pub library : Library
+library =
+    record {
+      machine = λ s memory taint. refl;
+      step = step-gives;
+      step-as-arm = λ c r. subst (λ (s : Step Machine). StepGives c (performed (stepStart c) s)) (step-as-arm (c .window) (c .word) (stepStart c) r) (step-gives c);
+      step-answers = λ c. rw (step-gives c .answer) (step-number (c .window) (c .word) (stepStart c));
+      step-refused =
+          λ c h. let same = step-unchanged c h in (ap stateIn same, ap (λ (m : Machine). m .memory) same, ap (λ (m : Machine). m .taints .bytes) same);
+      two-steps = two-steps;
+      step-marks = done-marks;
+      run = run-gives;
+      run-as-arm = λ c r. subst (RunGives c) (run-as-arm (c .window) (c .words) (runStart c) (lentLog c) r) (run-gives c);
+      run-answers = λ c. rw (run-gives c .answer) (run-number (c .window) (c .words) (runStart c) (lentLog c));
+      run-early = run-unbegun;
+      two-runs = two-runs;
+      run-marks = run-marks;
+      text = λ word buffer buffer′ r e. (ap (λ (n : Numbered). n .answer) e, ap (λ (n : Numbered). n .length) e, ap (λ (n : Numbered). n .buffer) e);
+      list = λ bytes output output′ r e. (ap (λ (n : Numbered). n .answer) e, ap (λ (n : Numbered). n .length) e, ap (λ (n : Numbered). n .buffer) e);
+      lister =
+          λ l c output′ r e.
+          (ap (λ (n : ListerNumbered). n .answer) e, ap (λ (n : ListerNumbered). n .length) e, ap (λ (n : ListerNumbered). n .lister) e, ap (λ (n : ListerNumbered). n .buffer) e);
+      word = λ t r h. let (read, none, zero) = read-fields t r h in (word-number t r h, read, none, zero);
+      word-some = word-some;
+      touches = touches-exactly;
+      set-touches = set-touches;
+      never-stepped = never-stepped;
+    }
