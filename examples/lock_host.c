@@ -11,7 +11,8 @@
 enum { LOCK = 0x1000 };
 
 static uint8_t bytes[8], taint[8];
-static const struct milestarling_memory memory = {.bytes = bytes, .taint = taint, .length = sizeof bytes, .origin = LOCK};
+static const struct milestarling_memory memory = {
+    .bytes = bytes, .length = sizeof bytes, .taint = taint, .taint_length = sizeof taint, .origin = LOCK};
 
 static uint32_t word(const char *line)
 {

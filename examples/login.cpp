@@ -40,8 +40,9 @@ int main()
         taint[i] = 1;
     milestarling_memory memory = milestarling_memory();
     memory.bytes = bytes.data();
-    memory.taint = taint.data();
     memory.length = bytes.size();
+    memory.taint = taint.data();
+    memory.taint_length = taint.size();
     memory.origin = 0x1000;
     milestarling_session session = milestarling_session();
     milestarling_set_register(&session, 0, 0x1000, false);

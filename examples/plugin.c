@@ -108,7 +108,8 @@ static const char *compute(struct host *host, uint32_t word)
 static void run(const uint8_t *image, size_t size, const char *password)
 {
     uint8_t bytes[32] = {0}, taint[32] = {0};
-    struct milestarling_memory memory = {.bytes = bytes, .taint = taint, .length = sizeof bytes, .origin = GIVEN};
+    const struct milestarling_memory memory = {
+        .bytes = bytes, .length = sizeof bytes, .taint = taint, .taint_length = sizeof taint, .origin = GIVEN};
     struct host host;
     memset(&host, 0, sizeof host);
     memcpy(bytes, password, LENGTH);

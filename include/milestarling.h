@@ -370,11 +370,13 @@ static inline void milestarling_open(struct milestarling_session *session)
 /* ---- The same run and step over a struct for memory. One of zeros, {0} in C and {} in C++, is memory of no bytes. */
 
 /* Memory, with a taint byte for each of its bytes and its place: the address of its first byte, and how many of its
-   first bytes aren't stored to. With length 0 the pointers may be null. */
+   first bytes aren't stored to. Another number of taint bytes than of bytes is answer 1. With length 0 the pointer to the
+   bytes may be null, and with taint_length 0 that to the taint bytes. */
 struct milestarling_memory {
     uint8_t *bytes;
-    uint8_t *taint;
     size_t length;
+    uint8_t *taint;
+    size_t taint_length;
     uint64_t origin;
     uint64_t readonly;
 };
@@ -402,7 +404,7 @@ static inline struct milestarling_run_reply milestarling_session_run(
         words_length != 0 ? words : no_words, words_length,
         *session, memory.origin, memory.readonly,
         memory.length != 0 ? memory.bytes : no_bytes, memory.length,
-        memory.length != 0 ? memory.taint : no_taint, memory.length,
+        memory.taint_length != 0 ? memory.taint : no_taint, memory.taint_length,
         trace_length != 0 ? &trace->code : no_trace, MILESTARLING_TRACE_NUMBERS * trace_length,
         statuses_length != 0 ? statuses : no_statuses, statuses_length);
     *session = reply.session;
@@ -417,7 +419,7 @@ static inline struct milestarling_step_reply milestarling_session_step(
     return milestarling_step(
         word, session, memory.origin, memory.readonly,
         memory.length != 0 ? memory.bytes : no_bytes, memory.length,
-        memory.length != 0 ? memory.taint : no_taint, memory.length);
+        memory.taint_length != 0 ? memory.taint : no_taint, memory.taint_length);
 }
 
 /* An answer in words, those of docs/ANSWERS.md. */

@@ -30,14 +30,15 @@ SESSION_AT(monitor_size, 304);
 typedef char session_has_312_bytes[sizeof(struct milestarling_session) == 312 ? 1 : -1];
 typedef char reply_has_32_bytes[sizeof(struct milestarling_step_reply) == 32 ? 1 : -1];
 typedef char run_reply_has_344_bytes[sizeof(struct milestarling_run_reply) == 344 ? 1 : -1];
+typedef char memory_has_48_bytes[sizeof(struct milestarling_memory) == 48 ? 1 : -1];
 
 static int same(const struct milestarling_session *one, const struct milestarling_session *other)
 {
     return memcmp(one, other, sizeof *one) == 0;
 }
 
-/* Sixteen bytes of 7 at 4096, of which none is tainted. */
-static uint8_t bytes[16], taint[16];
+/* Sixteen bytes of 7 at 4096, of which none is tainted; there is a taint byte more than they need. */
+static uint8_t bytes[16], taint[17];
 
 static struct milestarling_memory small(void)
 {
@@ -45,8 +46,9 @@ static struct milestarling_memory small(void)
     memset(bytes, 7, sizeof bytes);
     memset(taint, 0, sizeof taint);
     memory.bytes = bytes;
-    memory.taint = taint;
     memory.length = sizeof bytes;
+    memory.taint = taint;
+    memory.taint_length = sizeof bytes;
     memory.origin = 4096;
     memory.readonly = 0;
     return memory;
@@ -99,6 +101,52 @@ static void a_run_goes_on_from_a_session(void)
     session.pc = 2;
     reply = milestarling_session_run(memory, &session, words, 1, trace, 1, statuses, 1);
     hold(reply.answer == MILESTARLING_BAD_WINDOW && reply.session.pc == 2, "a pc that isn't a multiple of 4");
+}
+
+/* A number of taint bytes that isn't that of the bytes is answer 1, for a step and for a run, and nothing is changed. */
+static void refuses(struct milestarling_memory memory, const char *what)
+{
+    struct milestarling_session session, before;
+    struct milestarling_step_reply reply;
+    struct milestarling_run_reply ran;
+    struct milestarling_access trace[1] = {{9, 9}};
+    uint8_t statuses[1] = {9};
+    const uint32_t word = 0xf9000420; /* str x0, [x1, #8] */
+    size_t i;
+    int kept = 1;
+    memset(&session, 0, sizeof session);
+    milestarling_set_register(&session, 0, 5, 1);
+    milestarling_set_register(&session, 1, 4096, 0);
+    before = session;
+    reply = milestarling_session_step(memory, &session, word);
+    hold(reply.answer == MILESTARLING_BAD_WINDOW && reply.code == 0 && reply.address == 0 && reply.status == 0, what);
+    ran = milestarling_session_run(memory, &session, &word, 1, trace, 1, statuses, 1);
+    hold(ran.answer == MILESTARLING_BAD_WINDOW && ran.steps == 0 && same(&ran.session, &before), what);
+    for (i = 0; i < sizeof taint; i++)
+        kept = kept && taint[i] == 0 && (i == sizeof bytes || bytes[i] == 7);
+    hold(kept && same(&session, &before) && trace[0].code == 9 && trace[0].address == 9 && statuses[0] == 9, what);
+}
+
+static void taint_bytes_have_a_length_of_their_own(void)
+{
+    struct milestarling_memory memory = small();
+    struct milestarling_session session;
+    struct milestarling_step_reply reply;
+    memory.taint_length = sizeof bytes - 1;
+    refuses(memory, "a taint byte too few");
+    memory.taint_length = sizeof taint;
+    refuses(memory, "a taint byte too many");
+    memory.taint_length = 0;
+    refuses(memory, "a length of the taint bytes that was forgotten");
+    memory.taint = NULL;
+    refuses(memory, "no taint bytes");
+    memory = small();
+    memory.bytes = NULL;
+    memory.length = 0;
+    refuses(memory, "taint bytes of no bytes");
+    memset(&session, 0, sizeof session);
+    reply = milestarling_session_step(none(), &session, 0xf9800020); /* prfm pldl1keep, [x1] */
+    hold(reply.answer == MILESTARLING_DONE && session.pc == 4, "neither bytes nor taint bytes");
 }
 
 static void a_host_opens_the_monitor(void)
@@ -176,6 +224,7 @@ int main(void)
     const uint8_t over[3] = {1, 2, 3};
     a_session_is_changed_in_place();
     a_run_goes_on_from_a_session();
+    taint_bytes_have_a_length_of_their_own();
     a_host_opens_the_monitor();
     hold(milestarling_list(over, 3, short_line, sizeof short_line).length == MILESTARLING_SHORT_MAX, "the short line");
     for (answer = 0; answer < 64; answer++) {
