@@ -17,9 +17,15 @@ static const char *const lines[COUNT] = {
     "ldrb w2, [x0, w1, uxtw]",
 };
 
-static void print(const uint8_t *text, uint64_t length)
+/* Prints what a call has written, or its answer; returns whether it has written anything. */
+static int print(const uint8_t *text, struct milestarling_text_reply written)
 {
-    fwrite(text, 1, (size_t)length, stdout);
+    if (written.answer != MILESTARLING_DONE) {
+        printf("answer %" PRIu64 "\n", written.answer);
+        return 0;
+    }
+    fwrite(text, 1, (size_t)written.length, stdout);
+    return 1;
 }
 
 int main(void)
@@ -39,8 +45,8 @@ int main(void)
     }
 
     uint8_t output[COUNT * MILESTARLING_LINE_MAX];
-    struct milestarling_text_reply listed = milestarling_list(bytes, sizeof bytes, output, sizeof output);
-    print(output, listed.length);
+    if (!print(output, milestarling_list(bytes, sizeof bytes, output, sizeof output)))
+        return 1;
 
     /* x0 points to the password's record, whose length stands at 8 and is tainted; the stack ends with memory. */
     struct milestarling_session session = {.pc = 0x8000};
@@ -61,9 +67,9 @@ int main(void)
         milestarling_tainted(&session, 1), memory[48], taint[48]);
     if (ran.answer == MILESTARLING_TAINTED_ADDRESS) {
         uint8_t text[MILESTARLING_TEXT_MAX];
-        struct milestarling_text_reply written = milestarling_text(words[ran.steps], text, sizeof text);
         printf("refused: ");
-        print(text, written.length);
+        if (!print(text, milestarling_text(words[ran.steps], text, sizeof text)))
+            return 1;
         printf("\n");
     }
     return 0;

@@ -12,7 +12,7 @@ std::string text_of(uint32_t word)
 {
     uint8_t text[MILESTARLING_TEXT_MAX];
     const milestarling_text_reply written = milestarling_text(word, text, sizeof text);
-    return std::string(text, text + written.length);
+    return written.answer == MILESTARLING_DONE ? std::string(text, text + written.length) : "-";
 }
 
 } // namespace

@@ -20,6 +20,8 @@
  * sessions, memory and output may go on at the same time; those that are lent the same need a lock of the host's. A host
  * that lets another thread or plugin at a session's memory between two calls opens the session's monitor, see below.
  *
+ * A compiler that can warns where what a function answers is dropped (MILESTARLING_MUST_USE).
+ *
  * The last part of this file has the run and the step over a struct for memory, whose parts can't be taken for each other.
  */
 #ifndef MILESTARLING_H
@@ -30,6 +32,15 @@
 
 #ifdef __cplusplus
 extern "C" {
+#endif
+
+/* Where the language or the compiler has a way to say it: what the function returns has to be looked at. */
+#if defined(__cplusplus) ? __cplusplus >= 201703L : defined(__STDC_VERSION__) && __STDC_VERSION__ > 201710L
+#define MILESTARLING_MUST_USE [[nodiscard]]
+#elif defined(__GNUC__)
+#define MILESTARLING_MUST_USE __attribute__((warn_unused_result))
+#else
+#define MILESTARLING_MUST_USE
 #endif
 
 #define MILESTARLING_VERSION_MAJOR 0
@@ -170,6 +181,7 @@ struct milestarling_lister_reply {
  * first step. With answers 1 and 10 nothing is changed in any slice, and the session returned is the one handed in. A
  * longer slice keeps its rest.
  */
+MILESTARLING_MUST_USE
 struct milestarling_run_reply milestarling_run(
     const uint32_t *words, size_t words_length,
     struct milestarling_session session,
@@ -183,6 +195,7 @@ struct milestarling_run_reply milestarling_run(
  * Does one word on a session's record and on memory as milestarling_run has it. Answers 0 to 8; with 1 to 8 nothing is
  * changed. It is the way to step a word at a time: the record stays where it is, and no trace is needed.
  */
+MILESTARLING_MUST_USE
 struct milestarling_step_reply milestarling_step(
     uint32_t word, struct milestarling_session *session,
     uint64_t origin, uint64_t readonly,
@@ -199,9 +212,11 @@ void milestarling_set_register(struct milestarling_session *session, uint32_t nu
  * Writes the line of text of a word to the start of a buffer, without a zero at its end. Answers 0, 2, 3 or 10;
  * the buffer changes only with 0. A buffer of MILESTARLING_TEXT_MAX bytes suffices for every line.
  */
+MILESTARLING_MUST_USE
 struct milestarling_text_reply milestarling_text(uint32_t word, uint8_t *buffer, size_t buffer_length);
 
 /* The word whose line a text is. Answers 0 or 9. */
+MILESTARLING_MUST_USE
 struct milestarling_word_reply milestarling_word(const uint8_t *text, size_t text_length);
 
 /*
@@ -210,6 +225,7 @@ struct milestarling_word_reply milestarling_word(const uint8_t *text, size_t tex
  * MILESTARLING_LINE_MAX bytes for each word, and MILESTARLING_SHORT_MAX for bytes left over, always suffice; a shorter output is measured
  * first.
  */
+MILESTARLING_MUST_USE
 struct milestarling_text_reply milestarling_list(
     const uint8_t *bytes, size_t bytes_length, uint8_t *output, size_t output_length);
 
@@ -223,6 +239,7 @@ struct milestarling_text_reply milestarling_list(
  * holds more than three bytes, and comes first. After a 10 the call may be repeated with a longer output.
  * MILESTARLING_LINE_MAX bytes for each four of the held bytes and the fragment always suffice.
  */
+MILESTARLING_MUST_USE
 struct milestarling_lister_reply milestarling_lister_push(
     struct milestarling_lister lister,
     const uint8_t *fragment, size_t fragment_length, uint8_t *output, size_t output_length);
@@ -231,6 +248,7 @@ struct milestarling_lister_reply milestarling_lister_push(
  * The end of such a listing: writes the line for bytes left over, if there are any, to the start of an output, and
  * closes the lister. Answers as above; MILESTARLING_SHORT_MAX bytes always suffice.
  */
+MILESTARLING_MUST_USE
 struct milestarling_lister_reply milestarling_lister_close(
     struct milestarling_lister lister, uint8_t *output, size_t output_length);
 
@@ -335,26 +353,31 @@ struct milestarling_decode_reply {
 };
 
 /* The answer that depends on the word alone: 0, 2, 3 or 4. */
+MILESTARLING_MUST_USE
 uint64_t milestarling_classify(uint32_t word);
 
 /* The numbers of a word. Answers 0, 2 or 3: a word of answer 4 has numbers, and a text. */
+MILESTARLING_MUST_USE
 struct milestarling_decode_reply milestarling_decode(uint32_t word);
 
 /*
  * The one word that has these numbers. Answers 0, or 11 where no word has them: each number counts, also one that the
  * family hasn't got, and direction and bytes.
  */
+MILESTARLING_MUST_USE
 struct milestarling_word_reply milestarling_encode(struct milestarling_instruction instruction);
 
 /* ---- A session's record by its parts. */
 
 /* The value of x0 to x30 or sp; 0 for any other number. Ask for its taint too before it is branched on or shown. */
+MILESTARLING_MUST_USE
 static inline uint64_t milestarling_value(const struct milestarling_session *session, uint32_t number)
 {
     return number < MILESTARLING_REGISTERS ? session->value[number] : 0;
 }
 
 /* Whether x0 to x30 or sp is tainted; 0 for any other number. */
+MILESTARLING_MUST_USE
 static inline int milestarling_tainted(const struct milestarling_session *session, uint32_t number)
 {
     return number < MILESTARLING_REGISTERS && session->taint[number] != 0;
@@ -391,6 +414,7 @@ struct milestarling_access {
  * milestarling_run on memory and on a session, which is left as the run returns it. The trace has trace_length accesses,
  * and there are statuses_length statuses; they and the words may be null where their length is 0.
  */
+MILESTARLING_MUST_USE
 static inline struct milestarling_run_reply milestarling_session_run(
     struct milestarling_memory memory, struct milestarling_session *session,
     const uint32_t *words, size_t words_length,
@@ -412,6 +436,7 @@ static inline struct milestarling_run_reply milestarling_session_run(
 }
 
 /* milestarling_step on memory and on a session. */
+MILESTARLING_MUST_USE
 static inline struct milestarling_step_reply milestarling_session_step(
     struct milestarling_memory memory, struct milestarling_session *session, uint32_t word)
 {
@@ -423,6 +448,7 @@ static inline struct milestarling_step_reply milestarling_session_step(
 }
 
 /* An answer in words, those of docs/ANSWERS.md. */
+MILESTARLING_MUST_USE
 static inline const char *milestarling_answer_text(uint64_t answer)
 {
     switch (answer) {

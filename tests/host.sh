@@ -1,7 +1,8 @@
 #!/usr/bin/env bash
 # Builds the library for C and C++ hosts from nothing but this repository, and tries it: the examples, the header in each
 # version of both languages and with each compiler that is there, the program that the README prints, and what
-# tools/install.sh puts below a prefix. Structs cross by value, so that each is compiled without optimizing and with it.
+# tools/install.sh puts below a prefix. Structs cross by value, so that each is compiled without optimizing and with it. A
+# call whose answer is dropped must not compile where that warning is made an error.
 set -eo pipefail
 cd "$(dirname "${BASH_SOURCE[0]}")/.."
 bash tools/library.sh
@@ -33,6 +34,11 @@ for level in -O0 -O2; do
     "$room/records"
 done
 
+# Every function that the header declares and that returns anything is called by tests/unused.c.
+sed -nE '/^(static inline )?void /d; s/^[a-z].*[ *](milestarling_[a-z_]+)\(.*/\1/p' include/milestarling.h | sort > "$room/declared"
+sed -nE 's/.*ANSWER\(.*, (milestarling_[a-z_]+)\(.*/\1/p' tests/unused.c | sort | diff "$room/declared" -
+answering=$(wc -l < "$room/declared")
+
 # The header's texts are those of docs/ANSWERS.md, and its version is the Rust package's.
 sed -n '/^| Answer | Text |$/,$p' docs/ANSWERS.md | tail -n +3 > "$room/said"
 version=$(sed -n 's/^version = "\(.*\)"$/\1/p' bindings/rust/Cargo.toml)
@@ -42,7 +48,7 @@ for compiler in gcc g++ clang clang++; do
     command -v "$compiler" > /dev/null || continue
     case $compiler in
     *++) standards="c++11 c++14 c++17 c++20" language=c++ ;;
-    *) standards="c99 c11 c17" language=c ;;
+    *) standards="c99 c11 c17 c2x" language=c ;;
     esac
     for standard in $standards; do
         for level in -O0 -O2; do
@@ -50,10 +56,18 @@ for compiler in gcc g++ clang clang++; do
                 tests/header.c -x none "$archive"
             "$room/header" | diff - "$room/said"
         done
+        unused=("$compiler" -x "$language" "-std=$standard" -Iinclude -c -o "$room/unused.o" tests/unused.c)
+        "${unused[@]}" "${strict[@]}" -Wconversion
+        if "${unused[@]}" -DIGNORED -Werror=unused-result 2> "$room/warned"; then
+            echo "host: $compiler -std=$standard lets an answer be dropped"
+            exit 1
+        fi
+        [ "$(grep -c 'error: .*unused-result' "$room/warned")" -eq "$answering" ] || { cat "$room/warned"; exit 1; }
         versions=$((versions + 1))
     done
 done
 echo "host: the header was compiled without a warning in $versions versions of C and C++"
+echo "host: in each of them a dropped answer is an error, of each of the $answering functions that answer"
 
 # The library needs nothing beside it but what the header says, and fits into a shared object.
 needed=$(nm -u "$archive" | awk 'NF == 2 && $2 !~ /^mem(cpy|move|set|cmp)$/ { print $2 }' | sort -u | paste -s -d ' ')

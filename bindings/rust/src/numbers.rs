@@ -9,6 +9,7 @@ use crate::{ffi, Answer, Instruction, Refusal};
 /// assert_eq!(classify(0xf9400420), Answer::Done);
 /// assert_eq!(classify(0xf8408421), Answer::Unpredictable); // ldr x1, [x1], #8
 /// ```
+#[must_use]
 pub fn classify(word: u32) -> Answer {
     Answer::of_reply(ffi::classify(word))
 }

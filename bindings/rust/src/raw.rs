@@ -32,6 +32,7 @@ pub struct SessionRecord {
 }
 
 /// What a run returns beside what it leaves in the slices.
+#[must_use]
 #[repr(C)]
 #[derive(Clone, Copy, Debug, Default, PartialEq, Eq)]
 pub struct RunReply {
@@ -48,6 +49,7 @@ pub struct RunReply {
 }
 
 /// What a step returns beside what it leaves in the record and in the slices.
+#[must_use]
 #[repr(C)]
 #[derive(Clone, Copy, Debug, Default, PartialEq, Eq)]
 pub struct StepReply {
@@ -62,6 +64,7 @@ pub struct StepReply {
 }
 
 /// What writing a text or a listing returns.
+#[must_use]
 #[repr(C)]
 #[derive(Clone, Copy, Debug, Default, PartialEq, Eq)]
 pub struct TextReply {
@@ -72,6 +75,7 @@ pub struct TextReply {
 }
 
 /// What reading a line returns.
+#[must_use]
 #[repr(C)]
 #[derive(Clone, Copy, Debug, Default, PartialEq, Eq)]
 pub struct WordReply {
@@ -100,6 +104,7 @@ pub struct Lister {
 }
 
 /// What a call of a lister returns.
+#[must_use]
 #[repr(C)]
 #[derive(Clone, Copy, Debug, Default, PartialEq, Eq)]
 pub struct ListerReply {
@@ -283,6 +288,7 @@ pub struct Numbers {
 }
 
 /// What decoding a word returns.
+#[must_use]
 #[repr(C)]
 #[derive(Clone, Copy, Debug, Default, PartialEq, Eq)]
 pub struct DecodeReply {
@@ -294,6 +300,7 @@ pub struct DecodeReply {
 
 /// The answer that depends on a word alone: 0, 2, 3 or 4.
 #[inline]
+#[must_use]
 pub fn classify(word: u32) -> u64 {
     ffi::classify(word)
 }

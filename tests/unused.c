@@ -1,0 +1,46 @@
+/*
+ * Calls every function of the header that answers. With IGNORED each answer is dropped, of which the compiler has to warn at
+ * every call; without, each is used, and it has nothing to say. tests/host.sh compiles this file both ways, in every version
+ * of C and C++ that the header is for.
+ */
+#include <stddef.h>
+
+#include "milestarling.h"
+
+#ifdef IGNORED
+#define ANSWER(type, call) call
+#else
+#define ANSWER(type, call)    \
+    do {                      \
+        type answer = (call); \
+        (void)answer;         \
+    } while (0)
+#endif
+
+int main(void)
+{
+    struct milestarling_session session = {{0}, {0}, 0, 0, 0};
+    struct milestarling_memory memory = {NULL, 0, NULL, 0, 0, 0};
+    struct milestarling_lister lister = {0, 0, 0, 0, 0};
+    struct milestarling_instruction numbers = {0, 0, 0, 0, 0, 0, 0, 0, 0, 0, 0, 0, 0};
+    uint8_t bytes[4] = {0}, taint[4] = {0}, statuses[1] = {0};
+    uint64_t trace[2] = {0};
+    const uint32_t words[1] = {0};
+
+    ANSWER(struct milestarling_run_reply, milestarling_run(words, 1, session, 0, 0, bytes, 4, taint, 4, trace, 2, statuses, 1));
+    ANSWER(struct milestarling_step_reply, milestarling_step(0, &session, 0, 0, bytes, 4, taint, 4));
+    ANSWER(struct milestarling_text_reply, milestarling_text(0, bytes, 4));
+    ANSWER(struct milestarling_word_reply, milestarling_word(bytes, 4));
+    ANSWER(struct milestarling_text_reply, milestarling_list(bytes, 4, taint, 4));
+    ANSWER(struct milestarling_lister_reply, milestarling_lister_push(lister, bytes, 4, taint, 4));
+    ANSWER(struct milestarling_lister_reply, milestarling_lister_close(lister, taint, 4));
+    ANSWER(uint64_t, milestarling_classify(0));
+    ANSWER(struct milestarling_decode_reply, milestarling_decode(0));
+    ANSWER(struct milestarling_word_reply, milestarling_encode(numbers));
+    ANSWER(uint64_t, milestarling_value(&session, 0));
+    ANSWER(int, milestarling_tainted(&session, 0));
+    ANSWER(struct milestarling_run_reply, milestarling_session_run(memory, &session, words, 1, NULL, 0, statuses, 1));
+    ANSWER(struct milestarling_step_reply, milestarling_session_step(memory, &session, 0));
+    ANSWER(const char *, milestarling_answer_text(0));
+    return 0;
+}
