@@ -1,7 +1,8 @@
 /*
- * A host that runs compiled plugins: it does their arithmetic and branches itself, and leaves loads and stores to the
- * library. So it has the duty that the header names: it carries taints through what it computes, and refuses a branch
- * on a tainted value. It knows just the words that a compiler made of examples/plugin/plugin.c.
+ * A host that runs compiled plugins: it does their arithmetic and branches itself, and leaves every word that touches
+ * memory to the library, of which it takes no refusal for its own word. So it has the duty that the header names: it
+ * carries taints through what it computes, and refuses a branch on a tainted value. It knows just the words that a
+ * compiler made of examples/plugin/plugin.c.
  *
  *     plugin examples/plugin/compare.bin
  *
@@ -58,7 +59,7 @@ static uint64_t offset(uint32_t word, unsigned low, unsigned bits)
     return ((field ^ sign) - sign) * 4;
 }
 
-/* Does one word that is no load or store, and returns what is wrong, or NULL. */
+/* Does one word that doesn't touch memory, and returns what is wrong, or NULL. */
 static const char *compute(struct host *host, uint32_t word)
 {
     uint64_t *pc = &host->session.pc;
@@ -104,6 +105,18 @@ static const char *compute(struct host *host, uint32_t word)
     return NULL;
 }
 
+/* Does one word, prints its access if it has one, and returns what is wrong, or NULL. */
+static const char *do_word(struct host *host, struct milestarling_memory memory, uint32_t word)
+{
+    if (!milestarling_touches_memory_inline(word))
+        return compute(host, word);
+    const struct milestarling_step_reply reply = milestarling_session_step(memory, &host->session, word);
+    if (reply.answer != MILESTARLING_DONE)
+        return milestarling_answer_text(reply.answer);
+    printf(" %" PRIu64 "@%" PRIx64, reply.code, reply.address);
+    return NULL;
+}
+
 /* Runs a plugin's words until it returns, and prints the trace. The words are copied out of the image one by one. */
 static void run(const uint8_t *image, size_t size, const char *password)
 {
@@ -130,14 +143,7 @@ static void run(const uint8_t *image, size_t size, const char *password)
             return;
         }
         uint32_t word = image[pc] | (uint32_t)image[pc + 1] << 8 | (uint32_t)image[pc + 2] << 16 | (uint32_t)image[pc + 3] << 24;
-        struct milestarling_step_reply reply = milestarling_session_step(memory, &host.session, word);
-        const char *refused = NULL;
-        if (reply.answer == MILESTARLING_DONE)
-            printf(" %" PRIu64 "@%" PRIx64, reply.code, reply.address);
-        else if (reply.answer == MILESTARLING_NOT_IN_SET)
-            refused = compute(&host, word);
-        else
-            refused = milestarling_answer_text(reply.answer);
+        const char *refused = do_word(&host, memory, word);
         if (refused != NULL) {
             printf(" refused at %" PRIx64 ": %s\n", pc, refused);
             return;

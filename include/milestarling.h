@@ -5,6 +5,12 @@
  * PREFIX` puts it, this header and a file for pkg-config below a prefix. It calls nothing but memcpy, memmove, memset and
  * memcmp, which every compiler takes for granted, and can be linked into a shared object.
  *
+ * The host's loop: loads and stores are done here, and all other words are the host's to compute. So it asks
+ * milestarling_touches_memory of each word first. One that touches memory is stepped, and the plugin is stopped where the
+ * answer isn't 0. That goes for answer 2 too: it is then a load or store that isn't taken, such as a vector's or an atomic
+ * one, and to pass it over or to compute it would lose bytes and taints in silence. One that doesn't touch memory is
+ * computed, and the host adds 4 to pc or branches itself. Answer 2 by itself doesn't tell the two apart.
+ *
  * The host's own duty: taints (documents 01 and 02 call them marks) follow a value through the loads and stores that are
  * done here, and nowhere else. A host that computes between two calls (add, and, mov, ..) must carry them itself: the
  * result is tainted where an operand is. And it must not branch on a tainted value, nor take one for an address of its
@@ -70,7 +76,8 @@ enum milestarling_answer {
     /* memory that ends above the address space or is shorter than its read-only part, a taint slice of another
        length than memory, or a pc that isn't a multiple of 4 */
     MILESTARLING_BAD_WINDOW = 1,
-    /* the word is no load or store that Milestarling knows */
+    /* the word is no load or store that Milestarling takes; whether it touches memory all the same, and so isn't the
+       host's to compute, milestarling_touches_memory says */
     MILESTARLING_NOT_IN_SET = 2,
     /* the word is among the loads and stores, and is undefined: one with unused register fields that aren't all ones too */
     MILESTARLING_UNDEFINED = 3,
@@ -355,6 +362,32 @@ struct milestarling_decode_reply {
 /* The answer that depends on the word alone: 0, 2, 3 or 4. */
 MILESTARLING_MUST_USE
 uint64_t milestarling_classify(uint32_t word);
+
+/*
+ * Whether a word touches memory, 1 or 0: Arm's top table has it among the loads and stores (bit 27 set, bit 25 clear), taken
+ * here or not, or it is dc zva, dc gva or dc gzva. What doesn't is the host's to compute, and what does but is answered with
+ * 2 stops a plugin.
+ *
+ * By dc zva the C library's memset stores 64 zeros at once. A host shows a processor that hasn't got it, where
+ * `mrs xt, dczid_el0` reads with DZP, bit 4, set (0x10), and memset then does without; or it stops at the word; or it stores
+ * the zeros itself, clears their taints and lets every session's monitor observe the store.
+ *
+ * The loads and stores of SVE and SME stand in parts of Arm's table of their own (bits 28 to 25 are 0010, or bit 31 is set
+ * and they are 0000) and aren't counted here, nor are the guarded control stack's, which are system instructions: a host
+ * shows a processor without them (SVE of ID_AA64PFR0_EL1, SME and GCS of ID_AA64PFR1_EL1 and their HWCAP bits are 0), and
+ * stops at their words, as at every word that it doesn't know.
+ */
+MILESTARLING_MUST_USE
+uint64_t milestarling_touches_memory(uint32_t word);
+
+/* The same without a call. */
+MILESTARLING_MUST_USE
+static inline int milestarling_touches_memory_inline(uint32_t word)
+{
+    const uint32_t without_register = word & 0xffffffe0;
+    return (word & 0x0a000000) == 0x08000000 || without_register == 0xd50b7420 || without_register == 0xd50b7460
+        || without_register == 0xd50b7480;
+}
 
 /* The numbers of a word. Answers 0, 2 or 3: a word of answer 4 has numbers, and a text. */
 MILESTARLING_MUST_USE

@@ -34,6 +34,10 @@ for level in -O0 -O2; do
     "$room/records"
 done
 
+# Which words touch memory, of all values of the bits that say so.
+cc -std=c11 -O2 "${strict[@]}" -Iinclude -o "$room/touches" tests/touches.c "$archive"
+"$room/touches"
+
 # Every function that the header declares and that returns anything is called by tests/unused.c.
 sed -nE '/^(static inline )?void /d; s/^[a-z].*[ *](milestarling_[a-z_]+)\(.*/\1/p' include/milestarling.h | sort > "$room/declared"
 sed -nE 's/.*ANSWER\(.*, (milestarling_[a-z_]+)\(.*/\1/p' tests/unused.c | sort | diff "$room/declared" -

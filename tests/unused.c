@@ -35,6 +35,8 @@ int main(void)
     ANSWER(struct milestarling_lister_reply, milestarling_lister_push(lister, bytes, 4, taint, 4));
     ANSWER(struct milestarling_lister_reply, milestarling_lister_close(lister, taint, 4));
     ANSWER(uint64_t, milestarling_classify(0));
+    ANSWER(uint64_t, milestarling_touches_memory(0));
+    ANSWER(int, milestarling_touches_memory_inline(0));
     ANSWER(struct milestarling_decode_reply, milestarling_decode(0));
     ANSWER(struct milestarling_word_reply, milestarling_encode(numbers));
     ANSWER(uint64_t, milestarling_value(&session, 0));

@@ -1,6 +1,7 @@
-//! A host that runs compiled plugins: it does their arithmetic and branches itself, and leaves loads and stores to the
-//! library. So it has the duty that the package's documents name: it carries taints through what it computes, and
-//! refuses a branch on a tainted value. It knows just the words that a compiler made of `examples/plugin/plugin.c`.
+//! A host that runs compiled plugins: it does their arithmetic and branches itself, and leaves every word that touches
+//! memory to the library, of which it takes no refusal for its own word. So it has the duty that the package's documents
+//! name: it carries taints through what it computes, and refuses a branch on a tainted value. It knows just the words that
+//! a compiler made of `examples/plugin/plugin.c`.
 //!
 //! ```text
 //! cargo run --release --example plugin ../../examples/plugin/compare.bin
@@ -8,7 +9,7 @@
 //!
 //! runs the file with two passwords, and prints what a log would have of each run: the trace, and how it ended.
 
-use milestarling::{Answer, Memory, Register, Session, TaintedBytes, Window};
+use milestarling::{touches_memory, Memory, Register, Session, TaintedBytes, Window};
 use std::io::{self, Write};
 use std::path::Path;
 use std::{env, fs};
@@ -55,7 +56,7 @@ impl Host {
         }
     }
 
-    /// Does one word that is no load or store.
+    /// Does one word that doesn't touch memory.
     fn compute(&mut self, word: u32) -> Result<(), &'static str> {
         let pc = self.session.pc();
         let (n, m, number) = (word >> 5 & 31, word >> 16 & 31, u64::from(word >> 10 & 0xfff));
@@ -128,16 +129,15 @@ fn run(words: &[u32], password: &[u8; 8], log: &mut impl Write) -> io::Result<()
         let Some(&word) = words.get((pc / 4) as usize).filter(|_| pc % 4 == 0) else {
             return writeln!(log, " no word at {pc}");
         };
-        let done = match host.session.step(&mut memory, word) {
-            Ok(step) => {
-                write!(log, " {}@{:x}", step.access.code, step.access.address)?;
-                Ok(())
+        if !touches_memory(word) {
+            if let Err(refused) = host.compute(word) {
+                return writeln!(log, " refused at {pc:x}: {refused}");
             }
-            Err(refusal) if refusal.answer() == Answer::NotInSet => host.compute(word).map_err(String::from),
-            Err(refusal) => Err(refusal.answer().to_string()),
-        };
-        if let Err(refused) = done {
-            return writeln!(log, " refused at {pc:x}: {refused}");
+            continue;
+        }
+        match host.session.step(&mut memory, word) {
+            Ok(step) => write!(log, " {}@{:x}", step.access.code, step.access.address)?,
+            Err(refusal) => return writeln!(log, " refused at {pc:x}: {}", refusal.answer()),
         }
     }
     writeln!(log, " more than {LIMIT} words")

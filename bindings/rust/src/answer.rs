@@ -20,7 +20,8 @@ pub enum Answer {
     Done = 0,
     /// The window, the number of taint bytes or PC is wrong.
     BadWindow = 1,
-    /// The word is no load or store that this machine takes.
+    /// The word is no load or store that this machine takes. Whether it touches memory all the same, and so isn't the host's
+    /// to compute, [`touches_memory`](crate::touches_memory) says.
     NotInSet = 2,
     /// The word is one of the loads and stores that Arm left undefined, or has unused register fields that aren't all
     /// ones.

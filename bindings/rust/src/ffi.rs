@@ -45,6 +45,7 @@ extern "C" {
     ) -> ListerReply;
     fn milestarling_lister_close(lister: Lister, output: *mut u8, output_len: usize) -> ListerReply;
     fn milestarling_classify(word: u32) -> u64;
+    fn milestarling_touches_memory(word: u32) -> u64;
     fn milestarling_decode(word: u32) -> DecodeReply;
     fn milestarling_encode(numbers: Numbers) -> WordReply;
 }
@@ -149,6 +150,12 @@ pub(crate) fn lister_close(lister: Lister, output: &mut [u8]) -> ListerReply {
 pub(crate) fn classify(word: u32) -> u64 {
     // SAFETY: only numbers cross.
     unsafe { milestarling_classify(word) }
+}
+
+#[inline]
+pub(crate) fn touches_memory(word: u32) -> u64 {
+    // SAFETY: only numbers cross.
+    unsafe { milestarling_touches_memory(word) }
 }
 
 #[inline]

@@ -7,9 +7,17 @@
 //! - [`Session`] is one session's registers, with their taints, PC and the monitor of exclusive accesses. It does steps and
 //!   runs in a [`Memory`], which owns its bytes and their taints or borrows them, and [`step_in`] does so in several.
 //! - [`Instruction`] goes from words to lines of text and back, and to [`Numbers`] and back.
-//! - [`words`] goes through an image, word by word.
+//! - [`words`] goes through an image, word by word, and [`touches_memory`] says which words a host steps.
 //! - [`listing`] lists bytes, and [`Lister`] and [`ListingWriter`] list what comes in fragments.
 //! - [`raw`] has the library's functions as they are.
+//!
+//! # The host's loop
+//!
+//! Loads and stores are done here, and all other words are the host's to compute. So it asks [`touches_memory`] of each word
+//! first. One that touches memory is stepped, and the plugin is stopped where the step is refused. That goes for
+//! [`Answer::NotInSet`] too: it is then a load or store that isn't taken, such as a vector's or an atomic one, and to pass
+//! it over or to compute it would lose bytes and taints in silence. One that doesn't touch memory is computed, and the host
+//! adds 4 to PC or branches itself ([`Session::set_pc`]). The answer by itself doesn't tell the two apart.
 //!
 //! # The host's own duty
 //!
@@ -58,7 +66,7 @@ mod text;
 pub use answer::{Answer, Refusal, UnknownAnswer};
 pub use image::{words, Words};
 pub use memory::{step_in, Access, Memory, TaintedBytes, Window};
-pub use numbers::classify;
+pub use numbers::{classify, touches_memory};
 pub use raw::Numbers;
 pub use register::{Register, UnknownRegister};
 pub use session::{Monitor, Run, Session, Step};

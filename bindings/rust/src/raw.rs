@@ -305,6 +305,13 @@ pub fn classify(word: u32) -> u64 {
     ffi::classify(word)
 }
 
+/// Whether a word touches memory, 1 or 0: [`touches_memory`](crate::touches_memory) says it without a call.
+#[inline]
+#[must_use]
+pub fn touches_memory(word: u32) -> u64 {
+    ffi::touches_memory(word)
+}
+
 /// The numbers of a word.
 #[inline]
 pub fn decode(word: u32) -> DecodeReply {

@@ -169,8 +169,12 @@ fn words_and_texts() {
     assert_eq!(call(&["word", "f9400420", "0xF9400420"], b""), Ended::well(&line.repeat(2)));
     assert_eq!(
         call(&["word"], b"f9400420 f9400420\n\n91000000"),
-        Ended::well(&format!("{line}{line}91000000\t-\t2\n"))
+        Ended::well(&format!("{line}{line}91000000\t-\t2\tdoesn't touch memory\n"))
     );
+    // ld1 {v0.16b}, [x0]; dc zva, x5; an undefined and an unpredictable load
+    let told = "4c407000\t-\t2\ttouches memory\nd50b7425\t-\t2\ttouches memory\n\
+                b8c00020\t-\t3\nf8408421\tldr x1, [x1], #8\t4\n";
+    assert_eq!(call(&["word", "4c407000", "d50b7425", "b8c00020", "f8408421"], b""), Ended::well(told));
     assert_eq!(call(&["text", "ldr x0, [x1, #8]"], b""), Ended::well(line));
     assert_eq!(call(&["text"], b"ldr x0, [x1, #8]\nldr x0, [x1, #8]"), Ended::well(&line.repeat(2)));
 

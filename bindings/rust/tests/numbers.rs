@@ -1,9 +1,9 @@
-//! Words to numbers and back, and numbers that are no word's.
+//! Words to numbers and back, numbers that are no word's, and which words touch memory.
 
 mod reference;
 mod support;
 
-use milestarling::{classify, raw, Answer, Instruction, Numbers};
+use milestarling::{classify, raw, touches_memory, Answer, Instruction, Numbers};
 use support::{any_word, Random};
 
 /// A million words: numbers exactly where there is a text, and the word again from them.
@@ -54,5 +54,30 @@ fn wrong_numbers() {
     for numbers in wrong {
         assert_eq!(numbers.encode().unwrap_err().answer(), Answer::NoSuchInstruction, "{numbers:?}");
         assert_eq!(raw::encode(numbers), raw::WordReply { answer: 11, word: 0 });
+    }
+}
+
+/// Of all values of the bits that say so, 31 to 5, each with some register in the bits below.
+#[test]
+fn words_that_touch_memory() {
+    let (mut upper, mut count) = (0u32, 0u32);
+    while upper < 1 << 27 {
+        let word = upper << 5 | upper.wrapping_mul(2_654_435_761) >> 27;
+        let touches = touches_memory(word);
+        assert!(raw::touches_memory(word) == u64::from(touches), "word {word:08x}");
+        count += u32::from(touches);
+        upper += 1;
+    }
+    // A quarter of Arm's table, and three dc.
+    assert_eq!(count, (1 << 25) + 3);
+}
+
+/// What is taken, undefined or unpredictable touches memory, so that a host may compute all else without a step.
+#[test]
+fn words_of_the_set_touch_memory() {
+    let mut random = Random::new(12);
+    for _ in 0..1 << 20 {
+        let word = any_word(&mut random);
+        assert!(touches_memory(word) || classify(word) == Answer::NotInSet, "word {word:08x}");
     }
 }

@@ -6,7 +6,7 @@ mod input;
 mod list;
 
 use input::{say, Failure, Source};
-use milestarling::{listing, Instruction};
+use milestarling::{classify, listing, touches_memory, Answer, Instruction};
 use std::env;
 use std::ffi::OsString;
 use std::io::{self, BufWriter, IsTerminal, Write};
@@ -23,7 +23,9 @@ milestarling: the loads and stores of an AArch64 emulator
       Of an ELF file the executable load segments are listed, with their own addresses.
 
   milestarling word [HEX..]
-      Lists words that are given by up to eight hexadecimal digits.
+      Lists words that are given by up to eight hexadecimal digits. Behind answer 2 stands
+      `touches memory`, of a load or store that isn't taken and of `dc zva`, or
+      `doesn't touch memory`, of a word that is the host's to compute.
 
   milestarling text [LINE..]
       Lists the words whose texts these lines are. A line is one argument:
@@ -97,12 +99,22 @@ fn command(words: &[OsString], output: &mut impl Write) -> Result<(), Failure> {
             let (secrets, files): (Vec<&str>, Vec<&str>) = rest.iter().partition(|&&word| word == "--secrets");
             case::run(Source::of(&files)?, !secrets.is_empty(), output)
         }
-        "word" => each(rest, true, output, |word| Ok(listing(&hexadecimal(word)?.to_le_bytes()))),
+        "word" => each(rest, true, output, |word| hexadecimal(word).map(told)),
         "text" => each(rest, false, output, |line| {
             let read: Result<Instruction, _> = line.parse();
             read.map(|instruction| listing(&instruction.word().to_le_bytes())).map_err(|refusal| refusal.to_string())
         }),
         _ => Err(Failure::Usage(format!("`{name}` is no command: list, word, text or run; --help tells more"))),
+    }
+}
+
+/// The line of a word, which with answer 2 says also whether the word touches memory.
+fn told(word: u32) -> String {
+    let line = listing(&word.to_le_bytes());
+    match (classify(word), touches_memory(word)) {
+        (Answer::NotInSet, true) => format!("{}\ttouches memory\n", line.trim_end()),
+        (Answer::NotInSet, false) => format!("{}\tdoesn't touch memory\n", line.trim_end()),
+        _ => line,
     }
 }
 
