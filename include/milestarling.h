@@ -23,8 +23,8 @@
  * hand in the copy. A session that is lent is as such a slice. Beyond that no function has a condition to meet.
  *
  * Threads: nothing here is static, and a call touches what it is lent and nothing else. So calls that are lent different
- * sessions, memory and output may go on at the same time; those that are lent the same need a lock of the host's. A host
- * that lets another thread or plugin at a session's memory between two calls opens the session's monitor, see below.
+ * sessions, memory and output may go on at the same time; those that are lent the same need a lock of the host's. Where
+ * several sessions share memory, each one's monitor has to learn of what the others store: see struct milestarling_session.
  *
  * A compiler that can warns where what a function answers is dropped (MILESTARLING_MUST_USE).
  *
@@ -125,9 +125,17 @@ struct milestarling_word_reply {
  *
  * The monitor is armed by a load-exclusive with its address and size, and is open where its size is 0. A store-exclusive
  * asks it: with the same address and size it stores, and its status is 0; otherwise it stores nothing, taints included,
- * and its status is 1. Either way the monitor is open then. No other word looks at it or touches it, and a refused one
- * keeps it. So a host that lets another thread or plugin run between two calls opens it by milestarling_open, and a
- * store-exclusive that follows fails, as it would on a processor.
+ * and its status is 1. Either way the monitor is open then. No other word of the session looks at it or touches it, and a
+ * refused one keeps it. On a processor it also opens when another stores to the bytes that it watches, and that is the
+ * host's to tell it:
+ *
+ * - after another session's step in the same memory, milestarling_observe_step;
+ * - after another session's run in it, milestarling_observe_run;
+ * - after a write of the host's own, or of a thread that runs no session, milestarling_open; or milestarling_observed with
+ *   the code of a store, MILESTARLING_STORE_CODE plus the number of its bytes, which opens it only where it watches them.
+ *
+ * Without that two sessions take one lock at once. To open it at each turn of another's, whatever that did, is no way out:
+ * two sessions that take turns of one word then never take the lock. examples/turns.c shows all three.
  */
 struct milestarling_session {
     uint64_t value[MILESTARLING_REGISTERS];
@@ -214,6 +222,21 @@ struct milestarling_step_reply milestarling_step(
  * nothing.
  */
 void milestarling_set_register(struct milestarling_session *session, uint32_t number, uint64_t value, uint8_t tainted);
+
+/* The session with its monitor open: address and size 0, and registers and pc as they were. */
+MILESTARLING_MUST_USE
+struct milestarling_session milestarling_opened(struct milestarling_session session);
+
+/*
+ * The session after a step of another's, which showed this code, address and status: with its monitor open exactly if the
+ * step stored a byte that the monitor watches, and else as it was. A store has a code of at least 64, for code - 64 bytes
+ * from the address on, and status 0. A refused step (code 0), a load, a prefetch and a store-exclusive that failed (any
+ * status but 0) open nothing. milestarling_observe_step and milestarling_observe_run, below, take the numbers from where
+ * they stand.
+ */
+MILESTARLING_MUST_USE
+struct milestarling_session milestarling_observed(
+    struct milestarling_session session, uint64_t code, uint64_t address, uint64_t status);
 
 /*
  * Writes the line of text of a word to the start of a buffer, without a zero at its end. Answers 0, 2, 3 or 10;
@@ -416,11 +439,16 @@ static inline int milestarling_tainted(const struct milestarling_session *sessio
     return number < MILESTARLING_REGISTERS && session->taint[number] != 0;
 }
 
-/* Opens the monitor, as another processor's store would. */
+/* Opens the monitor, whatever it watches: after a write that no step of a session did. */
 static inline void milestarling_open(struct milestarling_session *session)
 {
-    session->monitor_address = 0;
-    session->monitor_size = 0;
+    *session = milestarling_opened(*session);
+}
+
+/* Opens the monitor if another session's step has stored to what it watches. The reply is that step's, refused or not. */
+static inline void milestarling_observe_step(struct milestarling_session *session, struct milestarling_step_reply reply)
+{
+    *session = milestarling_observed(*session, reply.code, reply.address, reply.status);
 }
 
 /* ---- The same run and step over a struct for memory. One of zeros, {0} in C and {} in C++, is memory of no bytes. */
@@ -478,6 +506,16 @@ static inline struct milestarling_step_reply milestarling_session_step(
         word, session, memory.origin, memory.readonly,
         memory.length != 0 ? memory.bytes : no_bytes, memory.length,
         memory.taint_length != 0 ? memory.taint : no_taint, memory.taint_length);
+}
+
+/* Opens the monitor if another session's run has stored to what it watches: the trace and the statuses are that run's, and
+   so many of them are looked at as it has done steps, also where it was refused then. */
+static inline void milestarling_observe_run(
+    struct milestarling_session *session, const struct milestarling_access *trace, const uint8_t *statuses, uint64_t steps)
+{
+    uint64_t i;
+    for (i = 0; i < steps && session->monitor_size != 0; i++)
+        *session = milestarling_observed(*session, trace[i].code, trace[i].address, statuses[i]);
 }
 
 /* An answer in words, those of docs/ANSWERS.md. */

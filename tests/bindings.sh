@@ -13,12 +13,15 @@ else
 fi
 room=$(mktemp -d)
 trap 'rm -rf "$room"' EXIT
-plugins=("$PWD"/examples/plugin/{compare,compare_early,look_up}.bin)
-expected=$PWD/tests/plugin.expected
+top=$PWD
 cd bindings/rust
 cargo test --release --offline "$@"
-cargo run --quiet --release --offline --example plugin "${plugins[@]}" | diff - "$expected"
-echo "bindings: the example plugin.rs wrote what tests/plugin.expected has"
+example() { # NAME WORDS...
+    cargo run --quiet --release --offline --example "$@" | diff - "$top/tests/$1.expected"
+    echo "bindings: the example $1.rs wrote what tests/$1.expected has"
+}
+example plugin "$top"/examples/plugin/{compare,compare_early,look_up}.bin
+example turns "$top/examples/lock.bin"
 
 # What the README prints for Rust, as it is printed, in a function that may fail; it lists no bytes.
 {

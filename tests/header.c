@@ -182,6 +182,61 @@ static void a_host_opens_the_monitor(void)
     hold(reply.answer == MILESTARLING_DONE && reply.status == 1 && bytes[0] == 9, "a store that fails");
 }
 
+/* The bytes of the monitor that are left, of a session that watches 4 bytes at 4104 and observes a step by a reply. */
+static uint64_t watched(uint64_t code, uint64_t address, uint64_t status)
+{
+    struct milestarling_session session, before;
+    struct milestarling_step_reply reply;
+    memset(&session, 0xff, sizeof session);
+    session.monitor_address = 4104;
+    session.monitor_size = 4;
+    before = session;
+    reply.answer = MILESTARLING_DONE;
+    reply.code = code;
+    reply.address = address;
+    reply.status = status;
+    milestarling_observe_step(&session, reply);
+    if (session.monitor_size == 0)
+        before.monitor_address = before.monitor_size = 0;
+    hold(same(&session, &before), "observing touches the monitor alone");
+    return session.monitor_size;
+}
+
+static void a_session_observes_a_step_of_anothers(void)
+{
+    hold(watched(68, 4104, 0) == 0 && watched(65, 4107, 0) == 0 && watched(72, 4097, 0) == 0, "a store to what is watched");
+    hold(watched(80, 4103, 0) == 0 && watched(UINT64_MAX, 0, 0) == 0, "a store around it");
+    hold(watched(72, 4096, 0) == 4 && watched(65, 4108, 0) == 4 && watched(65, 4103, 0) == 4, "a store beside it");
+    hold(watched(64, 4104, 0) == 4 && watched(72, UINT64_MAX, 0) == 4, "a store of no bytes, and one at the end");
+    hold(watched(68, 4104, 1) == 4 && watched(68, 4104, 256) == 4, "a store-exclusive that failed");
+    hold(watched(4, 4104, 0) == 4 && watched(63, 4104, 0) == 4 && watched(0, 4104, 0) == 4, "a load, and a refusal");
+}
+
+static void a_session_observes_a_run_of_anothers(void)
+{
+    struct milestarling_session ours, before;
+    struct milestarling_access trace[3];
+    uint8_t statuses[3] = {0, 0, 1};
+    memset(&ours, 0, sizeof ours);
+    ours.monitor_address = 4104;
+    ours.monitor_size = 8;
+    before = ours;
+    trace[0].code = 8;
+    trace[1].code = trace[2].code = MILESTARLING_STORE_CODE + 4;
+    trace[0].address = trace[2].address = 4108;
+    trace[1].address = 4112;
+    milestarling_observe_run(&ours, trace, statuses, 3);
+    milestarling_observe_run(&ours, NULL, NULL, 0);
+    hold(same(&ours, &before), "a run that stores elsewhere, or fails to");
+    statuses[2] = 0;
+    milestarling_observe_run(&ours, trace, statuses, 2);
+    hold(same(&ours, &before), "a store behind the steps done");
+    milestarling_observe_run(&ours, trace, statuses, 3);
+    hold(ours.monitor_address == 0 && ours.monitor_size == 0, "a store to what is watched, by a run");
+    milestarling_observe_run(&ours, NULL, NULL, 3);
+    hold(ours.monitor_size == 0, "an open monitor looks at no trace");
+}
+
 static void a_session_is_changed_in_place(void)
 {
     struct milestarling_memory memory = small();
@@ -226,6 +281,8 @@ int main(void)
     a_run_goes_on_from_a_session();
     taint_bytes_have_a_length_of_their_own();
     a_host_opens_the_monitor();
+    a_session_observes_a_step_of_anothers();
+    a_session_observes_a_run_of_anothers();
     hold(milestarling_list(over, 3, short_line, sizeof short_line).length == MILESTARLING_SHORT_MAX, "the short line");
     for (answer = 0; answer < 64; answer++) {
         const char *text = milestarling_answer_text(answer);

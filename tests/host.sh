@@ -25,6 +25,7 @@ try login.c tests/host.expected
 try login.cpp tests/host.expected
 try stream.c tests/stream.expected
 try lock_host.c tests/lock.expected
+try turns.c tests/turns.expected examples/lock.bin
 try plugin.c tests/plugin.expected examples/plugin/compare.bin examples/plugin/compare_early.bin examples/plugin/look_up.bin
 echo "host: the examples wrote what tests/*.expected have"
 

@@ -29,6 +29,8 @@ int main(void)
 
     ANSWER(struct milestarling_run_reply, milestarling_run(words, 1, session, 0, 0, bytes, 4, taint, 4, trace, 2, statuses, 1));
     ANSWER(struct milestarling_step_reply, milestarling_step(0, &session, 0, 0, bytes, 4, taint, 4));
+    ANSWER(struct milestarling_session, milestarling_opened(session));
+    ANSWER(struct milestarling_session, milestarling_observed(session, 0, 0, 0));
     ANSWER(struct milestarling_text_reply, milestarling_text(0, bytes, 4));
     ANSWER(struct milestarling_word_reply, milestarling_word(bytes, 4));
     ANSWER(struct milestarling_text_reply, milestarling_list(bytes, 4, taint, 4));

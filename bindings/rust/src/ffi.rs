@@ -33,6 +33,8 @@ extern "C" {
         taint_len: usize,
     ) -> StepReply;
     fn milestarling_set_register(session: *mut SessionRecord, number: u32, value: u64, tainted: u8);
+    fn milestarling_opened(session: SessionRecord) -> SessionRecord;
+    fn milestarling_observed(session: SessionRecord, code: u64, address: u64, status: u64) -> SessionRecord;
     fn milestarling_text(word: u32, buffer: *mut u8, buffer_len: usize) -> TextReply;
     fn milestarling_word(text: *const u8, text_len: usize) -> WordReply;
     fn milestarling_list(bytes: *const u8, bytes_len: usize, output: *mut u8, output_len: usize) -> TextReply;
@@ -114,6 +116,18 @@ pub(crate) fn step(
 pub(crate) fn set_register(session: &mut SessionRecord, number: u32, value: u64, tainted: u8) {
     // SAFETY: the record is of C's layout, of which any bits are one.
     unsafe { milestarling_set_register(session, number, value, tainted) }
+}
+
+#[inline]
+pub(crate) fn opened(session: SessionRecord) -> SessionRecord {
+    // SAFETY: the record is of C's layout, of which any bits are one.
+    unsafe { milestarling_opened(session) }
+}
+
+#[inline]
+pub(crate) fn observed(session: SessionRecord, code: u64, address: u64, status: u64) -> SessionRecord {
+    // SAFETY: the record is of C's layout, of which any bits are one.
+    unsafe { milestarling_observed(session, code, address, status) }
 }
 
 #[inline]

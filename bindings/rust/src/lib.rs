@@ -26,8 +26,8 @@
 //! is, which is why [`Session::get`] and [`Session::set`] take a value together with its taint. And it must not
 //! branch on a tainted value, nor take one for an address of its own: [`Session::known`] has none. A host that loads a
 //! letter of a password into X1, sets X2 to `x1 & 15` without its taint, and then steps `ldrb w3, [x7, x2]`, is not
-//! refused, and the trace tells the password. `examples/plugin.rs` is a host that does its duty. And a host that lets
-//! another thread or plugin at the memory opens the session's monitor, by [`Session::open`].
+//! refused, and the trace tells the password. `examples/plugin.rs` is a host that does its duty. And where several sessions
+//! share memory, each one's monitor observes what the others do ([`Session::observe`], [`Session::observe_run`]).
 //!
 //! # An example
 //!

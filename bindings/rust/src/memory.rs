@@ -41,9 +41,29 @@ pub struct Access {
 }
 
 impl Access {
+    /// A store of the host's own, for a session's monitor to observe.
+    ///
+    /// ```
+    /// use milestarling::{Access, Monitor, Session, Step};
+    ///
+    /// let mut session = Session::new();
+    /// session.set_monitor(Some(Monitor { address: 4096, bytes: 4 }));
+    /// session.observe(Step::new(Access::store(4000, b"from 4000 on"), 0));
+    /// assert!(session.monitor().is_some());
+    /// session.observe(Step::new(Access::store(4000, &[0; 100]), 0));
+    /// assert!(session.monitor().is_none());
+    /// ```
+    pub const fn store(address: u64, bytes: &[u8]) -> Access {
+        Access { code: 64 + bytes.len() as u64, address }
+    }
+
     /// The bytes touched.
     pub const fn bytes(self) -> u64 {
-        self.code % 64
+        if self.is_store() {
+            self.code - 64
+        } else {
+            self.code
+        }
     }
 
     /// Whether it stored them.
@@ -150,7 +170,8 @@ impl<M: AsRef<[u8]> + AsMut<[u8]>, T: AsRef<[u8]> + AsMut<[u8]>> Memory<M, T> {
         (place < self.bytes().len()).then_some(place)
     }
 
-    /// Puts bytes at an address, with their taint. It is the host's call: the read-only beginning may be filled too.
+    /// Puts bytes at an address, with their taint. It is the host's call: the read-only beginning may be filled too, and
+    /// the monitors of sessions in this memory have to observe [`Access::store`] of the same, or to be opened.
     ///
     /// # Errors
     ///

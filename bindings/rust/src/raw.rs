@@ -181,6 +181,30 @@ pub fn set_register(session: &mut SessionRecord, number: u32, value: u64, tainte
     ffi::set_register(session, number, value, tainted);
 }
 
+/// A session's record with its monitor open: address and size 0, and all else as it was.
+#[inline]
+#[must_use]
+pub fn opened(session: SessionRecord) -> SessionRecord {
+    ffi::opened(session)
+}
+
+/// A session's record after another's step that showed this code, address and status: with its monitor open exactly if that
+/// step stored a byte that the monitor watches (a code of at least 64, and status 0), and else as it was.
+///
+/// ```
+/// use milestarling::raw::{observed, SessionRecord};
+///
+/// let session = SessionRecord { monitor_address: 4096, monitor_size: 4, ..SessionRecord::default() };
+/// assert_eq!(observed(session, 64 + 1, 4099, 0).monitor_size, 0);
+/// assert_eq!(observed(session, 64 + 1, 4100, 0), session);
+/// assert_eq!(observed(session, 64 + 4, 4096, 1), session); // a store-exclusive that failed
+/// ```
+#[inline]
+#[must_use]
+pub fn observed(session: SessionRecord, code: u64, address: u64, status: u64) -> SessionRecord {
+    ffi::observed(session, code, address, status)
+}
+
 /// Writes the line of a word to the start of a buffer.
 #[inline]
 pub fn text(word: u32, buffer: &mut [u8]) -> TextReply {

@@ -39,28 +39,34 @@ use std::fmt;
 /// # The monitor
 ///
 /// A load-exclusive arms it with its address and size, and a store-exclusive asks it: with the same address and size it
-/// stores, and else it fails and stores nothing. Either way the monitor is open then; no other word touches it. A host
-/// that lets another thread or plugin at the memory between two calls opens it by [`open`](Session::open).
+/// stores, and else it fails and stores nothing. Either way the monitor is open then; no other word of the session touches
+/// it. On a processor it also opens when another stores to the bytes that it watches, and that is the host's to tell it:
+///
+/// - after another session's step in the same memory by [`observe`](Session::observe);
+/// - after another session's run in it by [`observe_run`](Session::observe_run);
+/// - after a write of the host's own, or of a thread that runs no session, by [`open`](Session::open); or by
+///   [`observe`](Session::observe) with [`Access::store`], which opens it only where it watches the bytes.
+///
+/// Without that two sessions take one lock at once. To open it at each turn of another's, whatever that did, is no way out:
+/// two sessions that take turns of one word then never take the lock. `examples/turns.rs` shows all three.
 ///
 /// ```
 /// use milestarling::{Memory, Register, Session, Window};
 ///
 /// # fn main() -> Result<(), milestarling::Refusal> {
 /// let mut memory = Memory::zeroed(Window::at(4096), 8);
-/// let mut session = Session::new();
-/// session.set(Register::X0, 4096, false);
-/// session.set(Register::X2, 1, false);
+/// let mut ours = Session::new();
+/// ours.set(Register::X0, 4096, false);
+/// ours.set(Register::X2, 1, false);
+/// let mut theirs = ours.clone();
 /// let (load, store) = (0x885ffc01, 0x88037c02); // ldaxr w1, [x0]; stxr w3, w2, [x0]
 ///
-/// session.step(&mut memory, load)?;
-/// session.open(); // another plugin's turn
-/// let done = session.step(&mut memory, store)?;
+/// theirs.observe(ours.step(&mut memory, load)?);
+/// ours.observe(theirs.step(&mut memory, load)?);
+/// theirs.observe(ours.step(&mut memory, store)?);
+/// let done = theirs.step(&mut memory, store)?;
 /// assert_eq!(done.to_string(), "store of 4 at 0x1000, which failed");
-/// assert_eq!((session.known(Register::X3), memory.bytes()[0]), (Some(1), 0));
-///
-/// session.step(&mut memory, load)?;
-/// assert!(!session.step(&mut memory, store)?.failed);
-/// assert_eq!((session.known(Register::X3), memory.bytes()[0]), (Some(0), 1));
+/// assert_eq!((ours.known(Register::X3), theirs.known(Register::X3)), (Some(0), Some(1)));
 /// # Ok(())
 /// # }
 /// ```
@@ -167,9 +173,44 @@ impl Session {
         self.record.monitor_size = bytes;
     }
 
-    /// Opens the monitor, as another processor's store would.
+    /// Opens the monitor, whatever it watches: after a write that no step of a session did.
     pub fn open(&mut self) {
-        self.set_monitor(None);
+        self.record = raw::opened(self.record);
+    }
+
+    /// Opens the monitor if another session's step has stored a byte that it watches: a store-exclusive that failed, a load
+    /// and a prefetch have not. A refused step has nothing to be observed.
+    pub fn observe(&mut self, done: Step) {
+        let Access { code, address } = done.access;
+        self.record = raw::observed(self.record, code, address, done.failed.into());
+    }
+
+    /// Opens the monitor if another session's run has stored a byte that it watches.
+    ///
+    /// Trace and statuses are those that the run wrote, of which `steps` count: those of its [`Run`], or of its
+    /// [`Refusal`].
+    ///
+    /// ```
+    /// use milestarling::{Access, Memory, Monitor, Register, Session, Window};
+    ///
+    /// let mut memory = Memory::zeroed(Window::at(4096), 16);
+    /// let (mut ours, mut theirs) = (Session::new(), Session::new());
+    /// ours.set_monitor(Some(Monitor { address: 4096, bytes: 4 }));
+    /// theirs.set(Register::X1, 4096, false);
+    /// let words = [0xf9000420, 0xb9000020, 0]; // str x0, [x1, #8]; str w0, [x1]; not of the set
+    /// let (mut trace, mut statuses) = ([Access::default(); 3], [0; 3]);
+    /// let ran = theirs.run(&mut memory, &words, &mut trace, &mut statuses);
+    /// let steps = ran.map_or_else(|refusal| refusal.steps(), |run| run.steps);
+    /// ours.observe_run(&trace, &statuses, steps);
+    /// assert!(steps == 2 && ours.monitor().is_none());
+    /// ```
+    pub fn observe_run(&mut self, trace: &[Access], statuses: &[u8], steps: usize) {
+        for (&access, &status) in trace.iter().zip(statuses).take(steps) {
+            if self.monitor().is_none() {
+                return;
+            }
+            self.observe(Step::new(access, status));
+        }
     }
 
     /// Does one word.

@@ -156,6 +156,17 @@ fn a_run_not_begun_changes_nothing() {
 }
 
 #[test]
+fn an_access_says_its_bytes() {
+    let load = Access { code: 16, address: 4096 };
+    assert_eq!((load.bytes(), load.is_store(), load.is_prefetch()), (16, false, false));
+    for bytes in [&[][..], &[1], &[0; 100]] {
+        let store = Access::store(4096, bytes);
+        assert_eq!((store.bytes(), store.is_store(), store.address), (bytes.len() as u64, true, 4096));
+    }
+    assert_eq!(Access::store(4096, &[0; 100]).to_string(), "store of 100 at 0x1000");
+}
+
+#[test]
 fn answers_have_their_numbers() {
     let numbers = [0, 1, 2, 3, 4, 5, 6, 7, 8, 9, 10, 11, 16];
     assert_eq!(Answer::ALL.iter().map(|answer| answer.number()).collect::<Vec<u8>>(), numbers);

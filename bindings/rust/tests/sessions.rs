@@ -1,10 +1,11 @@
-//! The session's record: its layout, and steps in place over random records, held against the reference.
+//! The session's record: its layout, steps in place over random records, held against the reference, and what its monitor
+//! observes.
 
 mod reference;
 mod support;
 
 use milestarling::raw::{self, SessionRecord, StepReply};
-use milestarling::{Memory, Register, Session, TaintedBytes, Window as Place};
+use milestarling::{Access, Memory, Monitor, Register, Session, Step, TaintedBytes, Window as Place};
 use reference::running::{self, Window};
 use reference::DONE;
 use std::mem::{align_of, size_of};
@@ -102,6 +103,60 @@ fn setting_a_register_changes_that_one() {
         }
         assert_eq!(record, expected, "register {number}");
     }
+}
+
+/// The record with its monitor open if one of the bytes that were stored is one that it watches, each as a whole number.
+fn observed(record: &SessionRecord, code: u64, address: u64, status: u64) -> SessionRecord {
+    let stored = if code >= 64 && status == 0 { u128::from(code - 64) } else { 0 };
+    let (first, watch) = (u128::from(address), u128::from(record.monitor_address));
+    let both = watch.max(first)..(watch + u128::from(record.monitor_size)).min(first + stored);
+    let (monitor_address, monitor_size) =
+        if both.is_empty() { (record.monitor_address, record.monitor_size) } else { (0, 0) };
+    SessionRecord { monitor_address, monitor_size, ..*record }
+}
+
+#[test]
+fn a_monitor_opens_by_what_another_stores() {
+    let mut random = Random::new(13);
+    let mut opened = 0;
+    for _ in 0..CASES {
+        let mut before = any_record(&mut random);
+        if random.once_in(16) {
+            before.monitor_size = 0;
+        }
+        let code = match random.below(8) {
+            0 => about_power(&mut random),
+            1 => random.below(64) as u64,
+            _ => 64 + random.below(20) as u64,
+        };
+        let near = before.monitor_address.wrapping_add(random.below(32) as u64).wrapping_sub(20);
+        let address = if random.once_in(8) { about_power(&mut random) } else { near };
+        let status = if random.once_in(4) { about_power(&mut random) } else { 0 };
+
+        let expected = observed(&before, code, address, status);
+        assert_eq!(raw::observed(before, code, address, status), expected, "{code} {address:x} {status}");
+        opened += usize::from(expected != before);
+        let mut session = Session::from_raw(before);
+        session.observe(Step::new(Access { code, address }, status.min(1) as u8));
+        assert_eq!(*session.as_raw_mut(), expected);
+        let open = SessionRecord { monitor_address: 0, monitor_size: 0, ..before };
+        assert_eq!(raw::opened(before), open);
+    }
+    assert!(opened > CASES / 20, "only {opened} were opened");
+}
+
+#[test]
+fn a_run_is_observed_as_its_steps() {
+    let store = |address| Access { code: 68, address };
+    let trace = [Access { code: 4, address: 4096 }, store(4100), store(4096), store(4097)];
+    let left = |statuses: &[u8], steps| {
+        let mut session = Session::new();
+        session.set_monitor(Some(Monitor { address: 4096, bytes: 4 }));
+        session.observe_run(&trace, statuses, steps);
+        session.monitor().is_some()
+    };
+    assert!(left(&[0; 4], 0) && left(&[0; 4], 2) && left(&[0, 0, 1, 1], 4) && left(&[0, 0], 4));
+    assert!(!left(&[0; 4], 3) && !left(&[0; 4], 4) && !left(&[0; 4], 9) && !left(&[0, 0, 1, 0], 4));
 }
 
 #[test]
