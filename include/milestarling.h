@@ -18,9 +18,10 @@
  * `ldrb w3, [x7, x2]`, gets answer 0 and a trace whose address tells the password. With x2's taint set it gets answer 5.
  * examples/plugin.c is a host that does its duty.
  *
- * A slice is a pointer and the number of its elements. The pointer is never null, even where the length is 0. A slice
- * that isn't const overlaps no other slice of the call: to run a word that stands in memory, copy the word out first and
- * hand in the copy. A session that is lent is as such a slice. Beyond that no function has a condition to meet.
+ * A slice is a pointer and the number of its elements. The pointer is never null, even where the length is 0, and points to
+ * so many elements. A slice that isn't const overlaps no other slice of the call, and nobody else touches it meanwhile: to
+ * run a word that stands in memory, copy the word out first and hand in the copy. A session that is lent is as such a
+ * slice. Beyond that no function has a condition to meet.
  *
  * Threads: nothing here is static, and a call touches what it is lent and nothing else. So calls that are lent different
  * sessions, memory and output may go on at the same time; those that are lent the same need a lock of the host's. Where
@@ -123,6 +124,10 @@ struct milestarling_word_reply {
  * takes, and gets an answer: any taint byte but 0 is a taint, and a step leaves 0 or 1 in those that it sets; a pc that
  * isn't a multiple of 4 is answer 1; and a monitor may hold any two numbers.
  *
+ * A step adds 4 to pc where it is done, modulo 2^64, and keeps it where it is refused; a literal's address counts from pc
+ * as it is before the step. A host that computes a word by itself moves pc itself, as the loop at the head of this file
+ * says. Memory is little-endian: the byte at the lowest address is the lowest of a number.
+ *
  * The monitor is armed by a load-exclusive with its address and size, and is open where its size is 0. A store-exclusive
  * asks it: with the same address and size it stores, and its status is 0; otherwise it stores nothing, taints included,
  * and its status is 1. Either way the monitor is open then. No other word of the session looks at it or touches it, and a
@@ -167,13 +172,15 @@ struct milestarling_step_reply {
 /*
  * A lister of a stream, which the host keeps and hands on by value from call to call: the bytes behind the last whole
  * word, how many of them count, 0 to 3, and whether it is closed, which any number but 0 says. One of zeros is a new
- * one: `struct milestarling_lister lister = {0};`. Every lister is one that a call takes, and gets an answer.
+ * one: `struct milestarling_lister lister = {0};`. Every lister is one that a call takes, and gets an answer. What a closed
+ * one still holds, nothing reads.
  */
 struct milestarling_lister {
     uint8_t first, second, third, count, closed;
 };
 
-/* The lister after the call, and where the answer isn't 0 the one that was handed in; the length is 0 then. */
+/* The lister after the call, and where the answer isn't 0 the one that was handed in; the length is 0 then. The three bytes
+   of padding behind the lister aren't determined; no other struct of the library has any. */
 struct milestarling_lister_reply {
     struct milestarling_lister lister;
     uint64_t answer;

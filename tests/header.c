@@ -30,6 +30,8 @@ SESSION_AT(monitor_size, 304);
 typedef char session_has_312_bytes[sizeof(struct milestarling_session) == 312 ? 1 : -1];
 typedef char reply_has_32_bytes[sizeof(struct milestarling_step_reply) == 32 ? 1 : -1];
 typedef char run_reply_has_344_bytes[sizeof(struct milestarling_run_reply) == 344 ? 1 : -1];
+typedef char lister_has_5_bytes[sizeof(struct milestarling_lister) == 5 ? 1 : -1];
+typedef char lister_reply_has_24_bytes[sizeof(struct milestarling_lister_reply) == 24 ? 1 : -1];
 typedef char memory_has_48_bytes[sizeof(struct milestarling_memory) == 48 ? 1 : -1];
 
 static int same(const struct milestarling_session *one, const struct milestarling_session *other)

@@ -1,7 +1,8 @@
 //! The library's functions as they are: slices and numbers in, numbers out.
 //!
 //! For hosts that keep sessions, trace and buffers in a layout of their own. Answers are the numbers of documents
-//! 01 and 02; [`Answer::try_from`](crate::Answer) names them. No function here has a condition that its caller must meet.
+//! 01 and 02; [`Answer::try_from`](crate::Answer) names them. No function here has a condition that its caller must meet:
+//! what C's pointers have to be, a slice is.
 //!
 //! ```
 //! let mut buffer = [0; 32];

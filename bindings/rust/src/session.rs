@@ -148,12 +148,13 @@ impl Session {
         raw::set_register(&mut self.record, register.number() as u32, value, tainted.into());
     }
 
-    /// The program counter.
+    /// The program counter. A step adds 4 to it where it is done, modulo 2^64, and keeps it where it is refused; a literal's
+    /// address counts from it as it is before the step.
     pub const fn pc(&self) -> u64 {
         self.record.pc
     }
 
-    /// Sets the program counter.
+    /// Sets the program counter, as a host does that has computed a word by itself.
     pub fn set_pc(&mut self, pc: u64) {
         self.record.pc = pc;
     }
@@ -213,7 +214,7 @@ impl Session {
         }
     }
 
-    /// Does one word.
+    /// Does one word. Memory is little-endian: the byte at the lowest address is the lowest of a number.
     ///
     /// # Errors
     ///
