@@ -38,13 +38,15 @@ pub record Inside (total a origin len : ℕ) : Type 0 where
   pub starts : origin ≤ a
   pub ends : a + total ≤ origin + len
 
-inside-at : (total a origin len : ℕ) (t : Bool) → ltb a origin ≡ t → pick t true (ltb (origin + len) (a + total)) ≡ false → Inside total a origin len
-inside-at total a origin len true e h = absurd (let z : _≡_ {A = ℕ} 0 1 = cc in omega arith)
-inside-at total a origin len false e h = record { starts = ltb-false a origin e; ends = ltb-false (origin + len) (a + total) h }
+inside-at : (a origin far end : ℕ) (t : Bool) → ltb a origin ≡ t → pick t true (ltb far end) ≡ false → (origin ≤ a) × (end ≤ far)
+inside-at a origin far end true e h = absurd (let z : _≡_ {A = ℕ} 0 1 = cc in omega arith)
+inside-at a origin far end false e h = (ltb-false a origin e, ltb-false far end h)
 
 pub not-outside : (total a origin len : ℕ) → outside total a origin len ≡ false → Inside total a origin len
 unfolding outside
-not-outside total a origin len h = inside-at total a origin len (ltb a origin) refl h
+not-outside total a origin len h =
+    let p = inside-at a origin (origin + len) _ (ltb a origin) refl h in
+    record { starts = p .0; ends = omega (arith, p .1) }
 
 -- an admitted access lies in the window
 pub admit-inside : (w : Window) (len : ℕ) (t : Transfer) (a : ℕ) → Passed (admitOf w len t a) → Inside (totalOf t) a (w .origin) len

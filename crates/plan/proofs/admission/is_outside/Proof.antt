@@ -1,5 +1,6 @@
 -- `plan::admission::is_outside` meets its contract. Assumes nothing.
 use Prim.Native.Nat.{_+_, _-_}
+use mathlib.Core.Path.{sym}
 use native.Mathlib.Omega.{arith}
 use borrow.Author.Tests.{lt-ltb, le-ltb}
 use Rattle.plan.specs.Admission.{outside}
@@ -15,7 +16,7 @@ is-outside-spec =
     (λ c. rw (lt-ltb _ _ (c .if1 .taken)))
     (λ c.
     let a = c .before .before .args in
-    rw (le-ltb _ _ (c .before .if1 .left), lt-ltb (a .origin + a .len) (a .address + a .total) (omega arith)))
+    rw (le-ltb _ _ (c .before .if1 .left)) (sym (lt-ltb (a .origin + a .len) _ (omega arith))))
     (λ c.
     let a = c .before .before .args in
-    rw (le-ltb _ _ (c .before .if1 .left)) (same-test (a .len - (a .address - a .origin)) (a .total) (a .origin + a .len) (a .address + a .total) (λ h. omega arith) (λ h. omega arith))))
+    rw (le-ltb _ _ (c .before .if1 .left)) (same-test (a .len - (a .address - a .origin)) _ (a .origin + a .len) _ (λ h. omega arith) (λ h. omega arith))))
