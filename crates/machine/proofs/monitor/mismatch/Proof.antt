@@ -1,4 +1,5 @@
 -- `machine::monitor::mismatch` meets its contract. Assumes nothing.
+use native.Mathlib.Omega.{arith}
 use borrow.Author.Tests.{eq-eqb, ne-eqb}
 use Rattle.machine.specs.Monitor.{matches}
 use Rattle.machine.proofs.monitor.mismatch.Statement.{statement}
@@ -9,6 +10,12 @@ unfolding matches
 mismatch-spec =
     tie.close
     (tie.spec
-    (λ c. rw (eq-eqb _ _ (c .before .before .if1 .taken), eq-eqb _ _ (c .if2 .taken)))
-    (λ c. rw (eq-eqb _ _ (c .before .before .if1 .taken), ne-eqb _ _ (c .if2 .left)))
-    (λ c. rw (ne-eqb _ _ (c .if1 .left))))
+    (λ c.
+    let a = c .before .before .before .before .args in
+    rw (eq-eqb (a .monitor .address) (a .address) (omega arith), eq-eqb (a .monitor .size) (a .size) (omega arith)))
+    (λ c.
+    let a = c .before .before .before .before .args in
+    rw (eq-eqb (a .monitor .address) (a .address) (omega arith), ne-eqb (a .monitor .size) (a .size) (λ h. omega arith)))
+    (λ c.
+    let a = c .before .before .args in
+    rw (ne-eqb (a .monitor .address) (a .address) (λ h. omega arith))))
