@@ -27,7 +27,7 @@ use Rattle.plan.specs.Admission.{misaligned, unaligned}
 use Rattle.machine.specs.Monitor.{matches, statusOf, monitorAfter, writtenBack, fails, madeOf}
 use Rattle.machine.specs.Rule.{moveRule}
 use Rattle.machine.specs.Machine.{Machine, storedBytes}
-use Rattle.arm.specs.Pseudocode.{Arm, LOAD, STORE, ZeroExtend, Extend, Add, X, setX, base, Mem, setMem, Operation, hint, SetExclusiveMonitors, ClearExclusiveLocal, ExclusiveMonitorsPass, CheckSPAlignment, loads, stores, storesExclusive, case}
+use Rattle.arm.specs.Pseudocode.{Arm, LOAD, STORE, ZeroExtend, Extend, Add, X, setX, base, Mem, setMem, Operation, hint, SetExclusiveMonitors, ClearExclusiveLocal, ExclusiveMonitorsPass, CheckSPAlignment, loads, stores, access, storesExclusive, case}
 use Rattle.arm.specs.Exclusive.{loadExclusive, storeExclusive}
 use Rattle.arm.specs.AcquireRelease.{acquireRelease}
 use Rattle.arm.specs.Marks.{marksOf}
@@ -101,10 +101,10 @@ module _ (w : Window) (m : Machine) (r : Ready w m) (word : ℕ) (stray : Bool) 
   left-marks k h false = status-marks false (w .origin) word address (m .taints) (r .real .marks) h k k true
 
   -- with what the monitor says
-  by : (k : ℕ) → 0 < k → k ≤ 16 → wordAccess word ≡ Moves (single true true false k k t) (based (field 9 5 word) 0 false (zeroSlot rs)) → (pass : Bool)
-      → ExclusiveMonitorsPass address k (armOf w m) ≡ pass → Steps w m StoreExclusiveRow word (faulty m stray (storesExclusive address k (pick pass 0 1) (left k pass)))
+  made : (k : ℕ) → 0 < k → k ≤ 16 → wordAccess word ≡ Moves (single true true false k k t) (based (field 9 5 word) 0 false (zeroSlot rs)) → (pass : Bool)
+      → ExclusiveMonitorsPass address k (armOf w m) ≡ pass → Steps w m StoreExclusiveRow word (faulty m stray (access true address k (pick pass 0 1) (left k pass)))
   unfolding based statusOf writtenBack monitorAfter
-  by k l q e pass f =
+  made k l q e pass f =
       access-step w m (r .top) StoreExclusiveRow word (single true true false k k t) _ stray address k (pick pass 0 1) (left k pass)
       (record {
         access = e;
@@ -121,6 +121,12 @@ module _ (w : Window) (m : Machine) (r : Ready w m) (word : ℕ) (stray : Bool) 
         monitor = left-monitor k pass;
       })
       true refl
+
+  -- and as the page says it, with either status
+  by : (k : ℕ) → 0 < k → k ≤ 16 → wordAccess word ≡ Moves (single true true false k k t) (based (field 9 5 word) 0 false (zeroSlot rs)) → (pass : Bool)
+      → ExclusiveMonitorsPass address k (armOf w m) ≡ pass → Steps w m StoreExclusiveRow word (faulty m stray (storesExclusive address k (pick pass 0 1) (left k pass)))
+  by k l q e true f = made k l q e true f
+  by k l q e false f = made k l q e false f
 
   pub status-store : (k : ℕ) → 0 < k → k ≤ 16 → wordAccess word ≡ Moves (single true true false k k t) (based (field 9 5 word) 0 false (zeroSlot rs))
       → let pass = ExclusiveMonitorsPass address k (armOf w m) in

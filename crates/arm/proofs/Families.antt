@@ -346,33 +346,38 @@ module _ (w : Window) (m : Machine) (r : Ready w m) (word : ℕ) where
         apart = λ h. absurd (never h);
       }
 
-  literal-load : (k extent width : ℕ) (g : ℕ → ℕ) → ((v : ℕ) → v < 256 ^ k → extendedOf k extent v ≡ g v) → 0 < k → k ≤ 16
-      → wordAccess word ≡ literalMoves k extent (literalIn word)
-      → let address = Add (m .pc) offset19 in
-      Steps w m LiteralRow word (loads address k (setX (field 4 0 word) width (g (Mem address k (armOf w m))) (armOf w m)))
-  unfolding literalMoves literalTransfer literalIn
-  literal-load k extent width g x p q e =
-      one-load w m r LiteralRow word (literalMode offset19) false false false false _ _ (literal-form offset19) refl k extent width g p q x
-      (e ∙ ap (λ (o : ℕ). Moves (literalTransfer k extent (field 4 0 word)) (literalMode o)) (sym (imm19-is (field 23 5 word) (part-lt 5 19 word))))
+  -- at an address that is the sum of the two
+  module _ (address : ℕ) (at : address ≡ Add (m .pc) offset19) where
+    literal-load : (k extent width : ℕ) (g : ℕ → ℕ) → ((v : ℕ) → v < 256 ^ k → extendedOf k extent v ≡ g v) → 0 < k → k ≤ 16
+        → wordAccess word ≡ literalMoves k extent (literalIn word)
+        → Steps w m LiteralRow word (loads address k (setX (field 4 0 word) width (g (Mem address k (armOf w m))) (armOf w m)))
+    unfolding literalMoves literalTransfer literalIn
+    literal-load k extent width g x p q e =
+        rw at
+        (one-load w m r LiteralRow word (literalMode offset19) false false false false _ _ (literal-form offset19) refl k extent width g p q x
+        (e ∙ ap (λ (o : ℕ). Moves (literalTransfer k extent (field 4 0 word)) (literalMode o)) (sym (imm19-is (field 23 5 word) (part-lt 5 19 word)))))
 
-  -- the page, by opc
-  abbrev literalPage : ℕ → Operation
-  literalPage opc =
-      let s = armOf w m in
-      let t = field 4 0 word in
-      let size : ℕ = pick (eqb opc 0b01) 8 4 in
-      let address = Add (m .pc) offset19 in
-      case (pick (eqb opc 0b11) PREFETCH LOAD)
-      hint
-      (loads address size (pick (eqb opc 0b10) (setX t 64 (SignExtend (size * 8) 64 (Mem address size s)) s) (setX t (size * 8) (Mem address size s) s)))
-      hint
+    -- the page, by opc
+    abbrev literalPage : ℕ → Operation
+    literalPage opc =
+        let s = armOf w m in
+        let t = field 4 0 word in
+        let size : ℕ = pick (eqb opc 0b01) 8 4 in
+        case (pick (eqb opc 0b11) PREFETCH LOAD)
+        hint
+        (loads address size (pick (eqb opc 0b10) (setX t 64 (SignExtend (size * 8) 64 (Mem address size s)) s) (setX t (size * 8) (Mem address size s) s)))
+        hint
+
+    literal-at : wordAccess word ≡ literalAccess (literalAt (field 31 30 word)) (literalIn word) → Steps w m LiteralRow word (literalPage (field 31 30 word))
+    unfolding literalAt literalMoves
+    literal-at e =
+        four (λ opc. wordAccess word ≡ literalAccess (literalAt opc) (literalIn word) → Steps w m LiteralRow word (literalPage opc))
+        (λ e. literal-load 4 4 32 (λ v. v) (λ v h. extended-none 4 v) (omega arith) (omega arith) e)
+        (λ e. literal-load 8 8 64 (λ v. v) (λ v h. extended-none 8 v) (omega arith) (omega arith) e)
+        (λ e. literal-load 4 8 64 (SignExtend 32 64) (λ v. extended-is 3 8 v (omega arith)) (omega arith) (omega arith) e)
+        (λ e. hints-step w m LiteralRow word e)
+        (field 31 30 word) size-lt e
 
   pub literal-step : wordAccess word ≡ familyAccess (columnsOf LiteralRow .family word) → Steps w m LiteralRow word (literal word (armOf w m))
-  unfolding literal literalAt literalMoves
-  literal-step e =
-      four (λ opc. wordAccess word ≡ literalAccess (literalAt opc) (literalIn word) → Steps w m LiteralRow word (literalPage opc))
-      (λ e. literal-load 4 4 32 (λ v. v) (λ v h. extended-none 4 v) (omega arith) (omega arith) e)
-      (λ e. literal-load 8 8 64 (λ v. v) (λ v h. extended-none 8 v) (omega arith) (omega arith) e)
-      (λ e. literal-load 4 8 64 (SignExtend 32 64) (λ v. extended-is 3 8 v (omega arith)) (omega arith) (omega arith) e)
-      (λ e. hints-step w m LiteralRow word e)
-      (field 31 30 word) size-lt e
+  unfolding literal Add part
+  literal-step e = literal-at _ (omega arith) e

@@ -290,19 +290,27 @@ module _ (w : Window) (m : Machine) (r : Ready w m) (word : ℕ) where
         let k = known-pair u in
         all wback postindex h (λ e. bases-apart v (h ∙ e) .0) (λ e. bases-apart v (h ∙ e) .1) (field 31 30 word) (field 22 22 word) (part-lt 30 2 word) (part-lt 22 1 word) (k .0) (k .1)
 
+    -- as the four encodings share it
+    shared : (wback postindex : Bool) → eqb (field 23 23 word) 1 ≡ wback
+        → wordAccess word ≡ accessBy w m word wback postindex (field 31 30 word) (field 22 22 word) (twosComplement (signedOf 64 (pairBytes (pairOpIn word)) (field 21 15 word)))
+        → Steps w m PairRow word (paired wback postindex word (armOf w m))
+    unfolding paired pairOpIn
+    shared wback true h e = by wback true h e
+    shared wback false h e = by wback false h e
+
     abbrev accessIn : ℕ → Access
     accessIn mode =
         let op = pairOpIn word in
         Moves (pairTransfer op (field 4 0 word) (field 14 10 word)) (pairedMode (modeAt mode) (field 9 5 word) (twosComplement (signedOf 64 (pairBytes op) (field 21 15 word))))
 
     modes : (mode : ℕ) → mode < 4 → field 24 23 word ≡ mode → wordAccess word ≡ accessIn mode → Steps w m PairRow word (pair word (armOf w m))
-    unfolding pair paired pairOpIn modeAt
+    unfolding pair pairOpIn modeAt part
     modes =
         four (λ mode. field 24 23 word ≡ mode → wordAccess word ≡ accessIn mode → Steps w m PairRow word (pair word (armOf w m)))
-        (λ f e. rw f (by false false (rw (low-mode 0 f)) e))
-        (λ f e. rw f (by true true (rw (low-mode 1 f)) e))
-        (λ f e. rw f (by false false (rw (low-mode 2 f)) e))
-        (λ f e. rw f (by true false (rw (low-mode 3 f)) e))
+        (λ f e. rw f (shared false false (rw (low-mode 0 f)) e))
+        (λ f e. rw f (shared true true (rw (low-mode 1 f)) e))
+        (λ f e. rw f (shared false false (rw (low-mode 2 f)) e))
+        (λ f e. rw f (shared true false (rw (low-mode 3 f)) e))
 
     pub pair-step : wordAccess word ≡ familyAccess (columnsOf PairRow .family word) → Steps w m PairRow word (pair word (armOf w m))
     unfolding pairAccess pairIn
