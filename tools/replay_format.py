@@ -17,6 +17,9 @@ The lines of a case, fields parted by tabs:
 
 No memory, taint or statuses gives an empty field after its tab, and no trace gives `trace` alone, since it has no fields.
 
+A case is done by the run and then by single steps, which have to come to the same lines. Where they don't, the line `case`,
+number, `by steps` follows, and then those of the steps: what must come has none of these.
+
 A case over the limits gives the one line `case`, number, `too large`, and input that ends inside a case the one line
 `case`, number, `cut short`; nothing comes after either. The limits are looked at once the ten numbers are there, so
 a case over them needs no more, and fewer than ten numbers are cut short whatever they are.

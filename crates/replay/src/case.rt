@@ -1,12 +1,13 @@
 // A case of the input, little-endian: ten numbers, the 32 registers and a byte of taint for each, the words, memory, and
-// its taint bytes. It is read piece by piece into buffers that its sizes are tested against.
-use crate::input;
+// its taint bytes. It is read piece by piece into buffers that its sizes are tested against, and done twice from its start.
 use crate::show;
-use execution::Ran;
+use crate::steps;
+use host::RunReply;
 use machine::Monitor;
 use machine::State;
-use machine::Window;
 ghost use Prim.Native.Nat.{_≤_};
+ghost use mathlib.Core.Path.{_≡_};
+ghost use lib.ListN.{length};
 
 // What a case has at most.
 const MOST_WORDS: usize = 512;
@@ -35,14 +36,14 @@ struct Head {
 
 // Replays the next case of the input, and says whether to go on: not where the input ends, nor after a case
 // that is cut short or too large, nor after a write that failed.
-pub fn replay(number: u64, output: &mut [u8]) -> bool {
+pub fn replay(number: u64, output: &mut [u8], again: &mut [u8]) -> bool {
     let mut bytes = [0u8; 80];
-    let n = input::read(&mut bytes);
+    let n = console::fill(&mut bytes);
     if n == 0 {
         return false;
     }
     if n < 80 {
-        show::refusal(output, number, b"cut short");
+        fields::remark(output, number, b"cut short");
         return false;
     }
     let head = head_of(&bytes);
@@ -52,35 +53,107 @@ pub fn replay(number: u64, output: &mut [u8]) -> bool {
         || head.trace > MOST_TRACE
         || head.statuses > MOST_STATUSES
     {
-        show::refusal(output, number, b"too large");
+        fields::remark(output, number, b"too large");
         return false;
     }
-    replay_sized(number, head, output)
+    replay_sized(number, head, output, again)
 }
 
 fn head_of(bytes: &[u8]) -> Head {
     Head {
-        words: input::number(bytes, 0) as usize,
-        memory: input::number(bytes, 8) as usize,
-        taint: input::number(bytes, 16) as usize,
-        trace: input::number(bytes, 24) as usize,
-        statuses: input::number(bytes, 32) as usize,
-        origin: input::number(bytes, 40),
-        readonly: input::number(bytes, 48),
-        pc: input::number(bytes, 56),
-        address: input::number(bytes, 64),
-        size: input::number(bytes, 72),
+        words: fields::number(bytes, 0, 8) as usize,
+        memory: fields::number(bytes, 8, 8) as usize,
+        taint: fields::number(bytes, 16, 8) as usize,
+        trace: fields::number(bytes, 24, 8) as usize,
+        statuses: fields::number(bytes, 32, 8) as usize,
+        origin: fields::number(bytes, 40, 8),
+        readonly: fields::number(bytes, 48, 8),
+        pc: fields::number(bytes, 56, 8),
+        address: fields::number(bytes, 64, 8),
+        size: fields::number(bytes, 72, 8),
     }
 }
 
-// A case within the limits. Its buffers are cut to its sizes.
-fn replay_sized(number: u64, head: Head, output: &mut [u8]) -> bool
+// A case within the limits.
+fn replay_sized(number: u64, head: Head, output: &mut [u8], again: &mut [u8]) -> bool
     requires { ⌜ (head .words ≤ 512) × (head .memory ≤ 4096) × (head .taint ≤ 4096) × (head .trace ≤ 1024) × (head .statuses ≤ 512) ⌝ }
 {
     // The registers with their taints, and 512 words.
     let mut start = [0u8; 2336];
     let mut memory = io::buffer();
     let mut taint = io::buffer();
+    let start_end = 288 + 4 * head.words;
+    let memory_end = head.memory;
+    let taint_end = head.taint;
+    if !read_rest(
+        &mut start[0..start_end],
+        &mut memory[0..memory_end],
+        &mut taint[0..taint_end],
+    ) {
+        fields::remark(output, number, b"cut short");
+        return false;
+    }
+    replay_read(number, head, start, memory, taint, output, again)
+}
+
+// Says whether the input had as much.
+fn read_rest(start: &mut [u8], memory: &mut [u8], taint: &mut [u8]) -> bool {
+    if !fields::fill(start) {
+        return false;
+    }
+    if !fields::fill(memory) {
+        return false;
+    }
+    fields::fill(taint)
+}
+
+// A case that is read: the lines of its run, and those of its steps where they are others.
+fn replay_read(
+    number: u64,
+    head: Head,
+    start: [u8; 2336],
+    memory: [u8; 4096],
+    taint: [u8; 4096],
+    output: &mut [u8],
+    again: &mut [u8],
+) -> bool
+    requires { ⌜ (head .words ≤ 512) × (head .memory ≤ 4096) × (head .taint ≤ 4096) × (head .trace ≤ 1024) × (head .statuses ≤ 512) ⌝ }
+{
+    let end = put_case(output, number, head, start, memory, taint, false);
+    if !console::write(output, end) {
+        return false;
+    }
+    if !is_stepped(head) {
+        return true;
+    }
+    let again_end = put_case(again, number, head, start, memory, taint, true);
+    if show::is_same(output, end, again, again_end) {
+        return true;
+    }
+    if !fields::remark(output, number, b"by steps") {
+        return false;
+    }
+    console::write(again, again_end)
+}
+
+// A run that lacks room for what it notes isn't begun, for which there is no step; nor is there one without a word. Whatever
+// else a run is refused for before its first step, that step is.
+fn is_stepped(head: Head) -> bool {
+    head.words != 0 && head.words <= head.trace / 2 && head.words <= head.statuses
+}
+
+// The lines of a case, by its run or by its steps. Its buffers are cut to its sizes.
+fn put_case(
+    output: &mut [u8],
+    number: u64,
+    head: Head,
+    start: [u8; 2336],
+    mut memory: [u8; 4096],
+    mut taint: [u8; 4096],
+    by_steps: bool,
+) -> usize
+    requires { ⌜ (head .words ≤ 512) × (head .memory ≤ 4096) × (head .taint ≤ 4096) × (head .trace ≤ 1024) × (head .statuses ≤ 512) ⌝ }
+{
     let mut trace = [u64::MAX; 1024];
     let mut statuses = [u8::MAX; 512];
     let start_end = 288 + 4 * head.words;
@@ -88,40 +161,22 @@ fn replay_sized(number: u64, head: Head, output: &mut [u8]) -> bool
     let taint_end = head.taint;
     let trace_end = head.trace;
     let statuses_end = head.statuses;
-    replay_in(
+    put_done(
+        output,
         number,
         head,
-        &mut start[0..start_end],
+        &start[0..start_end],
         &mut memory[0..memory_end],
         &mut taint[0..taint_end],
         &mut trace[0..trace_end],
         &mut statuses[0..statuses_end],
-        output,
+        by_steps,
     )
 }
 
-// A case in buffers of its sizes.
-fn replay_in(
-    number: u64,
-    head: Head,
-    start: &mut [u8],
-    memory: &mut [u8],
-    taint: &mut [u8],
-    trace: &mut [u64],
-    statuses: &mut [u8],
+// The same in buffers of its sizes.
+fn put_done(
     output: &mut [u8],
-) -> bool
-    requires { ⌜ head .words ≤ 512 ⌝ }
-{
-    if !read_rest(start, memory, taint) {
-        show::refusal(output, number, b"cut short");
-        return false;
-    }
-    replay_read(number, head, start, memory, taint, trace, statuses, output)
-}
-
-// A case that is read.
-fn replay_read(
     number: u64,
     head: Head,
     start: &[u8],
@@ -129,56 +184,71 @@ fn replay_read(
     taint: &mut [u8],
     trace: &mut [u64],
     statuses: &mut [u8],
-    output: &mut [u8],
-) -> bool
+    by_steps: bool,
+) -> usize
     requires { ⌜ head .words ≤ 512 ⌝ }
 {
-    let ran = replay_words(head, start, memory, taint, trace, statuses);
-    show::case(output, number, ran, memory, taint, trace, statuses)
+    let ran = done(head, start, memory, taint, trace, statuses, by_steps);
+    show::put_case(output, number, ran, memory, taint, trace, statuses)
 }
 
-// Says whether the input had as much.
-fn read_rest(start: &mut [u8], memory: &mut [u8], taint: &mut [u8]) -> bool {
-    if !input::fill(start) {
-        return false;
-    }
-    if !input::fill(memory) {
-        return false;
-    }
-    input::fill(taint)
-}
-
-fn replay_words(
+fn done(
     head: Head,
     start: &[u8],
     memory: &mut [u8],
     taint: &mut [u8],
     trace: &mut [u64],
     statuses: &mut [u8],
-) -> Ran
+    by_steps: bool,
+) -> RunReply
     requires { ⌜ head .words ≤ 512 ⌝ }
 {
     let count = head.words;
     let state = State {
-        registers: input::registers(start),
+        registers: fields::registers(start),
         pc: head.pc,
         monitor: Monitor {
             address: head.address,
             size: head.size,
         },
     };
-    let window = Window {
-        origin: head.origin,
-        readonly: head.readonly,
-    };
-    let words = input::words(start, count);
-    execution::run(
+    let origin = head.origin;
+    let readonly = head.readonly;
+    let words = words_of(start, count);
+    if by_steps {
+        return steps::run(
+            &words[0..count],
+            state,
+            origin,
+            readonly,
+            memory,
+            taint,
+            trace,
+            statuses,
+        );
+    }
+    host::milestarling_run(
         &words[0..count],
         state,
-        window,
+        origin,
+        readonly,
         memory,
         taint,
         trace,
         statuses,
     )
+}
+
+// The words behind the registers, as many as said.
+fn words_of(start: &[u8], count: usize) -> [u32; 512]
+    requires { ⌜ count ≤ 512 ⌝ }
+    ensures { λ r. ⌜ 512 ≡ length r ⌝ }
+{
+    let mut words = [0u32; 512];
+    let mut i = 0;
+    while i < count {
+        words[i] = (fields::number(start, 288 + 4 * i, 4) % 0x1_0000_0000) as u32;
+        i += 1;
+    }
+    words
 }

@@ -7,10 +7,10 @@ use Rattle.replay.proofs.main.Statement.{statement}
 use Rattle.replay.proofs.main.Tie as tie
 
 abbrev Inv-loop : tie.InvT-loop
-Inv-loop output₀ number₀ output number = length output ≡ 65536
+Inv-loop output₀ again₀ number₀ output again number = (length output ≡ 65536) × (length again ≡ 65536)
 
 abbrev μ-loop : tie.MeasureT-loop
-μ-loop output₀ number₀ output number = 2 ^ 64 - number
+μ-loop output₀ again₀ number₀ output again number = 2 ^ 64 - number
 
 pub main-spec : {M : Type 1} → statement M
 main-spec =
@@ -19,6 +19,8 @@ main-spec =
     Inv-loop
     μ-loop
     (λ c κs. search needs)
+    (λ c κs. search needs)
+    (λ c. search needs)
     (λ c. search needs)
     (λ c. search needs)
     (λ c κs. search needs)

@@ -1,19 +1,19 @@
--- `replay::input::words` meets its contract and ends. The measure is the words that are left. Assumes nothing.
+-- `replay::case::words_of` meets its contract and ends. The measure is the words that are left. Assumes nothing.
 use Prim.Native.Nat.{_≤_, _-_}
 use mathlib.Core.Path.{_≡_}
 use lib.ListN.{length}
 use borrow.Author.Needs.{needs}
-use Rattle.replay.proofs.input.words.Statement.{statement}
-use Rattle.replay.proofs.input.words.Tie as tie
+use Rattle.replay.proofs.case.words_of.Statement.{statement}
+use Rattle.replay.proofs.case.words_of.Tie as tie
 
 abbrev Inv-loop : tie.InvT-loop
-Inv-loop bytes count words₀ i₀ words i = (i ≤ count) × (length words ≡ 512)
+Inv-loop start count words₀ i₀ words i = (i ≤ count) × (length words ≡ 512)
 
 abbrev μ-loop : tie.MeasureT-loop
-μ-loop bytes count words₀ i₀ words i = count - i
+μ-loop start count words₀ i₀ words i = count - i
 
-pub words-spec : {M : Type 1} → statement M
-words-spec =
+pub words-of-spec : {M : Type 1} → statement M
+words-of-spec =
     tie.close
     (tie.spec
     Inv-loop
@@ -22,6 +22,7 @@ words-spec =
     (λ c. search needs)
     (λ c. search needs)
     (λ c κs. search needs)
+    (λ c. search needs)
     (λ c. search needs)
     (λ c. search needs)
     (λ c. search needs)

@@ -1,8 +1,8 @@
--- `replay::input::registers` is safe and ends. The measure is the registers that are left. Assumes nothing.
+-- `fields::input::registers` is safe and ends. The measure is the registers that are left. Assumes nothing.
 use Prim.Native.Nat.{_≤_, _-_}
 use borrow.Author.Needs.{needs}
-use Rattle.replay.proofs.input.registers.Statement.{statement}
-use Rattle.replay.proofs.input.registers.Tie as tie
+use Rattle.fields.proofs.input.registers.Statement.{statement}
+use Rattle.fields.proofs.input.registers.Tie as tie
 
 abbrev Inv-loop : tie.InvT-loop
 Inv-loop bytes file₀ n₀ file n = n ≤ 32

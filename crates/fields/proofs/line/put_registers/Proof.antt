@@ -1,10 +1,10 @@
--- `replay::show::put_registers` is safe and ends. The measure is the registers that are left. Assumes nothing.
+-- `fields::line::put_registers` is safe and ends. The measure is the registers that are left. Assumes nothing.
 use Prim.Native.Nat.{_≤_, _-_}
 use mathlib.Core.Path.{_≡_}
 use lib.ListN.{length}
 use borrow.Author.Needs.{needs}
-use Rattle.replay.proofs.show.put_registers.Statement.{statement}
-use Rattle.replay.proofs.show.put_registers.Tie as tie
+use Rattle.fields.proofs.line.put_registers.Statement.{statement}
+use Rattle.fields.proofs.line.put_registers.Tie as tie
 
 abbrev Inv-loop : tie.InvT-loop
 Inv-loop output₀ at file end₀ n₀ output end n = (n ≤ 32) × (length output ≡ length output₀)
