@@ -82,12 +82,12 @@ held b x y e = rw e
 
 -- the three ways that planning ends: tainted, with a stack pointer that is not aligned, or by what the admission answers
 pub plan-tainted : (admit : Transfer → ℕ → List Refusal) (t : Transfer) (d : Addressing) (o : Operands) → o .tainted ≡ true → Refuse TaintedAddress 0 ≡ planOf admit t d o
-unfolding planOf
+unfolding planOf misalignedStack
 plan-tainted admit t d o e = rw e
 
 pub plan-stack : (admit : Transfer → ℕ → List Refusal) (t : Transfer) (d : Addressing) (o : Operands) {u : Bool} → o .tainted ≡ false → u ≡ misalignedStack (d .base) (o .base) → u ≡ true
     → Refuse Misaligned (o .base) ≡ planOf admit t d o
-unfolding planOf
+unfolding planOf misalignedStack
 plan-stack admit t d o e f g = held (misalignedStack (d .base) (o .base)) (Refuse Misaligned (o .base)) (firstOf Refuse (Touch (addressOf d o) (sumOf d o)) (admit t (addressOf d o))) (sym f ∙ g) ∙ passed (o .tainted) (Refuse TaintedAddress 0) e
 
 admit-answers : (w : Window) (len : ℕ) (t : Transfer) (a : ℕ) → Each (Reports a) (admitOf w len t a)
@@ -96,7 +96,7 @@ admit-answers w len t a = ((refl, λ h. omega arith), ((refl, λ h. omega arith)
 
 pub plan-admitted : (w : Window) (len : ℕ) (t : Transfer) (d : Addressing) (o : Operands) {u : Bool} {s x : ℕ} {r : Answer} → o .tainted ≡ false → u ≡ misalignedStack (d .base) (o .base) → u ≡ false → s ≡ sumOf d o → x ≡ pick (d .post) (o .base) s
     → r ≡ answerIn (admitOf w len t x) → pick (eqb (answerNumber r) 0) (Touch x s) (Refuse r x) ≡ planOf (admitOf w len) t d o
-unfolding planOf
+unfolding planOf misalignedStack
 plan-admitted w len t d o {u} {s} {x} {r} e f v p q g =
     let admitted : pick (eqb (answerNumber r) 0) (Touch x s) (Refuse r x) ≡ firstOf Refuse (Touch (addressOf d o) (sumOf d o)) (admitOf w len t (addressOf d o)) =
     rw (← p, ← q, g) (sym (by-answer Refuse (Touch x s) x (admitOf w len t x) (admit-answers w len t x)))

@@ -1,5 +1,5 @@
 -- `plan::admission::is_guarded` meets its contract. Assumes nothing.
-use Prim.Native.Nat.{_+_, _-_}
+use Prim.Native.Nat.{_-_}
 use native.Mathlib.Omega.{arith}
 use Rattle.plan.specs.Admission.{guarded}
 use Rattle.plan.proofs.Tests.{same-test}
@@ -15,5 +15,5 @@ is-guarded-spec =
     (λ c. search needs)
     (λ c.
     let a = c .before .before .before .args in
-    rw (c .before .before .if1 .taken) (same-test (a .address - a .window .origin) (a .window .readonly) (a .address) (a .window .origin + a .window .readonly) (λ h. omega arith) (λ h. omega arith)))
+    rw (c .before .before .if1 .taken) (same-test (a .address - a .window .origin) _ (a .address) _ (λ h. omega arith) (λ h. omega arith)))
     (λ c. rw (c .if1 .left)))
