@@ -20,7 +20,7 @@ use Rattle.machine.specs.Step.{shown, Step, stopped, moved, Outcome}
 use Rattle.machine.proofs.Answers.{Refuses}
 use Rattle.machine.proofs.Taints.{Follows}
 use Rattle.secrecy.specs.Agree.{Shows}
-use Rattle.execution.specs.Walk.{Walked, ahead, goOn, walkOf, numbersOf, statusesOf, Log, log, logged, Result, glue, notBegun, tooShort, short, runOf, afterSteps}
+use Rattle.execution.specs.Walk.{Walked, halted, ahead, goOn, walkOf, numbersOf, statusesOf, Log, log, logged, Result, glue, notBegun, tooShort, short, runOf, afterSteps}
 use Rattle.execution.specs.Ends.{alone, Kept, Tried, Ends, lastOf}
 use Rattle.execution.specs.Secrecy.{SameRoom, ShowsRun}
 
@@ -29,6 +29,10 @@ use Rattle.execution.specs.Secrecy.{SameRoom, ShowsRun}
 -- a log with what the step at i showed
 abbrev pub noted : ℕ → Log → Shown → Log
 noted i l s = log (set (set (l .trace) (i * 2) (s .code)) (i * 2 + 1) (s .address)) (set (l .statuses) i (s .status))
+
+-- a walk that halts at once adds nothing
+halts : {A : Type 0} (i : ℕ) (m : A) (l : Log) (answer : Answer) (s : Shown) → record { machine = m; log = l; steps = i; answer = answer; shown = s } ≡ glue i l (halted m answer s)
+halts i m l answer s = rw add-zero
 
 module _ {A : Type 0} (f : ℕ → A → Step A) (ws : List ℕ) (i : ℕ) (m : A) (l : Log) (last : Shown) (below : i < length ws) where
   -- a step done
@@ -47,13 +51,13 @@ module _ {A : Type 0} (f : ℕ → A → Step A) (ws : List ℕ) (i : ℕ) (m : 
   pub walk-stop : {answer : Answer} {address : ℕ} → f (getD ws i 0) m ≡ stopped answer address
       → record { machine = m; log = l; steps = i; answer = answer; shown = shown 0 address 0 } ≡ glue i l (walkOf f (drop i ws) m last)
   unfolding walkOf
-  walk-stop e = rw (drop-cons ws i 0, e, add-zero)
+  walk-stop {answer} {address} e = rw (drop-cons ws i 0, e) (halts i m l answer (shown 0 address 0))
 
 -- no word left
 pub walk-end : {A : Type 0} (f : ℕ → A → Step A) (ws : List ℕ) (i : ℕ) (m : A) (l : Log) (last : Shown) → length ws ≤ i
     → record { machine = m; log = l; steps = i; answer = Done; shown = last } ≡ glue i l (walkOf f (drop i ws) m last)
 unfolding walkOf
-walk-end f ws i m l last h = rw (drop-of-length-le ws, add-zero)
+walk-end f ws i m l last h = rw (drop-of-length-le ws) (halts i m l Done last)
 
 -- ---- lengths
 
