@@ -1,3 +1,5 @@
 pub mod Spans
 pub mod Masks
+pub mod Nonzero
 pub mod Taints
+pub mod Sources

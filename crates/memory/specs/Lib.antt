@@ -1,1 +1,3 @@
 pub mod Taints
+pub mod Sources
+pub mod route

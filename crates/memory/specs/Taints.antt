@@ -1,18 +1,18 @@
--- Taint bytes: one for each byte of memory, and one for each register, tainted where it is not 0. 01's marks.
-use Prim.Native.Nat.{ℕ, zero, suc}
+-- Taint bytes: one for each byte of memory, and one for each byte of a register, tainted where it is not 0: 01's marks, and 02's
+-- CR 13. A register's are a number of as many bytes as its value has: the taint of byte i is byte i of the number.
+use Prim.Native.Nat.{ℕ, zero, suc, _/_, _%_}
 use mathlib.Core.Bool.{Bool, true, false}
-use mathlib.Core.List.{List, [], _∷_}
 use Rattle.bits.specs.Choice.{pick}
 
 abbrev pub tainted : ℕ → Bool
 tainted zero = false
 tainted (suc k) = true
 
-unfoldable pub anyTainted : List ℕ → Bool
-anyTainted [] = false
-anyTainted (k ∷ ks) = pick (tainted k) true (anyTainted ks)
+-- a taint byte as it is copied: 0 or 1
+abbrev pub normal : ℕ → ℕ
+normal k = pick (tainted k) 1 0
 
--- the taint byte that is set
-abbrev pub taintByte : Bool → ℕ
-taintByte true = 1
-taintByte false = 0
+-- byte i of a number
+unfoldable pub byteAt : ℕ → ℕ → ℕ
+byteAt zero v = v % 256
+byteAt (suc i) v = byteAt i (v / 256)

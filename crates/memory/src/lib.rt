@@ -1,13 +1,15 @@
 // The bytes of a number at the start of a part of memory, and their taints. The part is lent from the first
 // byte of an access to the end of memory. A byte past the end reads 0 and is not written.
 mod eight;
+mod ones;
 
 ghost use mathlib.Core.Path.{_≡_};
-ghost use Prim.Native.Nat.{_<_, _^_, min};
-ghost use lib.ListN.{set, replicate};
+ghost use mathlib.Core.List.{map};
+ghost use Prim.Native.Nat.{_*_, _<_, _^_, min};
+ghost use lib.ListN.{set};
 ghost use lib.Seq.{sets};
 ghost use Rattle.bits.specs.Bytes.{bytesOf, joined, spanOf};
-ghost use Rattle.memory.specs.Taints.{anyTainted, taintByte};
+ghost use Rattle.memory.specs.Taints.{normal};
 
 // The low n bytes of a number, the lowest first.
 pub fn store(part: &mut [u8], n: usize, number: u64)
@@ -34,35 +36,11 @@ fn store_by_byte(part: &mut [u8], n: usize, number: u64)
     }
 }
 
-// The taint bytes of n bytes that are all tainted, or all not.
-pub fn store_taint(part: &mut [u8], n: usize, taint: bool)
-    ensures { λ _. ⌜ now (part .exit) ≡ sets (now (part .entry)) 0 (replicate n (taintByte taint)) ⌝ }
+// The taint bytes of the low n bytes of a number of taints, each 0 or 1.
+pub fn store_taints(part: &mut [u8], n: usize, taints: u64)
+    ensures { λ _. ⌜ now (part .exit) ≡ sets (now (part .entry)) 0 (map normal (bytesOf n taints)) ⌝ }
 {
-    if n <= 8 {
-        store(part, n, eight_taints(taint));
-        return;
-    }
-    taint_by_byte(part, n, taint_byte(taint));
-}
-
-fn taint_by_byte(part: &mut [u8], n: usize, byte: u8)
-    ensures { λ _. ⌜ now (part .exit) ≡ sets (now (part .entry)) 0 (replicate n byte) ⌝ }
-{
-    let mut i = 0;
-    while i < n {
-        set_byte(part, i, byte);
-        i += 1;
-    }
-}
-
-// The taint bytes of eight bytes, as one number.
-fn eight_taints(taint: bool) -> u64
-    ensures { λ r. ⌜ bytesOf 8 r ≡ replicate 8 (taintByte taint) ⌝ }
-{
-    if taint {
-        return 0x101_0101_0101_0101;
-    }
-    0
+    store(part, n, ones::normal(taints));
 }
 
 // The number that the first n bytes make, at most 8 of them.
@@ -72,27 +50,11 @@ pub fn load(part: &[u8], n: usize) -> u64
     eight::cut(bits::eight_at(part, 0), at_most_8(n))
 }
 
-// Whether one of the first n taint bytes is not 0.
-pub fn any_tainted(part: &[u8], n: usize) -> bool
-    ensures { λ r. ⌜ r ≡ anyTainted (spanOf (now (part .entry)) 0 n) ⌝ }
+// The number that the first n taint bytes make, at most 8 of them, each as 0 or 1.
+pub fn load_taints(part: &[u8], n: usize) -> u64
+    ensures { λ r. ⌜ (r ≡ joined (map normal (spanOf (now (part .entry)) 0 (min n 8)))) × (r * 255 < 256 ^ min n 8) ⌝ }
 {
-    if n <= 8 {
-        return load(part, n) != 0;
-    }
-    any_by_byte(part, n)
-}
-
-fn any_by_byte(part: &[u8], n: usize) -> bool
-    ensures { λ r. ⌜ r ≡ anyTainted (spanOf (now (part .entry)) 0 n) ⌝ }
-{
-    let mut i = 0;
-    while i < n {
-        if bits::byte_at(part, i) != 0 {
-            return true;
-        }
-        i += 1;
-    }
-    false
+    ones::normal(eight::cut(bits::eight_at(part, 0), at_most_8(n)))
 }
 
 fn set_byte(part: &mut [u8], i: usize, byte: u8)
@@ -101,16 +63,6 @@ fn set_byte(part: &mut [u8], i: usize, byte: u8)
     if i < part.len() {
         part[i] = byte;
     }
-}
-
-// The taint byte of what is tainted, or not.
-pub fn taint_byte(taint: bool) -> u8
-    ensures { λ r. ⌜ r ≡ taintByte taint ⌝ }
-{
-    if taint {
-        return 1;
-    }
-    0
 }
 
 fn at_most_8(n: usize) -> usize
