@@ -14,9 +14,9 @@ set-spec =
     (tie.spec
     (λ c. search needs)
     (λ c. search needs)
-    (λ c κs. search needs)
     (λ c. search needs)
-    (λ c. rw (c .taint-byte .ensures))
+    (λ c. search needs)
+    (λ c. search needs)
     (λ c.
     let a = c .before .args in
     let values : length (a .t1 .value) ≡ 32 = search needs in
