@@ -1,7 +1,7 @@
 -- Laws of the tests of a plan. Assumes nothing.
-use Prim.Native.Nat.{ℕ, _+_, _%_, _^_, _≤_, _<_}
+use Prim.Native.Nat.{ℕ, zero, suc, _+_, _%_, _^_, _≤_, _<_}
 use mathlib.Core.Path.{_≡_, refl, sym, ap, subst, _∙_}
-use mathlib.Core.Bool.{Bool, true, false, not}
+use mathlib.Core.Bool.{Bool, true, false, not, _||_}
 use mathlib.Core.List.{List}
 use native.Mathlib.Omega.{arith}
 use borrow.Author.Tests.{ltb-true, ltb-false, eqb-true}
@@ -10,9 +10,12 @@ use Rattle.bits.specs.Choice.{pick}
 use Rattle.instruction.specs.declared.answer.Answer.{Answer}
 use Rattle.instruction.specs.declared.answer.Answer.the-variants.{TaintedAddress, Misaligned}
 use Rattle.instruction.specs.Answers.{answerNumber}
+use Rattle.memory.specs.Taints.{tainted}
+use Rattle.memory.proofs.Taints.{nonzero-tainted}
 use Rattle.access.specs.declared.transfer.Transfer.{Transfer}
 use Rattle.access.specs.declared.addressing.Addressing.{Addressing}
 use Rattle.plan.specs.declared.window.Window.{Window}
+use Rattle.plan.specs.Operands.{usedOf}
 use Rattle.plan.specs.declared.operands.Operands.{Operands}
 use Rattle.plan.specs.declared.Plan.{Plan}
 use Rattle.plan.specs.declared.Plan.the-variants.{Refuse, Touch}
@@ -114,3 +117,21 @@ pub same-lengths : (w : Window) (len taints pc : ℕ) → badWindow w len taints
 unfolding badWindow
 same-lengths w len taints pc h =
     lengths-at (ltb (2 ^ 64) (w .origin + len)) (ltb len (w .readonly)) (eqb taints len) taints len refl (not (eqb (pc % 4) 0)) h
+
+-- ---- 5
+
+pub base-held : (x : ℕ) {r : ℕ} (b : Bool) → r ≡ x → ¬ (r ≡ 0) → true ≡ pick (tainted x) true b
+base-held zero b e h = absurd (h e)
+base-held (suc x) b e h = refl
+
+-- of no taint a part is used that is none
+none-used : (z : Bool) → pick z (0 % 2 ^ 32) 0 ≡ 0
+none-used true = refl
+none-used false = refl
+
+pub none-held : {x y r s : ℕ} (option : ℕ) → r ≡ x → r ≡ 0 → s ≡ y → s ≡ 0 → false ≡ pick (tainted x) true (tainted (usedOf option y))
+unfolding usedOf
+none-held option e z f n = rw (← e, z, ← f, n, none-used (eqb option 0b010 || eqb option 0b110))
+
+pub base-passed : {x y r s : ℕ} → r ≡ x → r ≡ 0 → s ≡ y → not (eqb s 0) ≡ pick (tainted x) true (tainted y)
+base-passed {x} {y} {r} {s} e z f = rw (← e, z, f) (nonzero-tainted y)

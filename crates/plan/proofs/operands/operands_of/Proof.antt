@@ -10,4 +10,4 @@ operands-of-spec =
     (λ c κs. search needs)
     (λ c κs. search needs)
     (λ c κs. search needs)
-    (λ c. rw (c .either-tainted .ensures, c .before .value-in .ensures, c .before .before .base .ensures)))
+    (λ c. rw (c .is-tainted .ensures, c .before .value-in .ensures, c .before .before .base .ensures)))
