@@ -1,4 +1,6 @@
 pub mod Answers
 pub mod Taints
+pub mod Origins
+pub mod Reals
 pub mod Exclusives
 pub mod Writing

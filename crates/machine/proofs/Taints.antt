@@ -1,14 +1,24 @@
 -- The taints after a step are those of the taint rule. Assumes nothing.
-use Prim.Native.Nat.{ℕ, suc, _+_, _-_, _≤_, _<_}
+use Prim.Native.Nat.{ℕ, suc, _+_, _-_, _*_, _/_, _^_, _≤_, _<_}
 use mathlib.Core.Path.{_≡_, refl, _∙_}
 use mathlib.Core.Bool.{false}
-use mathlib.Core.List.{List, [], _∷_}
+use mathlib.Core.List.{List, [], _∷_, map}
 use mathlib.Core.Logic.{_⊎_, inl, inr}
+use native.Mathlib.Nat.{pow-le-pow-right}
 use native.Mathlib.Omega.{arith}
-use lib.ListN.{length, getD, set, replicate, length-replicate}
+use borrow.Author.Tests.{le-ltb}
+use lib.Dec.{lit<}
+use lib.ListN.{length, getD, set}
 use lib.Seq.{sets, getD-set-same, getD-set-other}
 use Rattle.bits.proofs.Choices.{pick-by}
-use Rattle.memory.specs.Taints.{taintByte}
+use Rattle.bits.specs.Bytes.{bytesOf, joined, spanOf}
+use Rattle.bits.specs.Extension.{largest, extendedOf}
+use Rattle.bits.proofs.Spans.{length-span}
+use Rattle.bits.proofs.Extensions.{extended-below}
+use Rattle.memory.specs.Taints.{normal}
+use Rattle.memory.specs.Sources.{loadedTaint}
+use Rattle.memory.proofs.Taints.{normal-length, taints-fit}
+use Rattle.memory.proofs.Sources.{extended-taints}
 use Rattle.registers.specs.File.{taintIn}
 use Rattle.access.specs.declared.transfer.Transfer.{Transfer}
 use Rattle.access.specs.declared.Access.{Access}
@@ -65,7 +75,7 @@ apart-next : (i at n : ℕ) → Apart i at (suc n) → Apart i (suc at) n × ¬ 
 apart-next i at n (inl h) = (inl (omega arith), λ e. omega arith)
 apart-next i at n (inr h) = (inr (omega arith), λ e. omega arith)
 
-sets-kept : (vs ks : List ℕ) (at i : ℕ) → Apart i at (length vs) → getD (sets ks at vs) i 0 ≡ getD ks i 0
+pub sets-kept : (vs ks : List ℕ) (at i : ℕ) → Apart i at (length vs) → getD (sets ks at vs) i 0 ≡ getD ks i 0
 sets-kept [] ks at i h = refl
 sets-kept (v ∷ vs) ks at i h =
     let (more, other) = apart-next i at (length vs) h in
@@ -77,7 +87,29 @@ unfolding moveRule
 byte-kept t written at p i a b =
     pick-by (λ (k : List ℕ). getD k i 0 ≡ getD (p .bytes) i 0) (t .store)
     (λ e.
-    let first = replicate (t .bytes) (taintByte (taintIn (p .registers) (t .target))) in
-    let second = replicate (t .more) (taintByte (taintIn (p .registers) (t .second))) in
-    sets-kept second (sets (p .bytes) at first) (at + t .bytes) i (rw length-replicate b) ∙ sets-kept first (p .bytes) at i (rw length-replicate a))
+    let first = map normal (bytesOf (t .bytes) (getD (p .registers) (t .target) 0)) in
+    let second = map normal (bytesOf (t .more) (getD (p .registers) (t .second) 0)) in
+    sets-kept second (sets (p .bytes) at first) (at + t .bytes) i (rw (normal-length (t .more) (getD (p .registers) (t .second) 0)) b) ∙ sets-kept first (p .bytes) at i (rw (normal-length (t .bytes) (getD (p .registers) (t .target) 0)) a))
     (λ e. refl)
+
+-- ---- taints extended
+
+pub extended-none : (n extent x : ℕ) → x ≡ 0 → 0 ≡ extendedOf n extent (x * 255) / 255
+unfolding extendedOf
+extended-none n extent x e =
+    let low : x * 255 ≤ largest n / 2 = omega arith in
+    rw (le-ltb (largest n / 2) (x * 255) low) (omega arith)
+
+pub taints-room : {x : ℕ} (n extent : ℕ) → n ≤ extent → extent ≤ 8 → x < 256 ^ n → x < 2 ^ 64
+taints-room n extent l e h =
+    let few : n ≤ 8 = omega arith in
+    let wide : 256 ^ n ≤ 256 ^ 8 = pow-le-pow-right (lit< tt) few in
+    omega arith
+
+pub loaded-taints : (k : List ℕ) (at n extent : ℕ) {x r : ℕ} → n ≤ extent → x ≡ joined (map normal (spanOf k at n)) → r ≡ extendedOf n extent (x * 255) / 255 → r ≡ loadedTaint at n extent k
+loaded-taints k at n extent l e f = f ∙ rw e (extended-taints k at n extent l)
+
+pub loaded-taint-below : (k : List ℕ) (at n extent : ℕ) → n ≤ extent → extent ≤ 8 → loadedTaint at n extent k < 2 ^ 64
+loaded-taint-below k at n extent l e =
+    let fits : joined (map normal (spanOf k at n)) * 255 < 256 ^ n = rw (length-span k at n) at (taints-fit (spanOf k at n)) in
+    rw (← extended-taints k at n extent l) (omega (arith, extended-below n extent (joined (map normal (spanOf k at n)) * 255) l e fits))

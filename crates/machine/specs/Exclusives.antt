@@ -2,11 +2,12 @@
 use Prim.Native.Nat.{ℕ, _+_, _-_}
 use mathlib.Core.Path.{_≡_}
 use mathlib.Core.Logic.{_↔_}
-use lib.ListN.{getD, set, replicate}
+use mathlib.Core.List.{map}
+use lib.ListN.{getD, set}
 use lib.Seq.{sets}
 use Rattle.bits.specs.Bytes.{bytesOf}
-use Rattle.memory.specs.Taints.{taintByte}
-use Rattle.registers.specs.File.{zeroSlot, taintIn}
+use Rattle.memory.specs.Taints.{normal}
+use Rattle.registers.specs.File.{zeroSlot}
 use Rattle.machine.specs.declared.monitor.Monitor.{Monitor}
 use Rattle.machine.specs.Monitor.{openMonitor}
 use Rattle.machine.specs.Machine.{Machine}
@@ -25,7 +26,7 @@ pub record StoresExclusive (origin size rs rt : ℕ) (m : Machine) (o : Outcome 
   pub stores : o .shown .status ≡ 0
       → let at = o .shown .address - origin in
       (o .machine .memory ≡ sets (m .memory) at (bytesOf size (getD (m .values) (zeroSlot rt) 0)))
-      × (o .machine .taints .bytes ≡ sets (m .taints .bytes) at (replicate size (taintByte (taintIn (m .taints .registers) (zeroSlot rt)))))
+      × (o .machine .taints .bytes ≡ sets (m .taints .bytes) at (map normal (bytesOf size (getD (m .taints .registers) (zeroSlot rt) 0))))
   -- "and stores nothing, marks included"
   pub keeps : o .shown .status ≡ 1 → (o .machine .memory ≡ m .memory) × (o .machine .taints .bytes ≡ m .taints .bytes)
   -- "Either way the monitor opens"

@@ -1,8 +1,7 @@
 -- The machine: what a step reads and changes, and what an access leaves of it: 01, "What a word says".
 use Prim.Native.Nat.{ℕ, _+_, _%_, _^_}
 use mathlib.Core.List.{List}
-use lib.ListN.{set, getD}
-use lib.Seq.{sets}
+use lib.ListN.{set}
 use Rattle.bits.specs.Choice.{pick}
 use Rattle.bits.specs.Bytes.{bytesOf, joined, spanOf}
 use Rattle.bits.specs.Extension.{extendedOf}
@@ -11,7 +10,7 @@ use Rattle.access.specs.declared.addressing.Addressing.{Addressing}
 use Rattle.plan.specs.declared.operands.Operands.{Operands}
 use Rattle.plan.specs.Operands.{operandsIn}
 use Rattle.plan.specs.Admission.{totalOf}
-use Rattle.machine.specs.Rule.{Taints, moveRule}
+use Rattle.machine.specs.Rule.{Taints, loadedIn, storedIn, moveRule}
 use Rattle.machine.specs.Monitor.{openMonitor}
 use Rattle.machine.specs.declared.monitor.Monitor.{Monitor}
 use Rattle.machine.specs.declared.State.{State}
@@ -53,14 +52,12 @@ passedOver m = record { values = m .values; pc = nextPc (m .pc); memory = m .mem
 abbrev pub basedValues : ℕ → ℕ → List ℕ → List ℕ
 basedValues written next v = set v written next
 
--- bytes are little-endian, and a pair puts Rt first
+-- bytes are little-endian
 abbrev pub loadedValues : Transfer → ℕ → List ℕ → List ℕ → List ℕ
-loadedValues t at v m =
-    set (set v (t .target) (extendedOf (t .bytes) (t .extent) (joined (spanOf m at (t .bytes))))) (t .second) (extendedOf (t .more) (t .extent) (joined (spanOf m (at + t .bytes) (t .more))))
+loadedValues t at v m = loadedIn (λ at n. extendedOf n (t .extent) (joined (spanOf m at n))) t at v
 
 abbrev pub storedBytes : Transfer → ℕ → List ℕ → List ℕ → List ℕ
-storedBytes t at v m =
-    sets (sets m at (bytesOf (t .bytes) (getD v (t .target) 0))) (at + t .bytes) (bytesOf (t .more) (getD v (t .second) 0))
+storedBytes t at v m = storedIn bytesOf t at v m
 
 -- what an access at an index leaves, with what it writes back and the monitor after it
 unfoldable pub effectOf : Transfer → ℕ → ℕ → ℕ → Monitor → Machine → Machine

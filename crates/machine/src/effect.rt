@@ -5,14 +5,15 @@ use crate::monitor::Monitor;
 use access::Transfer;
 ghost use mathlib.Core.Path.{_≡_};
 ghost use mathlib.Core.Bool.{_||_};
-ghost use Prim.Native.Nat.{_+_, _≤_};
+ghost use mathlib.Core.List.{map};
+ghost use Prim.Native.Nat.{_+_, _*_, _/_, _^_, _≤_, _<_};
 ghost use lib.Dec.{ltb};
-ghost use lib.ListN.{length, getD, replicate};
+ghost use lib.ListN.{length, getD};
 ghost use lib.Seq.{sets};
 ghost use Rattle.bits.specs.Bytes.{bytesOf, joined, spanOf};
 ghost use Rattle.bits.specs.Extension.{extendedOf};
-ghost use Rattle.memory.specs.Taints.{anyTainted, taintByte};
-ghost use Rattle.registers.specs.File.{taintIn};
+ghost use Rattle.memory.specs.Taints.{normal};
+ghost use Rattle.memory.specs.Sources.{loadedTaint};
 ghost use Rattle.plan.specs.Admission.{totalOf};
 ghost use Rattle.machine.specs.Monitor.{madeOf};
 ghost use Rattle.machine.specs.Rule.{storedTaints};
@@ -26,10 +27,10 @@ pub struct Writes {
     pub next: u64,
     pub first: u32,
     pub value: u64,
-    pub taint: bool,
+    pub taint: u64,
     pub second: u32,
     pub value2: u64,
-    pub taint2: bool,
+    pub taint2: u64,
     pub monitor: Monitor,
 }
 
@@ -44,7 +45,7 @@ pub fn code(t: Transfer) -> u64
 }
 
 // Whether a store leaves anything to set: the monitor, or a register that the lent file has.
-pub fn sets_more(exclusive: bool, slot: u32, value: &[u64], tainted: &[u8]) -> bool
+pub fn sets_more(exclusive: bool, slot: u32, value: &[u64], tainted: &[u64]) -> bool
     ensures { λ r. ⌜ r ≡ (exclusive || (ltb slot (length (now (value .entry))) || ltb slot (length (now (tainted .entry))))) ⌝ }
 {
     if exclusive {
@@ -65,10 +66,10 @@ pub fn written_back(base: u32, next: u64, monitor: Monitor) -> Writes
         next,
         first: base,
         value: next,
-        taint: false,
+        taint: 0,
         second: base,
         value2: next,
-        taint2: false,
+        taint2: 0,
         monitor,
     }
 }
@@ -101,29 +102,37 @@ pub fn loads(
     }
 }
 
-// A loaded number, extended, and whether a byte of it was tainted.
+// A loaded number, extended, and the taints of its bytes.
 struct Loaded {
     value: u64,
-    taint: bool,
+    taint: u64,
 }
 
 // A load of n bytes. A single access has no second register, and no bytes for it.
 fn loaded_one(n: u32, extent: u32, at: usize, memory: &[u8], taint: &[u8]) -> Loaded
     requires { ⌜ (n ≤ extent) × (extent ≤ 8) × (at + n ≤ length (now memory)) × (length (now taint) ≡ length (now memory)) ⌝ }
-    ensures { λ r. ⌜ r ≡ record { value = extendedOf n extent (joined (spanOf (now (memory .entry)) at n)); taint = anyTainted (spanOf (now (taint .entry)) at n) } ⌝ }
+    ensures { λ r. ⌜ r ≡ record { value = extendedOf n extent (joined (spanOf (now (memory .entry)) at n)); taint = loadedTaint at n extent (now (taint .entry)) } ⌝ }
 {
     if n == 0 {
-        return Loaded {
-            value: 0,
-            taint: false,
-        };
+        return Loaded { value: 0, taint: 0 };
     }
     let number = memory::load(&memory[at..], n as usize);
-    let tainted = memory::any_tainted(&taint[at..], n as usize);
+    let taints = memory::load_taints(&taint[at..], n as usize);
     Loaded {
         value: bits::extended(number, n, extent),
-        taint: tainted,
+        taint: extended_taints(taints, n, extent),
     }
+}
+
+// Sign copies take the taint of the top byte: with 255 in place of 1, taints are extended as a number is.
+fn extended_taints(taints: u64, n: u32, extent: u32) -> u64
+    requires { ⌜ (n ≤ extent) × (extent ≤ 8) × (taints * 255 < 256 ^ n) ⌝ }
+    ensures { λ r. ⌜ r ≡ extendedOf n extent (taints * 255) / 255 ⌝ }
+{
+    if taints == 0 {
+        return 0;
+    }
+    bits::extended(taints * 255, n, extent) / 255
 }
 
 // Memory and taints after a store at an index, with its status.
@@ -132,7 +141,7 @@ pub fn stored(
     status: u8,
     at: usize,
     value: &[u64],
-    tainted: &[u8],
+    tainted: &[u64],
     memory: &mut [u8],
     taint: &mut [u8],
 )
@@ -160,18 +169,18 @@ fn stored_one(
     n: u32,
     at: usize,
     value: &[u64],
-    tainted: &[u8],
+    tainted: &[u64],
     memory: &mut [u8],
     taint: &mut [u8],
 )
     requires { ⌜ (at + n ≤ length (now memory)) × (length (now taint) ≡ length (now memory)) ⌝ }
-    ensures { λ _. ⌜ (now (memory .exit) ≡ sets (now (memory .entry)) at (bytesOf n (getD (now (value .entry)) slot 0))) × (now (taint .exit) ≡ sets (now (taint .entry)) at (replicate n (taintByte (taintIn (now (tainted .entry)) slot)))) ⌝ }
+    ensures { λ _. ⌜ (now (memory .exit) ≡ sets (now (memory .entry)) at (bytesOf n (getD (now (value .entry)) slot 0))) × (now (taint .exit) ≡ sets (now (taint .entry)) at (map normal (bytesOf n (getD (now (tainted .entry)) slot 0)))) ⌝ }
 {
     if n == 0 {
         return;
     }
     let number = registers::value_in(value, slot);
-    let secret = registers::is_tainted_in(tainted, slot);
+    let taints = registers::value_in(tainted, slot);
     memory::store(&mut memory[at..], n as usize, number);
-    memory::store_taint(&mut taint[at..], n as usize, secret);
+    memory::store_taints(&mut taint[at..], n as usize, taints);
 }

@@ -114,7 +114,7 @@ pub fn settled(state: State, writes: Writes) -> State
     let file = state.registers;
     let monitor = writes.monitor;
     let mut next = state;
-    next.registers = file.set(writes.base, writes.next, false)
+    next.registers = file.set(writes.base, writes.next, 0)
         .set(writes.first, writes.value, writes.taint)
         .set(writes.second, writes.value2, writes.taint2);
     next.pc = next_pc(state.pc);
@@ -145,7 +145,7 @@ pub fn decide<'a>(
     monitor: Monitor,
     window: Window,
     value: &'a [u64],
-    tainted: &'a [u8],
+    tainted: &'a [u64],
     memory: &mut [u8],
     taint: &mut [u8],
 ) -> Decision
@@ -164,7 +164,7 @@ fn decide_word(
     monitor: Monitor,
     window: Window,
     value: &[u64],
-    tainted: &[u8],
+    tainted: &[u64],
     memory: &mut [u8],
     taint: &mut [u8],
 ) -> Decision
@@ -195,7 +195,7 @@ fn decide_access(
     monitor: Monitor,
     window: Window,
     value: &[u64],
-    tainted: &[u8],
+    tainted: &[u64],
     memory: &mut [u8],
     taint: &mut [u8],
 ) -> Decision
@@ -226,7 +226,7 @@ fn decide_moves(
     monitor: Monitor,
     window: Window,
     value: &[u64],
-    tainted: &[u8],
+    tainted: &[u64],
     memory: &mut [u8],
     taint: &mut [u8],
 ) -> Decision
@@ -269,7 +269,7 @@ fn touched(
     shown: Shown,
     monitor: Monitor,
     value: &[u64],
-    tainted: &[u8],
+    tainted: &[u64],
     memory: &mut [u8],
     taint: &mut [u8],
 ) -> Decision

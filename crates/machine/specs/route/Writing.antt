@@ -1,11 +1,10 @@
 -- A step in two halves: what the first decides, and what the second sets of it. What a step does is said in Step.antt;
 -- this is how the two halves come to it.
 use Prim.Native.Nat.{ℕ, _+_}
-use mathlib.Core.Bool.{false}
 use mathlib.Core.List.{List}
 use Rattle.bits.specs.Bytes.{joined, spanOf}
 use Rattle.bits.specs.Extension.{extendedOf}
-use Rattle.memory.specs.Taints.{anyTainted}
+use Rattle.memory.specs.Sources.{loadedTaint}
 use Rattle.registers.specs.declared.Registers.{Registers}
 use Rattle.registers.specs.File.{setAt}
 use Rattle.access.specs.declared.transfer.Transfer.{Transfer}
@@ -25,12 +24,12 @@ stateOf values tainted pc monitor = record { registers = record { value = values
 -- ---- what is set
 
 abbrev pub writtenOf : Writes → Registers → Registers
-writtenOf w file = setAt (setAt (setAt file (w .base) (w .next) false) (w .first) (w .value) (w .taint)) (w .second) (w .value2) (w .taint2)
+writtenOf w file = setAt (setAt (setAt file (w .base) (w .next) 0) (w .first) (w .value) (w .taint)) (w .second) (w .value2) (w .taint2)
 
 -- the base alone: setting it again changes nothing
 abbrev pub basedOf : ℕ → ℕ → Monitor → Writes
 basedOf base next monitor =
-    record { base = base; next = next; first = base; value = next; taint = false; second = base; value2 = next; taint2 = false; monitor = monitor }
+    record { base = base; next = next; first = base; value = next; taint = 0; second = base; value2 = next; taint2 = 0; monitor = monitor }
 
 -- a load at an index
 abbrev pub loadsOf : Transfer → ℕ → ℕ → Monitor → ℕ → List ℕ → List ℕ → Writes
@@ -40,10 +39,10 @@ loadsOf t base next monitor at m k =
       next = next;
       first = t .target;
       value = extendedOf (t .bytes) (t .extent) (joined (spanOf m at (t .bytes)));
-      taint = anyTainted (spanOf k at (t .bytes));
+      taint = loadedTaint at (t .bytes) (t .extent) k;
       second = t .second;
       value2 = extendedOf (t .more) (t .extent) (joined (spanOf m (at + t .bytes) (t .more)));
-      taint2 = anyTainted (spanOf k (at + t .bytes) (t .more));
+      taint2 = loadedTaint (at + t .bytes) (t .more) (t .extent) k;
       monitor = monitor;
     }
 

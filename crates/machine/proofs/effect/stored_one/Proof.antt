@@ -1,7 +1,7 @@
 -- `machine::effect::stored_one` meets its contract. Assumes nothing.
-use lib.ListN.{replicate}
+use mathlib.Core.List.{map}
 use Rattle.bits.specs.Bytes.{bytesOf}
-use Rattle.memory.specs.Taints.{taintByte}
+use Rattle.memory.specs.Taints.{normal}
 use Rattle.memory.proofs.Spans.{put-back}
 use borrow.Author.Needs.{needs}
 use Rattle.machine.proofs.effect.stored_one.Statement.{statement}
@@ -28,7 +28,7 @@ stored-one-spec =
     (λ c.
     let a = c .before .before .before .before .before .before .before .before .before .before .before .before .before .before .before .args in
     let number = c .before .before .before .before .before .before .before .before .before .value-in in
-    let taint = c .before .before .before .before .before .before .before .before .is-tainted-in in (
+    let taint = c .before .before .before .before .before .before .before .before .value-in2 in (
       rw (← number .ensures) (put-back (a .memory .now) _ (bytesOf (a .n) (number .result)) (a .at) (c .before .before .before .before .before .before .store .ensures)),
-      rw (← taint .ensures) (put-back (a .taint .now) _ (replicate (a .n) (taintByte (taint .result))) (a .at) (c .before .before .store-taint .ensures)),
+      rw (← taint .ensures) (put-back (a .taint .now) _ (map normal (bytesOf (a .n) (taint .result))) (a .at) (c .before .before .store-taints .ensures)),
     )))
