@@ -1,2 +1,4 @@
+pub mod Numbers
 pub mod Agreement
+pub mod Halves
 pub mod Steps

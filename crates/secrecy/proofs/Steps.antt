@@ -1,38 +1,35 @@
--- A step takes machines that agree on what may be seen to such machines, and shows the same of both. Assumes
--- nothing.
-use Prim.Native.Nat.{ℕ, _+_, _-_, _<_}
+-- A step takes machines whose bytes are related by their taints to such machines, and shows the same of both: for every relation
+-- that copies keep. Assumes nothing.
+use Prim.Native.Nat.{ℕ, _+_, _-_, _%_, _^_, _<_}
 use mathlib.Core.Path.{_≡_, refl, sym, ap, subst, _∙_}
-use mathlib.Core.Bool.{Bool, true, false}
+use mathlib.Core.Bool.{Bool, true, false, _||_}
 use mathlib.Core.List.{List, [], _∷_, _++_}
 use mathlib.Core.Logic.{inl, inr}
 use native.Mathlib.Omega.{arith}
 use borrow.Author.Tests.{ne-eqb}
 use lib.Dec.{eqb}
-use lib.ListN.{length, set, getD, replicate, length-set}
-use lib.Seq.{sets, length-sets}
+use lib.ListN.{length, set, getD}
 use Rattle.bits.specs.Choice.{pick}
 use Rattle.instruction.specs.declared.answer.Answer.{Answer}
-use Rattle.instruction.specs.declared.answer.Answer.the-variants.{BadWindow}
-use Rattle.bits.specs.Bytes.{joined, spanOf}
+use Rattle.instruction.specs.declared.answer.Answer.the-variants.{BadWindow, TaintedAddress, Misaligned}
 use Rattle.bits.specs.Extension.{extendedOf}
 use Rattle.bits.proofs.Choices.{pick-by}
-use Rattle.decoder.specs.Decoding.{decodeOf}
-use Rattle.memory.specs.Taints.{taintByte, anyTainted}
-use Rattle.registers.specs.File.{taintIn}
+use Rattle.memory.specs.Taints.{tainted}
 use Rattle.access.specs.declared.transfer.Transfer.{Transfer}
 use Rattle.access.specs.declared.addressing.Addressing.{Addressing}
 use Rattle.access.specs.declared.Access.{Access}
 use Rattle.access.specs.declared.Access.the-variants.{Nothing, Moves}
+use Rattle.access.specs.Accesses.{wordAccess}
+use Rattle.access.proofs.Bounds.{Bounded, Within, bounded, Moving, moving}
+use Rattle.decoder.specs.Decoding.{decodeOf}
 use Rattle.plan.specs.declared.window.Window.{Window}
 use Rattle.plan.specs.declared.operands.Operands.{Operands}
-use Rattle.plan.specs.Address.{sumOf, addressOf}
-use Rattle.plan.specs.Refusals.{Refusal, firstOf}
+use Rattle.plan.specs.Operands.{usedOf}
+use Rattle.plan.specs.Address.{indexOf, shiftedOf, sumOf}
+use Rattle.plan.specs.Refusals.{Refusal, refusal, firstOf}
 use Rattle.plan.specs.Admission.{totalOf, admitOf}
-use Rattle.plan.specs.Plans.{refusalsOf}
+use Rattle.plan.specs.Plans.{misalignedStack}
 use Rattle.plan.proofs.Refusals.{Passed}
-use Rattle.plan.proofs.Tests.{same-lengths}
-use Rattle.access.specs.Accesses.{wordAccess}
-use Rattle.access.proofs.Bounds.{Moving, moving}
 use Rattle.machine.specs.Rule.{moveRule}
 use Rattle.machine.specs.declared.monitor.Monitor.{Monitor}
 use Rattle.machine.specs.Monitor.{matches, statusOf, monitorAfter, writtenBack, madeOf}
@@ -41,15 +38,13 @@ use Rattle.machine.specs.Refusals.{bad, classRefusals, accessRefusals}
 use Rattle.machine.specs.Step.{Step, stopped, touchOf, stepOf}
 use Rattle.machine.specs.route.Parts.{wordStep, accessStep}
 use Rattle.machine.proofs.Answers.{step-bad}
+use Rattle.machine.specs.Real.{Real}
 use Rattle.machine.proofs.Writing.{load-made}
-use Rattle.secrecy.specs.Agree.{EqualMonitors, Shows}
-use Rattle.secrecy.specs.route.Alike.{Alike}
-use Rattle.secrecy.proofs.Agreement.{agree-sets, Seen, span-taints, store-alike, span-alike, set-alike, same-taint, set-tainted}
-
--- what is untainted together is untainted by itself
-pub untainted-parts : (b c : Bool) → pick b true c ≡ false → (b ≡ false) × (c ≡ false)
-untainted-parts true c e = absurd (let z : _≡_ {A = ℕ} 0 1 = cc in omega arith)
-untainted-parts false c e = (refl, e)
+use Rattle.machine.proofs.Reals.{made-bounded}
+use Rattle.secrecy.specs.Shows.{EqualMonitors, Shows}
+use Rattle.secrecy.specs.route.Alike.{Copied, Word, Table, Anywhere, Alike}
+use Rattle.secrecy.proofs.Numbers.{same-taint}
+use Rattle.secrecy.proofs.Agreement.{Seen, table-set, constant, same-value, cut-word, table-store, loaded}
 
 -- the same refusal stops both
 shows-at : {A : Type 0} (R : A → A → Type 0) (b : Bool) (answer : Answer) (address : ℕ) (x y : Step A) → (b ≡ false → Shows R x y) → Shows R (pick b (stopped answer address) x) (pick b (stopped answer address) y)
@@ -86,130 +81,172 @@ after-same t address r s h = set-same (t .exclusive) _ h
     set-same true set h = inl refl
     set-same false set h = h
 
--- `none`: what is untainted is clear
-module _ (sees : ℕ → Type 0) (clear : Bool → Type 0) (none : clear false) (each : (b c : Bool) → clear (pick b true c) → clear b × clear c) where
-  module _ (m n : Machine) (h : Alike sees clear m n) where
-    same : (slot : ℕ) → taintIn (m .taints .registers) slot ≡ taintIn (n .taints .registers) slot
-    same = same-taint (m .taints .registers) (n .taints .registers) (h .registers)
+-- ---- an index of which only a part is used
 
-    value : (slot : ℕ) → clear (taintIn (m .taints .registers) slot) → getD (m .values) slot 0 ≡ getD (n .values) slot 0
-    value slot f = h .values .same slot f
+-- the same part gives the same index
+index-at : (p q : Bool) (f : ℕ → ℕ) (x y a b : ℕ) → pick (p || q) x a ≡ pick (p || q) y b → pick p x (pick q (f x) a) ≡ pick p y (pick q (f y) b)
+index-at true q f x y a b e = e
+index-at false true f x y a b e = ap f e
+index-at false false f x y a b e = e
+
+index-same : (option a b : ℕ) → usedOf option a ≡ usedOf option b → indexOf option a ≡ indexOf option b
+unfolding usedOf indexOf
+index-same option a b e = index-at (eqb option 0b010) (eqb option 0b110) (extendedOf 4 8) (a % 2 ^ 32) (b % 2 ^ 32) a b e
+
+-- both numbers are the same, and the sum
+sum-same : (a : Addressing) (o p : Operands) → o .base ≡ p .base → usedOf (a .option) (o .index) ≡ usedOf (a .option) (p .index) → sumOf a o ≡ sumOf a p
+unfolding sumOf shiftedOf
+sum-same a o p e f = rw (index-same (a .option) (o .index) (p .index) f, e)
+
+either : (b c : Bool) → pick b true c ≡ false → (b ≡ false) × (c ≡ false)
+either true c e = absurd (let z : _≡_ {A = ℕ} 0 1 = cc in omega arith)
+either false c e = (refl, e)
+
+module _ (sees : ℕ → Type 0) (related : Bool → ℕ → ℕ → Type 0) (copied : Copied related) where
+  used-at : (p : Bool) (u w a b : ℕ) → Word related u w a b → Word related (pick p (u % 2 ^ 32) u) (pick p (w % 2 ^ 32) w) (pick p (a % 2 ^ 32) a) (pick p (b % 2 ^ 32) b)
+  used-at true u w a b h = cut-word related copied 4 u w a b h
+  used-at false u w a b h = h
+
+  -- the used parts of numbers are related as they are
+  used-word : (option u w a b : ℕ) → Word related u w a b → Word related (usedOf option u) (usedOf option w) (usedOf option a) (usedOf option b)
+  unfolding usedOf
+  used-word option u w a b h = used-at (eqb option 0b010 || eqb option 0b110) u w a b h
+
+  module _ (m n : Machine) (real-m : Real m) (real-n : Real n) (h : Alike sees related m n) where
+    abbrev taint : ℕ → ℕ
+    taint slot = getD (m .taints .registers) slot 0
+
+    abbrev other : ℕ → ℕ
+    other slot = getD (n .taints .registers) slot 0
+
+    register : (slot : ℕ) → Word related (taint slot) (other slot) (getD (m .values) slot 0) (getD (n .values) slot 0)
+    register slot = h .registers .each slot tt
+
+    index : (a : Addressing)
+        → Word related (usedOf (a .option) (taint (a .index))) (usedOf (a .option) (other (a .index))) (usedOf (a .option) (getD (m .values) (a .index) 0)) (usedOf (a .option) (getD (n .values) (a .index) 0))
+    index a = used-word (a .option) (taint (a .index)) (other (a .index)) (getD (m .values) (a .index) 0) (getD (n .values) (a .index) 0) (register (a .index))
 
     tainted-same : (a : Addressing) → operandsOf a m .tainted ≡ operandsOf a n .tainted
-    tainted-same a = rw (same (a .base), same (a .index))
+    tainted-same a = rw (same-taint (taint (a .base)) (other (a .base)) (λ i. register (a .base) i .0), same-taint (usedOf (a .option) (taint (a .index))) (usedOf (a .option) (other (a .index))) (λ i. index a i .0))
 
-    operands-same : (a : Addressing) → operandsOf a m .tainted ≡ false → operandsOf a m ≡ operandsOf a n
-    operands-same a e =
-        let (base, index) = untainted-parts (taintIn (m .taints .registers) (a .base)) (taintIn (m .taints .registers) (a .index)) e in
-        rw (value (a .base) (rw base none), value (a .index) (rw index none), h .pc, same (a .base), same (a .index))
+    base-at : (z : Bool) (pc pc′ x y : ℕ) → pc ≡ pc′ → x ≡ y → pick z pc x ≡ pick z pc′ y
+    base-at z pc pc′ x y e f = rw (e, f)
+
+    base-same : (a : Addressing) → operandsOf a m .tainted ≡ false → operandsOf a m .base ≡ operandsOf a n .base
+    base-same a e =
+        let q = either (tainted (taint (a .base))) (tainted (usedOf (a .option) (taint (a .index)))) e in
+        base-at (a .relative) (m .pc) (n .pc) _ _ (h .pc) (same-value related copied (taint (a .base)) (other (a .base)) _ _ (register (a .base)) (q .0))
+
+    sums-same : (a : Addressing) → operandsOf a m .tainted ≡ false → sumOf a (operandsOf a m) ≡ sumOf a (operandsOf a n)
+    sums-same a e =
+        let q = either (tainted (taint (a .base))) (tainted (usedOf (a .option) (taint (a .index)))) e in
+        sum-same a (operandsOf a m) (operandsOf a n) (base-same a e) (same-value related copied (usedOf (a .option) (taint (a .index))) (usedOf (a .option) (other (a .index))) _ _ (index a) (q .1))
 
     -- both make the same access, and a load is allowed to look at its bytes
-    module _ (long : length (m .memory) ≡ length (m .taints .bytes)) (t : Transfer) (written at next : ℕ) (after later : Monitor) (still : EqualMonitors after later) (seen : t .store ≡ false → Seen sees at (totalOf t)) where
+    module _ (t : Transfer) (fits : Bounded t) (written at next : ℕ) (after later : Monitor) (still : EqualMonitors after later) (seen : t .store ≡ false → Seen sees at (totalOf t)) where
       abbrev Kept : Type 0
-      Kept = Alike sees clear (effectOf t written at next after m) (effectOf t written at next later n)
+      Kept = Alike sees related (effectOf t written at next after m) (effectOf t written at next later n)
+
+      based : Table Anywhere (Word related) (set (m .taints .registers) written 0) (set (n .taints .registers) written 0) (set (m .values) written next) (set (n .values) written next)
+      based = table-set Anywhere (Word related) (m .taints .registers) (n .taints .registers) (m .values) (n .values) written 0 0 next next (h .registers) (constant related copied next)
 
       effect-at : (z : Bool) → t .store ≡ z → Kept
       unfolding effectOf moveRule
       effect-at true e =
-          let u : List ℕ = m .taints .registers in
-          let k : List ℕ = m .taints .bytes in
-          let p : ℕ = taintByte (taintIn u (t .target)) in
-          let q : ℕ = taintByte (taintIn u (t .second)) in
-          let first : List ℕ = sets k at (replicate (t .bytes) p) in
-          rw (e, ← same (t .target), ← same (t .second))
+          rw e
           (record {
             pc = rw (h .pc);
             monitor = still;
-            registers = set-tainted u (n .taints .registers) (h .registers) written 0;
-            full = simp length-set (h .full);
-            values = set-alike clear u (m .values) (n .values) written next next false (h .full) (h .values) (λ z. refl);
-            taints = agree-sets (replicate (t .more) q) first (sets (n .taints .bytes) at (replicate (t .bytes) p)) (at + t .bytes) (agree-sets (replicate (t .bytes) p) k (n .taints .bytes) at (h .taints));
+            registers = based;
             bytes =
-                store-alike sees clear each (t .more) (at + t .bytes) _ _ (taintIn u (t .second)) first _ _ (value (t .second)) (simp length-sets long)
-                (store-alike sees clear each (t .bytes) at _ _ (taintIn u (t .target)) k (m .memory) (n .memory) (value (t .target)) long (h .bytes));
+                table-store related copied sees (t .more) (at + t .bytes) _ _ _ _ _ _ _ _ (register (t .second))
+                (table-store related copied sees (t .bytes) at _ _ _ _ _ _ _ _ (register (t .target)) (h .bytes));
           })
       effect-at false e =
-          let u : List ℕ = m .taints .registers in
-          let k : List ℕ = m .taints .bytes in
+          let k = m .taints .bytes in
+          let l = n .taints .bytes in
           let s₁ : Seen sees at (t .bytes) = (λ i a c. seen e i (omega arith) (omega arith)) in
           let s₂ : Seen sees (at + t .bytes) (t .more) = (λ i a c. seen e i (omega arith) (omega arith)) in
-          let g₁ : spanOf k at (t .bytes) ≡ spanOf (n .taints .bytes) at (t .bytes) = span-taints sees (t .bytes) at k (n .taints .bytes) s₁ (h .taints) in
-          let g₂ : spanOf k (at + t .bytes) (t .more) ≡ spanOf (n .taints .bytes) (at + t .bytes) (t .more) = span-taints sees (t .more) (at + t .bytes) k (n .taints .bytes) s₂ (h .taints) in
-          let based : List ℕ = set u written 0 in
-          let p : ℕ = taintByte (anyTainted (spanOf k at (t .bytes))) in
-          let q : ℕ = taintByte (anyTainted (spanOf k (at + t .bytes) (t .more))) in
-          let first : List ℕ = set based (t .target) p in
-          let other : List ℕ = set (n .taints .registers) written 0 in
           rw e
           (record {
             pc = rw (h .pc);
             monitor = still;
             registers =
-                rw (← g₁, ← g₂)
-                (set-tainted first (set other (t .target) p) (set-tainted based other (set-tainted u (n .taints .registers) (h .registers) written 0) (t .target) p) (t .second) q);
-            full = simp length-set (h .full);
-            values =
-                set-alike clear first _ _ (t .second) _ _ (anyTainted (spanOf k (at + t .bytes) (t .more))) (simp length-set (h .full))
-                (set-alike clear based _ _ (t .target) _ _ (anyTainted (spanOf k at (t .bytes))) (simp length-set (h .full))
-                (set-alike clear u (m .values) (n .values) written next next false (h .full) (h .values) (λ z. refl))
-                (λ z. ap (λ (bs : List ℕ). extendedOf (t .bytes) (t .extent) (joined bs)) (span-alike sees clear each (t .bytes) at k (m .memory) (n .memory) s₁ (h .bytes) z)))
-                (λ z. ap (λ (bs : List ℕ). extendedOf (t .more) (t .extent) (joined bs)) (span-alike sees clear each (t .more) (at + t .bytes) k (m .memory) (n .memory) s₂ (h .bytes) z));
-            taints = h .taints;
+                table-set Anywhere (Word related) _ _ _ _ (t .second) _ _ _ _
+                (table-set Anywhere (Word related) _ _ _ _ (t .target) _ _ _ _ based
+                (loaded related copied sees k l (m .memory) (n .memory) (h .bytes) (real-m .bytes) (real-n .bytes) at (t .bytes) (t .extent) (fits .wide) s₁))
+                (loaded related copied sees k l (m .memory) (n .memory) (h .bytes) (real-m .bytes) (real-n .bytes) (at + t .bytes) (t .more) (t .extent) (fits .wider) s₂);
             bytes = h .bytes;
           })
 
       pub effect-alike : Kept
       effect-alike = effect-at (t .store) refl
 
-    module _ (long : length (m .memory) ≡ length (m .taints .bytes)) (origin : ℕ) (admit : Transfer → ℕ → List Refusal)
+    module _ (origin : ℕ) (admit : Transfer → ℕ → List Refusal)
         (safe : (t : Transfer) (a : ℕ) → Passed (admit t a) → t .store ≡ false → Seen sees (a - origin) (totalOf t)) where
-      -- an access by operands that are the same
-      touch-alike : (t : Transfer) (a : Addressing) → 0 < t .bytes → (o p : Operands) → o ≡ p
-          → Shows (Alike sees clear) (firstOf stopped (touchOf origin t (a .written) (addressOf a o) (sumOf a o) m) (refusalsOf admit t a o))
-          (firstOf stopped (touchOf origin t (a .written) (addressOf a p) (sumOf a p) n) (refusalsOf admit t a p))
+      -- an access by what its operands come to
+      abbrev accessBy : Machine → Transfer → Addressing → Bool → ℕ → ℕ → Step Machine
+      accessBy m t a q base sum =
+          let address = pick (a .post) base sum in
+          firstOf stopped (touchOf origin t (a .written) address sum m)
+          (refusal TaintedAddress q 0 ∷ refusal Misaligned (misalignedStack (a .base) base) base ∷ admit t address)
+
+      touch-alike : (t : Transfer) (a : Addressing) → Bounded t → 0 < t .bytes → (q : Bool) (base sum : ℕ) → Shows (Alike sees related) (accessBy m t a q base sum) (accessBy n t a q base sum)
       unfolding effectOf
-      touch-alike t a l o p e =
-          let at = addressOf a o in
+      touch-alike t a fits l q base sum =
+          let at = pick (a .post) base sum in
           let status = statusOf t at (m .monitor) in
-          rw (← e, ← status-same t at (m .monitor) (n .monitor) l (h .monitor))
-          (first-shows (Alike sees clear) _ _ (refusalsOf admit t a o)
-          (λ q. (
-            effect-alike long (madeOf t status) (a .written) (at - origin) (writtenBack t status (sumOf a o)) (monitorAfter t at (m .monitor)) (monitorAfter t at (n .monitor))
-                (after-same t at (m .monitor) (n .monitor) (h .monitor)) (λ l. subst (λ x. Seen sees (at - origin) (totalOf x)) (sym (load-made t status l)) (safe t at (q .1 .1) l)),
+          rw (← status-same t at (m .monitor) (n .monitor) l (h .monitor))
+          (first-shows (Alike sees related) _ _ (refusal TaintedAddress q 0 ∷ refusal Misaligned (misalignedStack (a .base) base) base ∷ admit t at)
+          (λ p. (
+            effect-alike (madeOf t status) (made-bounded t status fits) (a .written) (at - origin) (writtenBack t status sum) (monitorAfter t at (m .monitor)) (monitorAfter t at (n .monitor))
+                (after-same t at (m .monitor) (n .monitor) (h .monitor))
+                (λ l. subst (λ x. Seen sees (at - origin) (totalOf x)) (sym (load-made t status l)) (safe t at (p .1 .1) l)),
             refl,
           )))
 
-      moves-at : (t : Transfer) (a : Addressing) → 0 < t .bytes → (z : Bool) → operandsOf a m .tainted ≡ z → Shows (Alike sees clear) (accessStep origin admit (Moves t a) m) (accessStep origin admit (Moves t a) n)
+      moves-at : (t : Transfer) (a : Addressing) → Bounded t → 0 < t .bytes → (z : Bool) → operandsOf a m .tainted ≡ z → Shows (Alike sees related) (accessStep origin admit (Moves t a) m) (accessStep origin admit (Moves t a) n)
       unfolding accessStep
-      moves-at t a l true e =
-          let other : operandsOf a n .tainted ≡ true = sym (tainted-same a) ∙ e in
-          rw (e, other) (refl, refl)
-      moves-at t a l false e = touch-alike t a l (operandsOf a m) (operandsOf a n) (operands-same a e)
+      moves-at t a fits l true e =
+          let there : operandsOf a n .tainted ≡ true = sym (tainted-same a) ∙ e in
+          rw (e, there) (refl, refl)
+      moves-at t a fits l false e =
+          let o = operandsOf a m in
+          let p = operandsOf a n in
+          let same : accessBy n t a (o .tainted) (o .base) (sumOf a o) ≡ accessBy n t a (p .tainted) (p .base) (sumOf a p) =
+          by-parts n t a (tainted-same a) (base-same a e) (sums-same a e) in
+          subst (λ s. Shows (Alike sees related) (accessStep origin admit (Moves t a) m) s) same (touch-alike t a fits l (o .tainted) (o .base) (sumOf a o))
+        where
+          by-parts : (n : Machine) (t : Transfer) (a : Addressing) {q r : Bool} {x y s v : ℕ} → q ≡ r → x ≡ y → s ≡ v → accessBy n t a q x s ≡ accessBy n t a r y v
+          by-parts n t a e f g = rw (e, f, g)
 
-      access-alike : (x : Access) → Moving x → Shows (Alike sees clear) (accessStep origin admit x m) (accessStep origin admit x n)
+      access-alike : (x : Access) → Within x → Moving x → Shows (Alike sees related) (accessStep origin admit x m) (accessStep origin admit x n)
       unfolding accessStep
-      access-alike Nothing l = (record { pc = rw (h .pc); monitor = h .monitor; registers = h .registers; full = h .full; values = h .values; taints = h .taints; bytes = h .bytes }, refl)
-      access-alike (Moves t a) l = moves-at t a l (operandsOf a m .tainted) refl
+      access-alike Nothing b l = (record { pc = rw (h .pc); monitor = h .monitor; registers = h .registers; bytes = h .bytes }, refl)
+      access-alike (Moves t a) b l = moves-at t a b l (operandsOf a m .tainted) refl
 
       -- a step under an admission that lets a load look only at what may be seen
-      pub word-alike : (word : ℕ) → Shows (Alike sees clear) (wordStep origin admit word m) (wordStep origin admit word n)
+      pub word-alike : (word : ℕ) → Shows (Alike sees related) (wordStep origin admit word m) (wordStep origin admit word n)
       unfolding wordStep accessStep
-      word-alike word = first-after (Alike sees clear) _ _ (classRefusals word) (accessRefusals admit (wordAccess word) m) (accessRefusals admit (wordAccess word) n) (access-alike (wordAccess word) (moving (decodeOf word .instruction)))
+      word-alike word = first-after (Alike sees related) _ _ (classRefusals word) (accessRefusals admit (wordAccess word) m) (accessRefusals admit (wordAccess word) n) (access-alike (wordAccess word) (bounded (decodeOf word .instruction)) (moving (decodeOf word .instruction)))
 
   -- a step in a window whose admission lets a load look only at what may be seen
-  module _ (w : Window) (safe : (len : ℕ) (t : Transfer) (a : ℕ) → Passed (admitOf w len t a) → t .store ≡ false → Seen sees (a - w .origin) (totalOf t)) (m n : Machine) (h : Alike sees clear m n) where
-    step-at : (word : ℕ) (z y : Bool) (len : ℕ) → bad w m ≡ z → z ≡ y → length (m .memory) ≡ len
-        → Shows (Alike sees clear) (pick z (stopped BadWindow 0) (wordStep (w .origin) (admitOf w (length (m .memory))) word m)) (pick y (stopped BadWindow 0) (wordStep (w .origin) (admitOf w len) word n))
-    step-at word true true len b e l = (refl, refl)
-    step-at word false false len b e l = rw (← l) (word-alike m n h (sym (same-lengths w (length (m .memory)) (length (m .taints .bytes)) (m .pc) b)) (w .origin) (admitOf w (length (m .memory))) (safe (length (m .memory))) word)
-    step-at word true false len b e l = absurd (let z : _≡_ {A = ℕ} 0 1 = cc in omega arith)
-    step-at word false true len b e l = absurd (let z : _≡_ {A = ℕ} 0 1 = cc in omega arith)
+  module _ (w : Window) (safe : (len : ℕ) (t : Transfer) (a : ℕ) → Passed (admitOf w len t a) → t .store ≡ false → Seen sees (a - w .origin) (totalOf t)) (m n : Machine) (real-m : Real m) (real-n : Real n) (h : Alike sees related m n) where
+    same-length : length (m .memory) ≡ length (n .memory)
+    same-length = h .bytes .left ∙ sym (h .bytes .right)
+
+    step-at : (word : ℕ) (z y : Bool) (len : ℕ) → z ≡ y → length (m .memory) ≡ len
+        → Shows (Alike sees related) (pick z (stopped BadWindow 0) (wordStep (w .origin) (admitOf w (length (m .memory))) word m)) (pick y (stopped BadWindow 0) (wordStep (w .origin) (admitOf w len) word n))
+    step-at word true true len e l = (refl, refl)
+    step-at word false false len e l = rw (← l) (word-alike m n real-m real-n h (w .origin) (admitOf w (length (m .memory))) (safe (length (m .memory))) word)
+    step-at word true false len e l = absurd (let z : _≡_ {A = ℕ} 0 1 = cc in omega arith)
+    step-at word false true len e l = absurd (let z : _≡_ {A = ℕ} 0 1 = cc in omega arith)
 
     -- answer 1 is the same for both
     bad-alike : bad w m ≡ bad w n
-    bad-alike = rw (h .bytes .size, h .taints .size, h .pc)
+    bad-alike = rw (same-length, h .bytes .taints, h .pc)
 
-    pub step-alike : (word : ℕ) → Shows (Alike sees clear) (stepOf w word m) (stepOf w word n)
+    pub step-alike : (word : ℕ) → Shows (Alike sees related) (stepOf w word m) (stepOf w word n)
     step-alike word =
         rw (step-bad w word m, step-bad w word n)
-        (step-at word (bad w m) (bad w n) (length (n .memory)) refl bad-alike (h .bytes .size))
+        (step-at word (bad w m) (bad w n) (length (n .memory)) bad-alike same-length)

@@ -1,2 +1,3 @@
-pub mod Agree
+pub mod Shows
+pub mod Halves
 pub mod route

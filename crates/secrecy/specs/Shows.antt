@@ -1,15 +1,8 @@
--- Lists that agree where they must, monitors that are equal, and steps that show the same: what demand 3 is said with.
-use Prim.Native.Nat.{ℕ}
+-- Monitors that are equal, and steps that show the same: what demand 3 is said with.
 use mathlib.Core.Path.{_≡_}
-use mathlib.Core.List.{List}
 use mathlib.Core.Logic.{_⊎_}
-use lib.ListN.{length, getD}
 use Rattle.machine.specs.declared.monitor.Monitor.{Monitor}
 use Rattle.machine.specs.Step.{Step, stopped, moved}
-
-pub record Agree (must : ℕ → Type 0) (xs ys : List ℕ) : Type 0 where
-  pub size : length xs ≡ length ys
-  pub same : (i : ℕ) → must i → getD xs i 0 ≡ getD ys i 0
 
 -- 02, CR 3: a monitor is "open, or an address and a size", so that two open ones are equal, whatever numbers they hold
 abbrev pub EqualMonitors : Monitor → Monitor → Type 0
