@@ -19,7 +19,7 @@ use Rattle.machine.specs.declared.Shown.{Shown}
 use Rattle.machine.specs.Step.{shown, Step, stopped, moved, Outcome}
 use Rattle.machine.proofs.Answers.{Refuses}
 use Rattle.machine.proofs.Taints.{Follows}
-use Rattle.secrecy.specs.Agree.{Shows}
+use Rattle.secrecy.specs.Shows.{Shows}
 use Rattle.execution.specs.Walk.{Walked, halted, ahead, goOn, walkOf, numbersOf, statusesOf, Log, log, logged, Result, glue, notBegun, tooShort, short, runOf, afterSteps}
 use Rattle.execution.specs.Ends.{alone, Kept, Tried, Ends, lastOf}
 use Rattle.execution.specs.Secrecy.{SameRoom, ShowsRun}

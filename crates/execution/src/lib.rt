@@ -13,7 +13,7 @@ ghost use Rattle.machine.specs.Machine.{Machine, machineOf};
 ghost use Rattle.machine.specs.Step.{shown, stepOf};
 ghost use Rattle.execution.specs.Walk.{walkOf, Log, log, glue, notBegun, tooShort, afterSteps};
 ghost use Rattle.execution.specs.Run.{machineRun, result};
-ghost use Rattle.execution.specs.Secrecy.{Same, SameRoom, ShowsRun};
+ghost use Rattle.execution.specs.Secrecy.{Same, Filled, SameRoom, ShowsRun};
 
 // What a run returns: how many steps were done, the answer, code and address of the last step tried, and the
 // state after the steps done.
@@ -26,7 +26,8 @@ pub struct Ran {
 
 // The steps, their order and all that they leave are those of the definition. The taints at the end are those
 // of the taint rule over the steps done. And whatever else the run could have started from that differs only
-// in what is tainted and in what the trace and the status list held: it would have shown the same.
+// in what is tainted and in what the trace and the status list held: it would have shown the same. And if all that
+// is tainted was 0 here and 255 there at the start, and all else alike, then so it is at the end.
 pub fn run(
     words: &[u32],
     state: State,
@@ -40,6 +41,8 @@ pub fn run(
     ensures rule { λ r. ⌜ machineOf (r .state) (now (memory .exit)) (now (taint .exit)) .taints ≡ afterSteps (wordRule (window .origin)) (now (words .entry)) (log (now (trace .exit)) (now (statuses .exit))) (r .steps) (machineOf state (now (memory .entry)) (now (taint .entry)) .taints) ⌝ }
     ensures secret { λ r. ⌜ ((other : Machine) (lent : Log) → Same (machineOf state (now (memory .entry)) (now (taint .entry))) other → SameRoom (log (now (trace .entry)) (now (statuses .entry))) lent
         → ShowsRun Same (result r (now (memory .exit)) (now (taint .exit)) (now (trace .exit)) (now (statuses .exit))) (machineRun window (now (words .entry)) other lent)) ⌝ }
+    ensures filled { λ r. ⌜ ((other : Machine) (lent : Log) → Filled (machineOf state (now (memory .entry)) (now (taint .entry))) other → SameRoom (log (now (trace .entry)) (now (statuses .entry))) lent
+        → ShowsRun Filled (result r (now (memory .exit)) (now (taint .exit)) (now (trace .exit)) (now (statuses .exit))) (machineRun window (now (words .entry)) other lent)) ⌝ }
 {
     if plan::is_bad(window, memory.len() as u64, taint.len() as u64, state.pc) {
         return not_begun(state, Answer::BadWindow);
