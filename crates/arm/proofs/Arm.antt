@@ -25,7 +25,7 @@ use Rattle.machine.specs.Refusals.{bad}
 use Rattle.machine.specs.Step.{Step, stopped, stepOf}
 use Rattle.machine.specs.route.Parts.{wordStep, accessStep}
 use Rattle.machine.proofs.Answers.{step-bad}
-use Rattle.arm.specs.Real.{Real}
+use Rattle.machine.specs.Real.{Real}
 use Rattle.arm.specs.Pages.{pageOf}
 use Rattle.arm.specs.Choices.{badStart, armOf, armStep}
 use Rattle.arm.proofs.Steps.{Ready, Steps}

@@ -13,13 +13,13 @@ use Rattle.plan.specs.declared.window.Window.{Window}
 use Rattle.machine.specs.Monitor.{openMonitor}
 use Rattle.machine.specs.Machine.{Machine}
 use Rattle.machine.specs.Step.{performed}
-use Rattle.arm.specs.Pseudocode.{SignExtend, ZeroExtend, Add, X, setX, base, setBase, Mem, setMem}
+use Rattle.arm.specs.Pseudocode.{ExtendReg, SignExtend, ZeroExtend, Add, X, setX, base, setBase, Mem, setMem}
 use Rattle.arm.specs.Unscaled.{unscaled}
 use Rattle.arm.specs.Immediate.{immediate}
 use Rattle.arm.specs.Indexed.{indexed}
 use Rattle.arm.specs.Exclusive.{loadExclusive, storeExclusive}
 use Rattle.arm.specs.AcquireRelease.{acquireRelease}
-use Rattle.arm.specs.Marks.{anyMarked, setMarks, marksOf}
+use Rattle.arm.specs.Marks.{anyMarked, loadMarks, repeated, storeMarks, marksOf}
 use Rattle.arm.specs.Choices.{badStart, armStep}
 
 abbrev window : Window
@@ -53,7 +53,7 @@ stacked word sp =
 
 -- ldurb, and ldursb to 32 and to 64 bits, at 4100
 loads : map loaded (0x385ff020 ∷ 0x38dff020 ∷ 0x389ff020 ∷ []) ≡ (128 ∷ 4294967168 ∷ (2 ^ 64 - 128) ∷ [])
-unfolding armStep badStart rowOf inSet undefined undefinedSize unpredictable part unscaled SignExtend ZeroExtend Add X setX base Mem marksOf anyMarked
+unfolding armStep badStart rowOf inSet undefined undefinedSize unpredictable part unscaled SignExtend ZeroExtend Add X setX base Mem anyMarked marksOf loadMarks repeated
 loads = refl
 
 -- not of the set; two undefined words; an unpredictable pair
@@ -61,13 +61,49 @@ loads = refl
 -- 8 bytes at 4101, exclusive and acquired
 answers : map answer (0x91000000 ∷ 0xb8c00020 ∷ 0x38e00862 ∷ 0xa9400020 ∷ 0xf8403020 ∷ 0xf8404020 ∷ 0x381fe020 ∷ 0x381ff020 ∷ 0xc85f7c20 ∷ 0xc8dffc20 ∷ [])
     ≡ (2 ∷ 3 ∷ 3 ∷ 4 ∷ 0 ∷ 7 ∷ 8 ∷ 0 ∷ 6 ∷ 0 ∷ [])
-unfolding armStep badStart rowOf inSet undefined undefinedSize undefinedOption undefinedPair undefinedSecond undefinedUnused unpredictable baseIs unpredictablePair part unscaled loadExclusive acquireRelease SignExtend Add X base
+unfolding armStep badStart rowOf inSet undefined undefinedSize undefinedOption undefinedPair undefinedSecond undefinedUnused unpredictable baseIs unpredictablePair part unscaled loadExclusive acquireRelease SignExtend Add X base anyMarked
 answers = refl
+
+-- ---- marks
+
+-- marked are the byte at 4100, byte 5 of X0, and byte 1 of X2, some not by 1
+abbrev secret : Machine
+secret =
+    record {
+      values = start .values;
+      pc = 8;
+      memory = start .memory;
+      taints = record { registers = 0x30000000000 ∷ 0 ∷ 0x200 ∷ replicate 29 0; bytes = replicate 4 0 ++ (2 ∷ replicate 11 0) };
+      monitor = openMonitor;
+    }
+
+abbrev marked : ℕ → ℕ
+marked word = getD (performed secret (armStep window word secret) .machine .taints .registers) 0 0
+
+-- ldurb, and ldursb to 32 and to 64 bits, at 4100; ldurh and ldursh at 4099; ldur of 4 bytes at 4100
+marks-loaded : map marked (0x385ff020 ∷ 0x38dff020 ∷ 0x389ff020 ∷ 0x785fe020 ∷ 0x789fe020 ∷ 0xb85ff020 ∷ [])
+    ≡ (0x1 ∷ 0x1010101 ∷ 0x101010101010101 ∷ 0x100 ∷ 0x101010101010100 ∷ 0x1 ∷ [])
+unfolding armStep badStart rowOf inSet undefined undefinedSize unpredictable part unscaled SignExtend ZeroExtend Add X setX base Mem anyMarked marksOf loadMarks repeated
+marks-loaded = refl
+
+-- stur of 4 bytes of X2 at 4100
+marks-stored : performed secret (armStep window 0xb81ff022 secret) .machine .taints .bytes ≡ replicate 5 0 ++ (1 ∷ replicate 10 0)
+unfolding armStep badStart rowOf inSet undefined undefinedSize unpredictable part unscaled SignExtend Add X base setMem anyMarked marksOf storeMarks
+marks-stored = refl
+
+-- ldrb by the index X0, as uxtw, lsl, sxtw and sxtx
+marks-refused : map (λ word. answerNumber (performed secret (armStep window word secret) .answer)) (0x38604822 ∷ 0x38606822 ∷ 0x3860c822 ∷ 0x3860e822 ∷ []) ≡ (0 ∷ 5 ∷ 0 ∷ 5 ∷ [])
+unfolding armStep badStart rowOf inSet undefined undefinedSize undefinedOption undefinedPrefetch unpredictable part indexed ExtendReg SignExtend ZeroExtend Add X base anyMarked
+marks-refused = refl
+
+-- ---- the stack
 
 -- `ldr x0, [sp], #16`, and a prefetch by SP: only SP itself is looked at, and only of an access
 stacks : (map (stacked 0xf84107e0) (4096 ∷ 4100 ∷ 4104 ∷ []) ≡ ((0, 4096) ∷ (6, 4100) ∷ (6, 4104) ∷ [])) × (stacked 0xf8bf6be0 4100 ≡ (0, 0))
-unfolding armStep badStart rowOf inSet undefined undefinedSize undefinedOption undefinedPrefetch unpredictable baseIs part immediate indexed SignExtend ZeroExtend Add X setX setBase base Mem marksOf anyMarked
+unfolding armStep badStart rowOf inSet undefined undefinedSize undefinedOption undefinedPrefetch unpredictable baseIs part immediate indexed SignExtend ZeroExtend Add X setX setBase base Mem anyMarked marksOf loadMarks repeated
 stacks = (refl, refl)
+
+-- ---- the monitor
 
 -- X1 is 4104, and X2 7, which is neither status
 abbrev idle : Machine
@@ -81,5 +117,5 @@ status m (word ∷ words) = status (performed m (armStep window word m) .machine
 -- `stxr w2, x0, [x1]` by itself, after `ldxr x0, [x1]`, twice after it, and after `ldxr w0, [x1]`
 statuses : map (status idle) ((0xc8027c20 ∷ []) ∷ (0xc85f7c20 ∷ 0xc8027c20 ∷ []) ∷ (0xc85f7c20 ∷ 0xc8027c20 ∷ 0xc8027c20 ∷ []) ∷ (0x885f7c20 ∷ 0xc8027c20 ∷ []) ∷ [])
     ≡ (1 ∷ 0 ∷ 1 ∷ 1 ∷ [])
-unfolding armStep badStart rowOf inSet undefined undefinedSecond undefinedUnused unpredictable baseIs unpredictableStatus part loadExclusive storeExclusive ZeroExtend Add X setX base Mem setMem marksOf anyMarked setMarks
+unfolding armStep badStart rowOf inSet undefined undefinedSecond undefinedUnused unpredictable baseIs unpredictableStatus part loadExclusive storeExclusive ZeroExtend Add X setX base Mem setMem anyMarked marksOf loadMarks repeated storeMarks
 statuses = refl

@@ -95,10 +95,10 @@ module _ (w : Window) (m : Machine) (r : Ready w m) (word : ℕ) (stray : Bool) 
 
   left-marks : (k : ℕ) → w .origin ≤ address → (pass : Bool)
       → moveRule (madeOf (single true true false k k t) (pick pass 0 1)) (zeroSlot rs) (address - w .origin) (m .taints)
-      ≡ marksOf false false true true (pick pass 0 1) (w .origin) word address k (m .taints)
+      ≡ marksOf false false true true (pick pass 0 1) (pageOf StoreExclusiveRow word .extent) (w .origin) word address k (m .taints)
   unfolding fails
-  left-marks k h true = status-marks false (w .origin) word address (m .taints) (r .real .marks) h k k false
-  left-marks k h false = status-marks false (w .origin) word address (m .taints) (r .real .marks) h k k true
+  left-marks k h true = status-marks false (w .origin) word address (m .taints) (r .real .marks) h k k _ false
+  left-marks k h false = status-marks false (w .origin) word address (m .taints) (r .real .marks) h k k _ true
 
   -- with what the monitor says
   made : (k : ℕ) → 0 < k → k ≤ 16 → wordAccess word ≡ Moves (single true true false k k t) (based (field 9 5 word) 0 false (zeroSlot rs)) → (pass : Bool)
@@ -186,22 +186,22 @@ module _ (w : Window) (m : Machine) (r : Ready w m) (word : ℕ) where
 
   abbrev Loads : ℕ → Type 0
   Loads size =
-      wordAccess word ≡ Moves (monitoredTransfer false true (sizeAt size) (field 4 0 word)) (based n 0 false 32) → Steps w m LoadExclusiveRow word (loadPage size)
+      2 ^ field 31 30 word ≡ 2 ^ size → wordAccess word ≡ Moves (monitoredTransfer false true (sizeAt size) (field 4 0 word)) (based n 0 false 32) → Steps w m LoadExclusiveRow word (loadPage size)
 
   all-loads : (size : ℕ) → size < 4 → Loads size
   unfolding monitoredTransfer sizeAt
   all-loads =
-      four Loads (λ e. load 1 32 (omega arith) (omega arith) e) (λ e. load 2 32 (omega arith) (omega arith) e)
-      (λ e. load 4 32 (omega arith) (omega arith) e) (λ e. load 8 64 (omega arith) (omega arith) e)
+      four Loads (λ x e. load 1 32 (omega arith) (omega arith) x e) (λ x e. load 2 32 (omega arith) (omega arith) x e)
+      (λ x e. load 4 32 (omega arith) (omega arith) x e) (λ x e. load 8 64 (omega arith) (omega arith) x e)
     where
-      load : (k width : ℕ) → 0 < k → k ≤ 16 → wordAccess word ≡ Moves (single true false false k k (field 4 0 word)) (based n 0 false 32)
+      load : (k width : ℕ) → 0 < k → k ≤ 16 → 2 ^ field 31 30 word ≡ k → wordAccess word ≡ Moves (single true false false k k (field 4 0 word)) (based n 0 false 32)
           → Steps w m LoadExclusiveRow word (CheckSPAlignment n s (loads (base n s) k (setX (field 4 0 word) width (ZeroExtend (8 * k) width (Mem (base n s) k (SetExclusiveMonitors (base n s) k s))) (SetExclusiveMonitors (base n s) k s))))
-      load k width p q e = one-load w m r LoadExclusiveRow word _ true false false _ _ _ load-form refl k k width (Extend false (8 * k) width) p q (zeros k width) e
+      load k width p q x e = one-load w m r LoadExclusiveRow word _ true false false _ _ _ load-form refl k k width (Extend false (8 * k) width) p q (zeros k width) x e
 
   pub load-exclusive-step : Has word (columnsOf LoadExclusiveRow .fixed) → wordAccess word ≡ familyAccess (columnsOf LoadExclusiveRow .family word)
       → Steps w m LoadExclusiveRow word (loadExclusive word (armOf w m))
   unfolding loadExclusive exclusiveIn exclusiveAccess
-  load-exclusive-step h e = all-loads (field 31 30 word) size-lt (e ∙ ap (λ (t : Transfer). Moves t (based n 0 false 32)) (load-exclusive-transfer word h))
+  load-exclusive-step h e = all-loads (field 31 30 word) size-lt refl (e ∙ ap (λ (t : Transfer). Moves t (based n 0 false 32)) (load-exclusive-transfer word h))
 
   -- ---- store-exclusive
 
@@ -244,7 +244,7 @@ module _ (w : Window) (m : Machine) (r : Ready w m) (word : ℕ) where
 
   abbrev Others : ℕ → ℕ → Type 0
   Others L size =
-      wordAccess word ≡ Moves (exclusiveTransfer (exclusiveAt (5 + L * 2)) (sizeAt size) (field 4 0 word)) (based n 0 false 32)
+      2 ^ field 31 30 word ≡ 2 ^ size → wordAccess word ≡ Moves (exclusiveTransfer (exclusiveAt (5 + L * 2)) (sizeAt size) (field 4 0 word)) (based n 0 false 32)
       → Steps w m AcquireReleaseRow word (otherPage L size)
 
   all-others : (L size : ℕ) → L < 2 → size < 4 → Others L size
@@ -254,23 +254,23 @@ module _ (w : Window) (m : Machine) (r : Ready w m) (word : ℕ) where
       released : (size : ℕ) → size < 4 → Others 0 size
       released =
           four (Others 0)
-          (λ e. one-store w m r AcquireReleaseRow word _ true false _ _ _ other-form refl 1 1 (omega arith) (omega arith) e)
-          (λ e. one-store w m r AcquireReleaseRow word _ true false _ _ _ other-form refl 2 2 (omega arith) (omega arith) e)
-          (λ e. one-store w m r AcquireReleaseRow word _ true false _ _ _ other-form refl 4 4 (omega arith) (omega arith) e)
-          (λ e. one-store w m r AcquireReleaseRow word _ true false _ _ _ other-form refl 8 8 (omega arith) (omega arith) e)
+          (λ x e. one-store w m r AcquireReleaseRow word _ true false _ _ _ other-form refl 1 1 (omega arith) (omega arith) e)
+          (λ x e. one-store w m r AcquireReleaseRow word _ true false _ _ _ other-form refl 2 2 (omega arith) (omega arith) e)
+          (λ x e. one-store w m r AcquireReleaseRow word _ true false _ _ _ other-form refl 4 4 (omega arith) (omega arith) e)
+          (λ x e. one-store w m r AcquireReleaseRow word _ true false _ _ _ other-form refl 8 8 (omega arith) (omega arith) e)
 
       acquired : (size : ℕ) → size < 4 → Others 1 size
       acquired =
           four (Others 1)
-          (λ e. one-load w m r AcquireReleaseRow word _ false true false _ _ _ other-form refl 1 1 32 (Extend false 8 32) (omega arith) (omega arith) (zeros 1 32) e)
-          (λ e. one-load w m r AcquireReleaseRow word _ false true false _ _ _ other-form refl 2 2 32 (Extend false 16 32) (omega arith) (omega arith) (zeros 2 32) e)
-          (λ e. one-load w m r AcquireReleaseRow word _ false true false _ _ _ other-form refl 4 4 32 (Extend false 32 32) (omega arith) (omega arith) (zeros 4 32) e)
-          (λ e. one-load w m r AcquireReleaseRow word _ false true false _ _ _ other-form refl 8 8 64 (Extend false 64 64) (omega arith) (omega arith) (zeros 8 64) e)
+          (λ x e. one-load w m r AcquireReleaseRow word _ false true false _ _ _ other-form refl 1 1 32 (Extend false 8 32) (omega arith) (omega arith) (zeros 1 32) x e)
+          (λ x e. one-load w m r AcquireReleaseRow word _ false true false _ _ _ other-form refl 2 2 32 (Extend false 16 32) (omega arith) (omega arith) (zeros 2 32) x e)
+          (λ x e. one-load w m r AcquireReleaseRow word _ false true false _ _ _ other-form refl 4 4 32 (Extend false 32 32) (omega arith) (omega arith) (zeros 4 32) x e)
+          (λ x e. one-load w m r AcquireReleaseRow word _ false true false _ _ _ other-form refl 8 8 64 (Extend false 64 64) (omega arith) (omega arith) (zeros 8 64) x e)
 
   pub acquire-release-step : field 23 23 word ≡ 1 → field 15 15 word ≡ 1 → wordAccess word ≡ familyAccess (columnsOf AcquireReleaseRow .family word)
       → Steps w m AcquireReleaseRow word (acquireRelease word (armOf w m))
   unfolding acquireRelease exclusiveOpIn exclusiveIn exclusiveAccess
   acquire-release-step h k e =
       let code : exclusiveBits word ≡ 5 + field 22 22 word * 2 = omega (arith, h, k) in
-      all-others (field 22 22 word) (field 31 30 word) (part-lt 22 1 word) size-lt
+      all-others (field 22 22 word) (field 31 30 word) (part-lt 22 1 word) size-lt refl
       (e ∙ ap (λ (c : ℕ). Moves (exclusiveTransfer (exclusiveAt c) (sizeAt (field 31 30 word)) (field 4 0 word)) (based n 0 false 32)) code)

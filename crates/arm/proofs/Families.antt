@@ -13,6 +13,7 @@ use Rattle.bits.specs.Fields.{part, field}
 use Rattle.bits.specs.Signed.{signedOf, twosComplement}
 use Rattle.bits.proofs.Choices.{both, neither}
 use Rattle.bits.proofs.Parts.{part-lt}
+use Rattle.memory.specs.Taints.{tainted}
 use Rattle.registers.specs.File.{zeroSlot, taintIn}
 use Rattle.bits.specs.Extension.{extendedOf}
 use Rattle.instruction.specs.declared.row.Row.{Row}
@@ -30,6 +31,7 @@ use Rattle.access.specs.Transfers.{literalTransfer}
 use Rattle.access.specs.Addressings.{based, shiftOf, indexedMode, literalMode}
 use Rattle.access.specs.Accesses.{sizedAccess, literalMoves, literalAccess, familyAccess, wordAccess}
 use Rattle.plan.specs.declared.window.Window.{Window}
+use Rattle.plan.specs.Operands.{usedOf}
 use Rattle.plan.specs.Address.{sumOf, indexOf, shiftedOf}
 use Rattle.plan.specs.Admission.{misaligned, unaligned}
 use Rattle.plan.specs.Plans.{misalignedStack}
@@ -40,12 +42,12 @@ use Rattle.arm.specs.Ordered.{ordered}
 use Rattle.arm.specs.Immediate.{immediate, postIndex, preIndex, unsigned}
 use Rattle.arm.specs.Indexed.{indexed}
 use Rattle.arm.specs.Literal.{literal}
-use Rattle.arm.specs.Marks.{marks, mark}
-use Rattle.arm.specs.Pages.{pageOf}
+use Rattle.arm.specs.Marks.{anyMarked}
+use Rattle.arm.specs.Pages.{opcExtent, pageOf}
 use Rattle.arm.specs.Choices.{marked, misplaced, armOf}
 use Rattle.arm.proofs.Bits.{add-is, imm9-is, imm12-is, imm19-is, index-is, extended-is}
 use Rattle.arm.proofs.Places.{base-is, x-is}
-use Rattle.arm.proofs.Marks.{tainted-is, mark-is}
+use Rattle.arm.proofs.Marks.{marks-at, base-marked, index-marked}
 use Rattle.arm.proofs.Steps.{Ready, Steps, hints-step, same-block}
 use Rattle.arm.proofs.Singles.{four, Placed, Form, one-load, extended-none, all-sizes}
 
@@ -123,13 +125,13 @@ module _ (w : Window) (m : Machine) (r : Ready w m) (l : Row) (word : ℕ) where
     unfolding based sumOf shiftedOf indexOf
     based-sum = rw (base-register, add-is, List·getD-eq-default (m .values) 0 {n = 32} (omega (arith, r .real .registers))) (omega arith)
 
-    based-mark : operandsOf a m .tainted ≡ (marks (getD (m .taints .registers) n 0) || false)
-    unfolding based
+    based-mark : operandsOf a m .tainted ≡ (anyMarked 8 (getD (m .taints .registers) n 0) || false)
+    unfolding based usedOf
     based-mark =
-        rw (List·getD-eq-default (m .taints .registers) 0 {n = 32} (omega (arith, r .real .marks)), tainted-is (getD (m .taints .registers) n 0))
-        (either (marks (getD (m .taints .registers) n 0)) false)
+        rw (List·getD-eq-default (m .taints .registers) 0 {n = 32} (omega (arith, r .real .marks)), base-marked (getD (m .taints .registers) n 0) (r .real .marked n))
+        (either (anyMarked 8 (getD (m .taints .registers) n 0)) false)
 
-    pub based-placed : (exclusive ordered : Bool) → (marks (getD (m .taints .registers) n 0) || false) ≡ marked (pageOf l word) word m
+    pub based-placed : (exclusive ordered : Bool) → (anyMarked 8 (getD (m .taints .registers) n 0) || false) ≡ marked (pageOf l word) word m
         → ((k address : ℕ) → 0 < k → k ≤ 16 → (misaligned ordered k address || unaligned exclusive k address) ≡ misplaced (pageOf l word .alignment) address k)
         → Placed w m l word a exclusive ordered (strays m n) (pick post (base n s) (Add (base n s) offset))
     unfolding based
@@ -144,7 +146,7 @@ module _ (w : Window) (m : Machine) (r : Ready w m) (l : Row) (word : ℕ) where
 
   module _ (offset : ℕ) (post wback : Bool) where
     pub based-form : (ordered : Bool) → pageOf l word .wback ≡ wback → pageOf l word .status ≡ false
-        → (marks (getD (m .taints .registers) n 0) || false) ≡ marked (pageOf l word) word m
+        → (anyMarked 8 (getD (m .taints .registers) n 0) || false) ≡ marked (pageOf l word) word m
         → (wback ≡ true → ¬ (n ≡ zeroSlot (field 4 0 word)))
         → ((k address : ℕ) → 0 < k → k ≤ 16 → (misaligned ordered k address || unaligned false k address) ≡ misplaced (pageOf l word .alignment) address k)
         → Form w m l word (based n offset post (pick wback n 32)) false ordered wback (strays m n) (pick post (base n s) (Add (base n s) offset)) (Add (base n s) offset)
@@ -184,7 +186,7 @@ module _ (w : Window) (m : Machine) (r : Ready w m) (word : ℕ) where
   unscaled-step u e =
       let k = known-sizes word u in
       let form = based-form w m r UnscaledRow word offset9 false false false refl refl refl (λ h. absurd (never h)) (λ k x p q. refl) in
-      all-sizes w m r UnscaledRow word _ false false _ _ _ form refl size opc size-lt opc-lt (k .0) (k .1) (rw offset9-is e)
+      all-sizes w m r UnscaledRow word _ false false _ _ _ form refl size opc size-lt opc-lt refl (k .0) (k .1) (rw offset9-is e)
 
   pub ordered-step : undefinedPrefetch word ≡ false → wordAccess word ≡ familyAccess (columnsOf OrderedRow .family word)
       → Steps w m OrderedRow word (ordered word (armOf w m))
@@ -192,7 +194,7 @@ module _ (w : Window) (m : Machine) (r : Ready w m) (word : ℕ) where
   ordered-step u e =
       let k = known-sizes word (prefetch-no word u .0) in
       let form = based-form w m r OrderedRow word offset9 false false true refl refl refl (λ h. absurd (never h)) (λ k x p q. rw or-false (same-block x k p q)) in
-      all-sizes w m r OrderedRow word _ true false _ _ _ form refl size opc size-lt opc-lt (k .0) (k .1) (rw offset9-is e)
+      all-sizes w m r OrderedRow word _ true false _ _ _ form refl size opc size-lt opc-lt refl (k .0) (k .1) (rw offset9-is e)
 
   -- with writeback
   base-apart : baseIs (field 4 0 word) word ≡ false → ¬ (field 9 5 word ≡ zeroSlot (field 4 0 word))
@@ -205,7 +207,7 @@ module _ (w : Window) (m : Machine) (r : Ready w m) (word : ℕ) where
   post-step u b e =
       let k = known-sizes word (prefetch-no word u .0) in
       let form = based-form w m r PostRow word offset9 true true false refl refl refl (λ h. base-apart b) (λ k x p q. refl) in
-      all-sizes w m r PostRow word _ false true _ _ _ form refl size opc size-lt opc-lt (k .0) (k .1) (rw offset9-is e)
+      all-sizes w m r PostRow word _ false true _ _ _ form refl size opc size-lt opc-lt refl (k .0) (k .1) (rw offset9-is e)
 
   pub pre-step : undefinedPrefetch word ≡ false → unpredictableBase word ≡ false
       → wordAccess word ≡ familyAccess (columnsOf PreRow .family word) → Steps w m PreRow word (preIndex word (armOf w m))
@@ -213,7 +215,7 @@ module _ (w : Window) (m : Machine) (r : Ready w m) (word : ℕ) where
   pre-step u b e =
       let k = known-sizes word (prefetch-no word u .0) in
       let form = based-form w m r PreRow word offset9 false true false refl refl refl (λ h. base-apart b) (λ k x p q. refl) in
-      all-sizes w m r PreRow word _ false true _ _ _ form refl size opc size-lt opc-lt (k .0) (k .1) (rw offset9-is e)
+      all-sizes w m r PreRow word _ false true _ _ _ form refl size opc size-lt opc-lt refl (k .0) (k .1) (rw offset9-is e)
 
   -- the size of an operation is that of its word
   size-back : undefinedSize word ≡ false → sizeOf (sizedIn word) ≡ size
@@ -233,7 +235,7 @@ module _ (w : Window) (m : Machine) (r : Ready w m) (word : ℕ) where
       let offset-is : field 21 10 word * 2 ^ sizeOf (sizedIn word) ≡ offset =
       rw (size-back u) (sym (imm12-is (field 21 10 word) size (part-lt 10 12 word) size-lt)) in
       let form = based-form w m r UnsignedRow word offset false false false refl refl refl (λ h. absurd (never h)) (λ k x p q. refl) in
-      all-sizes w m r UnsignedRow word _ false false _ _ _ form refl size opc size-lt opc-lt (k .0) (k .1) (rw (← offset-is) e)
+      all-sizes w m r UnsignedRow word _ false false _ _ _ form refl size opc size-lt opc-lt refl (k .0) (k .1) (rw (← offset-is) e)
 
   -- ---- a base and an index
 
@@ -285,8 +287,8 @@ module _ (w : Window) (m : Machine) (r : Ready w m) (word : ℕ) where
   index-mark : operandsOf indexing m .tainted ≡ marked (pageOf RegisterRow word) word m
   index-mark =
       let u = m .taints .registers in
-      either (taintIn u (field 9 5 word)) (taintIn u (zeroSlot i))
-      ∙ rw (tainted-is (getD u (field 9 5 word) 0), mark-is u (r .real .marks) i)
+      either (taintIn u (field 9 5 word)) (tainted (usedOf option (getD u (zeroSlot i) 0)))
+      ∙ rw (base-marked (getD u (field 9 5 word) 0) (r .real .marked (field 9 5 word)), index-marked option (getD u (zeroSlot i) 0) (r .real .marked (zeroSlot i)), marks-at u (r .real .marks) i)
 
   index-form : undefinedOption word ≡ false
       → let address = Add (base (field 9 5 word) (armOf w m)) (ExtendReg i option shift (armOf w m)) in
@@ -315,7 +317,7 @@ module _ (w : Window) (m : Machine) (r : Ready w m) (word : ℕ) where
   indexed-step u e =
       let p = option-no word u in
       let k = known-sizes word (p .0) in
-      all-sizes w m r RegisterRow word indexing false false _ _ _ (index-form u) refl size opc size-lt opc-lt (k .0) (k .1)
+      all-sizes w m r RegisterRow word indexing false false _ _ _ (index-form u) refl size opc size-lt opc-lt refl (k .0) (k .1)
       (e ∙ ap (λ (k : ℕ). sizedAccess (sizedIn word) (field 4 0 word) false (indexingBy k)) (size-back (p .0)))
 
   -- ---- the program counter and an offset
@@ -328,7 +330,7 @@ module _ (w : Window) (m : Machine) (r : Ready w m) (word : ℕ) where
   literal-sum offset = rw (add-is, List·getD-eq-default (m .values) 0 {n = 32} (omega (arith, r .real .registers))) (omega arith)
 
   literal-form : (offset : ℕ) → Form w m LiteralRow word (literalMode offset) false false false false (Add (m .pc) offset) (Add (m .pc) offset)
-  unfolding literalMode misaligned unaligned misalignedStack
+  unfolding literalMode misaligned unaligned misalignedStack usedOf
   literal-form offset =
       record {
         placed =
@@ -349,12 +351,12 @@ module _ (w : Window) (m : Machine) (r : Ready w m) (word : ℕ) where
   -- at an address that is the sum of the two
   module _ (address : ℕ) (at : address ≡ Add (m .pc) offset19) where
     literal-load : (k extent width : ℕ) (g : ℕ → ℕ) → ((v : ℕ) → v < 256 ^ k → extendedOf k extent v ≡ g v) → 0 < k → k ≤ 16
-        → wordAccess word ≡ literalMoves k extent (literalIn word)
+        → pageOf LiteralRow word .extent ≡ extent → wordAccess word ≡ literalMoves k extent (literalIn word)
         → Steps w m LiteralRow word (loads address k (setX (field 4 0 word) width (g (Mem address k (armOf w m))) (armOf w m)))
     unfolding literalMoves literalTransfer literalIn
-    literal-load k extent width g x p q e =
+    literal-load k extent width g x p q filled e =
         rw at
-        (one-load w m r LiteralRow word (literalMode offset19) false false false false _ _ (literal-form offset19) refl k extent width g p q x
+        (one-load w m r LiteralRow word (literalMode offset19) false false false false _ _ (literal-form offset19) refl k extent width g p q x filled
         (e ∙ ap (λ (o : ℕ). Moves (literalTransfer k extent (field 4 0 word)) (literalMode o)) (sym (imm19-is (field 23 5 word) (part-lt 5 19 word)))))
 
     -- the page, by opc
@@ -371,12 +373,12 @@ module _ (w : Window) (m : Machine) (r : Ready w m) (word : ℕ) where
     literal-at : wordAccess word ≡ literalAccess (literalAt (field 31 30 word)) (literalIn word) → Steps w m LiteralRow word (literalPage (field 31 30 word))
     unfolding literalAt literalMoves
     literal-at e =
-        four (λ opc. wordAccess word ≡ literalAccess (literalAt opc) (literalIn word) → Steps w m LiteralRow word (literalPage opc))
-        (λ e. literal-load 4 4 32 (λ v. v) (λ v h. extended-none 4 v) (omega arith) (omega arith) e)
-        (λ e. literal-load 8 8 64 (λ v. v) (λ v h. extended-none 8 v) (omega arith) (omega arith) e)
-        (λ e. literal-load 4 8 64 (SignExtend 32 64) (λ v. extended-is 3 8 v (omega arith)) (omega arith) (omega arith) e)
-        (λ e. hints-step w m LiteralRow word e)
-        (field 31 30 word) size-lt e
+        four (λ opc. pageOf LiteralRow word .extent ≡ opcExtent opc → wordAccess word ≡ literalAccess (literalAt opc) (literalIn word) → Steps w m LiteralRow word (literalPage opc))
+        (λ x e. literal-load 4 4 32 (λ v. v) (λ v h. extended-none 4 v) (omega arith) (omega arith) x e)
+        (λ x e. literal-load 8 8 64 (λ v. v) (λ v h. extended-none 8 v) (omega arith) (omega arith) x e)
+        (λ x e. literal-load 4 8 64 (SignExtend 32 64) (λ v. extended-is 3 8 v (omega arith)) (omega arith) (omega arith) x e)
+        (λ x e. hints-step w m LiteralRow word e)
+        (field 31 30 word) size-lt refl e
 
   pub literal-step : wordAccess word ≡ familyAccess (columnsOf LiteralRow .family word) → Steps w m LiteralRow word (literal word (armOf w m))
   unfolding literal Add part

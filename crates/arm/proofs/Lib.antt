@@ -7,6 +7,5 @@ pub mod Families
 pub mod Pairs
 pub mod Exclusives
 pub mod Arm
-pub mod Reals
 pub mod Runs
 pub mod Examples

@@ -1,46 +1,51 @@
--- The machine's rule of taints is 01's rule of marks, for one register and for two. Assumes nothing.
-use Prim.Native.Nat.{ℕ, zero, suc, _+_, _-_, _*_, _/_, _≤_}
+-- The machine's rule of taints is 01's rule of marks, for one register and for two. A load goes by its bytes from the first on,
+-- with the last one's mark handed on for the sign copies (`load-at`). Assumes nothing.
+use Prim.Native.Nat.{ℕ, zero, suc, _+_, _-_, _*_, _/_, _%_, _^_, _≤_, _<_}
 use mathlib.Core.Path.{_≡_, refl, sym, ap, _∙_}
-use mathlib.Core.Bool.{Bool, true, false, _||_}
-use mathlib.Core.List.{List}
+use mathlib.Core.Bool.{Bool, true, false, _||_, or-false, or-true}
+use mathlib.Core.List.{List, _++_, map}
+use native.Mathlib.Nat.{pow-suc, one-le-pow, mod-one, mod-eq-of-lt}
 use native.Mathlib.Omega.{arith}
-use lib.Dec.{eqb, eqb·suc-zero}
+use lib.Arith.{mod-mul}
+use lib.Dec.{eqb, eqb·suc-zero, lit<}
 use lib.ListN.{length, getD, set, replicate, length-set, List·getD-eq-default}
 use lib.Seq.{sets, set-out}
 use Rattle.bits.specs.Choice.{pick}
 use Rattle.bits.specs.Fields.{field}
-use Rattle.bits.specs.Bytes.{spanOf}
-use Rattle.registers.specs.File.{zeroSlot, taintIn}
-use Rattle.memory.specs.Taints.{tainted, anyTainted, taintByte}
+use Rattle.bits.specs.Bytes.{bytesOf, joined}
+use Rattle.registers.specs.File.{zeroSlot}
+use Rattle.memory.specs.Taints.{tainted, normal}
+use Rattle.memory.specs.Sources.{Source, cleared, sign, bytesFrom, signFrom, sourcesOf, taintFrom, loadedTaint}
 use Rattle.access.specs.declared.transfer.Transfer.{Transfer}
+use Rattle.plan.specs.Operands.{usedOf}
 use Rattle.machine.specs.Rule.{Taints, moveRule}
-use Rattle.arm.specs.Marks.{marks, mark, setMark, anyMarked, setMarks, marksOf}
+use Rattle.arm.specs.Marks.{marks, anyMarked, copied, marksAt, setMarks, usedBytes, repeated, loadMarks, storeMarks, marksOf}
 use Rattle.arm.proofs.Places.{next}
 
 -- ---- a mark
 
-pub tainted-is : (x : ℕ) → tainted x ≡ marks x
+tainted-is : (x : ℕ) → tainted x ≡ marks x
 tainted-is zero = refl
 tainted-is (suc x) = rw (eqb·suc-zero x)
 
-byte-is : (b : Bool) → taintByte b ≡ pick b 1 0
-byte-is true = refl
-byte-is false = refl
+copied-is : (x : ℕ) → normal x ≡ copied x
+copied-is zero = refl
+copied-is (suc x) = rw (eqb·suc-zero x)
 
 -- ---- registers: a slot of 32 is none
 
 module _ (u : List ℕ) (len : length u ≡ 32) where
-  pub set-mark : (n : ℕ) (b : Bool) → set u (zeroSlot n) (taintByte b) ≡ setMark n b u
-  set-mark n b = rw (byte-is b) (go (eqb n 31))
+  pub set-marks : (n x : ℕ) → set u (zeroSlot n) x ≡ setMarks n x u
+  set-marks n x = go (eqb n 31)
     where
-      go : (t : Bool) → set u (pick t 32 n) (pick b 1 0) ≡ pick t u (set u n (pick b 1 0))
-      go true = set-out u 32 (pick b 1 0) (omega arith)
+      go : (t : Bool) → set u (pick t 32 n) x ≡ pick t u (set u n x)
+      go true = set-out u 32 x (omega arith)
       go false = refl
 
-  pub mark-is : (n : ℕ) → taintIn u (zeroSlot n) ≡ mark n u
-  mark-is n = tainted-is (getD u (zeroSlot n) 0) ∙ go (eqb n 31)
+  pub marks-at : (n : ℕ) → getD u (zeroSlot n) 0 ≡ marksAt n u
+  marks-at n = go (eqb n 31)
     where
-      go : (t : Bool) → marks (getD u (pick t 32 n) 0) ≡ pick t false (marks (getD u n 0))
+      go : (t : Bool) → getD u (pick t 32 n) 0 ≡ pick t 0 (getD u n 0)
       go true = rw (List·getD-eq-default u 0 {n = 32} (omega arith))
       go false = refl
 
@@ -48,25 +53,76 @@ module _ (u : List ℕ) (len : length u ≡ 32) where
   base-mark true n = refl
   base-mark false n = set-out u 32 0 (omega arith)
 
+-- ---- the low bytes of a register
+
+-- a lowest byte, and those above it
+tainted-sum : (y b : ℕ) → tainted (y * 256 + b) ≡ (marks b || tainted y)
+tainted-sum zero b =
+    let e : 0 * 256 + b ≡ b = omega arith in
+    ap tainted e ∙ tainted-is b ∙ sym (or-false (marks b))
+tainted-sum (suc y) b =
+    let e : suc y * 256 + b ≡ suc (y * 256 + 255 + b) = omega arith in
+    ap tainted e ∙ sym (or-true (marks b))
+
+any-marked : (n x : ℕ) → tainted (x % 256 ^ n) ≡ anyMarked n x
+unfolding anyMarked
+any-marked zero x = rw (mod-one x)
+any-marked (suc n) x =
+    let m = 256 ^ n in
+    rw (pow-suc 256 n, mod-mul x {m = m} {c = 256} (one-le-pow n 256 (lit< tt)) (lit< tt)) (tainted-sum (x / 256 % m) (x % 256) ∙ ap (λ (q : Bool). marks (x % 256) || q) (any-marked n (x / 256)))
+
+-- all eight, and those of an index that are used
+pub base-marked : (x : ℕ) → x < 2 ^ 64 → tainted x ≡ anyMarked 8 x
+base-marked x h = ap tainted (sym (mod-eq-of-lt h)) ∙ any-marked 8 x
+
+pub index-marked : (option x : ℕ) → x < 2 ^ 64 → tainted (usedOf option x) ≡ anyMarked (usedBytes option) x
+unfolding usedOf
+index-marked option x h = go (eqb option 0b010 || eqb option 0b110)
+  where
+    go : (z : Bool) → tainted (pick z (x % 2 ^ 32) x) ≡ anyMarked (pick z 4 8) x
+    go true = any-marked 4 x
+    go false = base-marked x h
+
 -- ---- bytes
 
-one-byte : (x : ℕ) (b : Bool) → pick (tainted x) true b ≡ (marks x || b)
-one-byte zero b = refl
-one-byte (suc x) b = rw (eqb·suc-zero x)
+repeated-is : (k : List ℕ) (c : ℕ) (s : Source) → joined (map (taintFrom k) (replicate c s)) ≡ repeated c (taintFrom k s)
+unfolding joined repeated
+repeated-is k zero s = refl
+repeated-is k (suc c) s = rw (repeated-is k c s)
 
-any-is : (origin address n : ℕ) (k : List ℕ) → origin ≤ address → anyTainted (spanOf k (address - origin) n) ≡ anyMarked origin address n k
-unfolding anyTainted spanOf anyMarked
-any-is origin address zero k h = refl
-any-is origin address (suc n) k h = one-byte (getD k (address - origin) 0) _ ∙ rw (← next h, any-is origin (address + 1) n k (omega arith))
+-- the sign of the top byte of n, or a source before them
+abbrev lastFrom : Source → ℕ → ℕ → Source
+lastFrom s at zero = s
+lastFrom s at (suc n) = sign (at + n)
 
-set-marks : (origin address n : ℕ) (b : Bool) (k : List ℕ) → origin ≤ address
-    → sets k (address - origin) (replicate n (taintByte b)) ≡ setMarks origin address n b k
-unfolding setMarks
-set-marks origin address zero b k h = refl
-set-marks origin address (suc n) b k h =
-    ap (λ (i : ℕ). sets (set k (address - origin) (taintByte b)) i (replicate n (taintByte b))) (sym (next h))
-    ∙ set-marks origin (address + 1) n b (set k (address - origin) (taintByte b)) (omega arith)
-    ∙ ap (λ (x : ℕ). setMarks origin (address + 1) n b (set k (address - origin) x)) (byte-is b)
+last-next : (s : Source) (at n : ℕ) → lastFrom (sign at) (suc at) n ≡ lastFrom s at (suc n)
+last-next s at zero = ap sign (omega arith)
+last-next s at (suc n) = ap sign (omega arith)
+
+load-at : (origin address n c : ℕ) (s : Source) (k : List ℕ) → origin ≤ address
+    → joined (map (taintFrom k) (bytesFrom (address - origin) n ++ replicate c (lastFrom s (address - origin) n))) ≡ loadMarks origin address n c (taintFrom k s) k
+unfolding joined bytesFrom loadMarks
+load-at origin address zero c s k h = repeated-is k c s
+load-at origin address (suc n) c s k h =
+    let at = address - origin in
+    let more = load-at origin (address + 1) n c (sign at) k (omega arith) in
+    rw (← last-next s at n, ← copied-is (getD k at 0)) (ap (λ (x : ℕ). normal (getD k at 0) + x * 256) (rw (next h) at more))
+
+last-is : (at n : ℕ) → signFrom at n ≡ lastFrom cleared at n
+last-is at zero = refl
+last-is at (suc n) = refl
+
+pub load-is : (origin address n extent : ℕ) (k : List ℕ) → origin ≤ address → loadedTaint (address - origin) n extent k ≡ loadMarks origin address n (extent - n) 0 k
+unfolding loadedTaint sourcesOf
+load-is origin address n extent k h = rw (last-is (address - origin) n) (load-at origin address n (extent - n) cleared k h)
+
+store-is : (origin address n x : ℕ) (k : List ℕ) → origin ≤ address → sets k (address - origin) (map normal (bytesOf n x)) ≡ storeMarks origin address n x k
+unfolding storeMarks bytesOf
+store-is origin address zero x k h = refl
+store-is origin address (suc n) x k h =
+    ap (λ (i : ℕ). sets (set k (address - origin) (normal (x % 256))) i (map normal (bytesOf n (x / 256)))) (sym (next h))
+    ∙ store-is origin (address + 1) n (x / 256) (set k (address - origin) (normal (x % 256))) (omega arith)
+    ∙ ap (λ (b : ℕ). storeMarks origin (address + 1) n (x / 256) (set k (address - origin) b)) (copied-is (x % 256))
 
 -- ---- the rule
 
@@ -103,40 +159,40 @@ module _ (wback : Bool) (origin word address : ℕ) (p : Taints) (len : length (
 
   -- the bytes of one register
   stored : (n k a : ℕ) (bytes : List ℕ) → origin ≤ a
-      → sets bytes (a - origin) (replicate k (taintByte (taintIn (p .registers) (zeroSlot n)))) ≡ setMarks origin a k (mark n (p .registers)) bytes
-  stored n k a bytes l = rw (mark-is (p .registers) len n) (set-marks origin a k (mark n (p .registers)) bytes l)
+      → sets bytes (a - origin) (map normal (bytesOf k (getD (p .registers) (zeroSlot n) 0))) ≡ storeMarks origin a k (marksAt n (p .registers)) bytes
+  stored n k a bytes l = rw (marks-at (p .registers) len n) (store-is origin a k (marksAt n (p .registers)) bytes l)
 
-  pub one-marks : (exclusive store ordered : Bool) (k extent written : ℕ) → written ≡ pick wback (field 9 5 word) 32
-      → moveRule (single exclusive store ordered k extent t) written (address - origin) p ≡ marksOf false wback false store 0 origin word address k p
-  unfolding moveRule marksOf
-  one-marks exclusive true ordered k extent written e = rw e (same based-is (stored t k address (p .bytes) h))
-  one-marks exclusive false ordered k extent written e =
-      let x : ℕ = taintByte (anyTainted (spanOf (p .bytes) (address - origin) k)) in
+  pub one-marks : (exclusive store ordered : Bool) (k extent filled written : ℕ) → (store ≡ false → filled ≡ extent) → written ≡ pick wback (field 9 5 word) 32
+      → moveRule (single exclusive store ordered k extent t) written (address - origin) p ≡ marksOf false wback false store 0 filled origin word address k p
+  unfolding moveRule marksOf bytesOf
+  one-marks exclusive true ordered k extent filled written f e = rw e (same based-is (stored t k address (p .bytes) h))
+  one-marks exclusive false ordered k extent filled written f e =
+      let x : ℕ = loadedTaint (address - origin) k extent (p .bytes) in
       let l : length (set based (zeroSlot t) x) ≤ 32 = simp length-set (omega (arith, based-length)) in
-      rw (e, based-is, set-out (set based (zeroSlot t) x) 32 _ l)
-      (same (ap (λ (b : Bool). set based (zeroSlot t) (taintByte b)) (any-is origin address k (p .bytes) h) ∙ set-mark based based-length t (anyMarked origin address k (p .bytes))) refl)
+      rw (f refl, e, based-is, set-out (set based (zeroSlot t) x) 32 _ l)
+      (same (ap (λ (y : ℕ). set based (zeroSlot t) y) (load-is origin address k extent (p .bytes) h) ∙ set-marks based based-length t (loadMarks origin address k (extent - k) 0 (p .bytes))) refl)
 
   -- a store-exclusive, by its status: the bytes that are made are all or none
-  pub status-marks : (k extent : ℕ) (failed : Bool)
+  pub status-marks : (k extent filled : ℕ) (failed : Bool)
       → moveRule (single true true false (pick failed 0 k) extent t) (zeroSlot (field 20 16 word)) (address - origin) p
-      ≡ marksOf false false true true (pick failed 1 0) origin word address k p
-  unfolding moveRule marksOf
-  status-marks k extent true = same (set-mark (p .registers) len (field 20 16 word) false) refl
-  status-marks k extent false = same (set-mark (p .registers) len (field 20 16 word) false) (stored t k address (p .bytes) h)
+      ≡ marksOf false false true true (pick failed 1 0) filled origin word address k p
+  unfolding moveRule marksOf bytesOf
+  status-marks k extent filled true = same (set-marks (p .registers) len (field 20 16 word) 0) refl
+  status-marks k extent filled false = same (set-marks (p .registers) len (field 20 16 word) 0) (stored t k address (p .bytes) h)
 
-  pub two-marks : (store : Bool) (k extent written : ℕ) → written ≡ pick wback (field 9 5 word) 32
-      → moveRule (double store k extent t t2) written (address - origin) p ≡ marksOf true wback false store 0 origin word address (2 * k) p
+  pub two-marks : (store : Bool) (k extent filled written : ℕ) → (store ≡ false → filled ≡ extent) → written ≡ pick wback (field 9 5 word) 32
+      → moveRule (double store k extent t t2) written (address - origin) p ≡ marksOf true wback false store 0 filled origin word address (2 * k) p
   unfolding moveRule marksOf
-  two-marks true k extent written e =
+  two-marks true k extent filled written f e =
       let half : 2 * k / 2 ≡ k = omega arith in
       let far : address - origin + k ≡ address + k - origin = omega arith in
       rw (e, half, far, stored t k address (p .bytes) h) (same based-is (stored t2 k (address + k) _ (omega arith)))
-  two-marks false k extent written e =
+  two-marks false k extent filled written f e =
       let half : 2 * k / 2 ≡ k = omega arith in
       let far : address - origin + k ≡ address + k - origin = omega arith in
-      let x : Bool = anyMarked origin address k (p .bytes) in
-      let y : Bool = anyMarked origin (address + k) k (p .bytes) in
-      let one : set based (zeroSlot t) (taintByte x) ≡ setMark t x based = set-mark based based-length t x in
-      let l : length (setMark t x based) ≡ 32 = rw (← one) (simp length-set based-length) in
-      rw (e, half, based-is, far, any-is origin address k (p .bytes) h, any-is origin (address + k) k (p .bytes) (omega arith))
-      (same (ap (λ (v : List ℕ). set v (zeroSlot t2) (taintByte y)) one ∙ set-mark (setMark t x based) l t2 y) refl)
+      let x : ℕ = loadMarks origin address k (extent - k) 0 (p .bytes) in
+      let y : ℕ = loadMarks origin (address + k) k (extent - k) 0 (p .bytes) in
+      let one : set based (zeroSlot t) x ≡ setMarks t x based = set-marks based based-length t x in
+      let l : length (setMarks t x based) ≡ 32 = rw (← one) (simp length-set based-length) in
+      rw (f refl, e, half, based-is, far, load-is origin address k extent (p .bytes) h, load-is origin (address + k) k extent (p .bytes) (omega arith))
+      (same (ap (λ (v : List ℕ). set v (zeroSlot t2) y) one ∙ set-marks (setMarks t x based) l t2 y) refl)

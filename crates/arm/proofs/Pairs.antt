@@ -15,6 +15,7 @@ use Rattle.bits.specs.Bytes.{bytesOf, joined, spanOf}
 use Rattle.bits.specs.Signed.{signedOf, twosComplement}
 use Rattle.bits.proofs.Choices.{neither}
 use Rattle.bits.proofs.Parts.{part-lt}
+use Rattle.memory.proofs.Sources.{span-fits}
 use Rattle.registers.specs.File.{zeroSlot}
 use Rattle.bits.specs.Extension.{extendedOf}
 use Rattle.instruction.specs.declared.row.Row.the-variants.{PairRow}
@@ -37,10 +38,11 @@ use Rattle.arm.specs.Pseudocode.{Arm, LOAD, STORE, SignExtend, LSL, Add,
 use Rattle.arm.specs.Pair.{paired, pair}
 use Rattle.arm.specs.Choices.{armOf}
 use Rattle.arm.proofs.Bits.{add-small, offset-is, extended-is}
-use Rattle.arm.proofs.Places.{x-is, set-x, set-base, mem-is, withMemory, set-mem, mem-monitor, low-bytes, joined-lt}
+use Rattle.arm.proofs.Places.{x-is, set-x, set-base, mem-is, withMemory, set-mem, mem-monitor, low-bytes}
 use Rattle.arm.proofs.Marks.{double, two-marks}
 use Rattle.arm.proofs.Steps.{Ready, Inside, Steps, faulty, access-step}
 use Rattle.arm.proofs.Singles.{two, four, back, back-registers, back-memory, back-monitor, Form, extended-none}
+use Rattle.arm.specs.Pages.{opcExtent, pageOf}
 use Rattle.arm.proofs.Families.{never, apart, strays, based-form}
 
 -- ---- two registers and two places
@@ -106,9 +108,9 @@ module _ (w : Window) (m : Machine) (r : Ready w m) (word : ℕ) (a : Addressing
   stored k = back wback n next (setMem (Add address k) k (X t2 (8 * k) s) (setMem address k (X t (8 * k) s) s))
 
   two-loads : (k extent width : ℕ) (g : ℕ → ℕ) → 0 < k → k ≤ 8 → ((v : ℕ) → v < 256 ^ k → extendedOf k extent v ≡ g v)
-      → wordAccess word ≡ Moves (double false k extent t t2) a → Steps w m PairRow word (faulty m stray (loads address (2 * k) (loaded k width g)))
+      → pageOf PairRow word .extent ≡ extent → wordAccess word ≡ Moves (double false k extent t t2) a → Steps w m PairRow word (faulty m stray (loads address (2 * k) (loaded k width g)))
   unfolding setX statusOf fails writtenBack monitorAfter
-  two-loads k extent width g p q ext e =
+  two-loads k extent width g p q ext filled e =
       access-step w m (r .top) PairRow word (double false k extent t t2) a stray address (2 * k) 0 (loaded k width g)
       (record {
         access = e;
@@ -128,11 +130,11 @@ module _ (w : Window) (m : Machine) (r : Ready w m) (word : ℕ) (a : Addressing
             let one : Mem address k s ≡ joined (spanOf (m .memory) at k) = mem-is s k address from (omega arith) in
             let two : Mem (Add address k) k s ≡ joined (spanOf (m .memory) (at + k) k) =
             ap (λ (x : ℕ). Mem x k s) (second-is address k p h) ∙ rw i at (mem-is s k (address + k) (omega arith) (omega arith)) in
-            let x = ext _ (joined-lt (m .memory) (r .real .bytes) k at) ∙ ap g (sym one) in
-            let y = ext _ (joined-lt (m .memory) (r .real .bytes) k (at + k)) ∙ ap g (sym two) in
+            let x = ext _ (span-fits (m .memory) (r .real .bytes) at k) ∙ ap g (sym one) in
+            let y = ext _ (span-fits (m .memory) (r .real .bytes) (at + k) k) ∙ ap g (sym two) in
             rw (f .sum, f .written, x, y)
             (two-registers s (r .real .registers) wback n t t2 next width (g (Mem address k s)) (g (Mem (Add address k) k s)) (f .apart) other);
-        marks = λ h. rw (f .back, f .status) (two-marks wback (w .origin) word address (m .taints) (r .real .marks) (h .from) false k extent (a .written) (f .written));
+        marks = λ h. rw (f .back, f .status) (two-marks wback (w .origin) word address (m .taints) (r .real .marks) (h .from) false k extent (pageOf PairRow word .extent) (a .written) (λ z. filled) (f .written));
         memory = λ h. sym (back-memory wback n next (setX t2 width (g (Mem (Add address k) k s)) (setX t width (g (Mem address k s)) s)));
         monitor = sym (back-monitor wback n next (setX t2 width (g (Mem (Add address k) k s)) (setX t width (g (Mem address k s)) s)));
       })
@@ -156,7 +158,7 @@ module _ (w : Window) (m : Machine) (r : Ready w m) (word : ℕ) (a : Addressing
         block = f .placed .block (2 * k) (omega arith) (omega arith);
         told = refl;
         registers = λ h. rw (f .sum, f .written, places h) (sym (back-registers after len wback n next));
-        marks = λ h. rw (f .back, f .status) (two-marks wback (w .origin) word address (m .taints) (r .real .marks) (h .from) true k extent (a .written) (f .written));
+        marks = λ h. rw (f .back, f .status) (two-marks wback (w .origin) word address (m .taints) (r .real .marks) (h .from) true k extent (pageOf PairRow word .extent) (a .written) (λ z. absurd (never (sym z))) (f .written));
         memory = λ h. sym (back-memory wback n next _ ∙ ap (λ (x : Arm). x .memory) (places h));
         monitor = sym (back-monitor wback n next _ ∙ mem-monitor k (Add address k) _ _ ∙ mem-monitor k address _ s);
       })
@@ -195,7 +197,7 @@ module _ (w : Window) (m : Machine) (word : ℕ) (wback postindex : Bool) where
 
   abbrev Paged : ℕ → ℕ → Type 0
   Paged opc L =
-      wordAccess word ≡ accessBy opc L (twosComplement (signedOf 64 (pairBytes (pairAt (opc * 2 + L))) (field 21 15 word)))
+      pageOf PairRow word .extent ≡ opcExtent opc → wordAccess word ≡ accessBy opc L (twosComplement (signedOf 64 (pairBytes (pairAt (opc * 2 + L))) (field 21 15 word)))
       → Steps w m PairRow word (page opc L)
 
 module _ (w : Window) (m : Machine) (r : Ready w m) (word : ℕ) where
@@ -217,32 +219,32 @@ module _ (w : Window) (m : Machine) (r : Ready w m) (word : ℕ) where
 
     store-words : Paged w m word wback postindex 0 0
     unfolding pairAt pairTransfer part
-    store-words e =
+    store-words x e =
         two-stores w m r word _ wback _ _ _ (form (scaled 2)) other 4 4 (omega arith) (omega arith)
         (e ∙ ap (accessBy w m word wback postindex 0 0) (scaled-is 2 (omega arith)))
 
     load-words : Paged w m word wback postindex 0 1
     unfolding pairAt pairTransfer part
-    load-words e =
-        two-loads w m r word _ wback _ _ _ (form (scaled 2)) other 4 4 32 (λ v. v) (omega arith) (omega arith) (λ v h. extended-none 4 v)
+    load-words x e =
+        two-loads w m r word _ wback _ _ _ (form (scaled 2)) other 4 4 32 (λ v. v) (omega arith) (omega arith) (λ v h. extended-none 4 v) x
         (e ∙ ap (accessBy w m word wback postindex 0 1) (scaled-is 2 (omega arith)))
 
     load-signed : Paged w m word wback postindex 1 1
     unfolding pairAt pairTransfer part
-    load-signed e =
-        two-loads w m r word _ wback _ _ _ (form (scaled 2)) other 4 8 64 (SignExtend 32 64) (omega arith) (omega arith) (λ v. extended-is 3 8 v (omega arith))
+    load-signed x e =
+        two-loads w m r word _ wback _ _ _ (form (scaled 2)) other 4 8 64 (SignExtend 32 64) (omega arith) (omega arith) (λ v. extended-is 3 8 v (omega arith)) x
         (e ∙ ap (accessBy w m word wback postindex 1 1) (scaled-is 2 (omega arith)))
 
     store-doubles : Paged w m word wback postindex 2 0
     unfolding pairAt pairTransfer part
-    store-doubles e =
+    store-doubles x e =
         two-stores w m r word _ wback _ _ _ (form (scaled 3)) other 8 8 (omega arith) (omega arith)
         (e ∙ ap (accessBy w m word wback postindex 2 0) (scaled-is 3 (omega arith)))
 
     load-doubles : Paged w m word wback postindex 2 1
     unfolding pairAt pairTransfer part
-    load-doubles e =
-        two-loads w m r word _ wback _ _ _ (form (scaled 3)) other 8 8 64 (λ v. v) (omega arith) (omega arith) (λ v h. extended-none 8 v)
+    load-doubles x e =
+        two-loads w m r word _ wback _ _ _ (form (scaled 3)) other 8 8 64 (λ v. v) (omega arith) (omega arith) (λ v h. extended-none 8 v) x
         (e ∙ ap (accessBy w m word wback postindex 2 1) (scaled-is 3 (omega arith)))
 
     all : (opc L : ℕ) → opc < 4 → L < 2 → ¬ (opc ≡ 0b11) → (opc ≡ 0b01 → L ≡ 1) → Paged w m word wback postindex opc L
@@ -295,8 +297,8 @@ module _ (w : Window) (m : Machine) (r : Ready w m) (word : ℕ) where
         → wordAccess word ≡ accessBy w m word wback postindex (field 31 30 word) (field 22 22 word) (twosComplement (signedOf 64 (pairBytes (pairOpIn word)) (field 21 15 word)))
         → Steps w m PairRow word (paired wback postindex word (armOf w m))
     unfolding paired pairOpIn
-    shared wback true h e = by wback true h e
-    shared wback false h e = by wback false h e
+    shared wback true h e = by wback true h refl e
+    shared wback false h e = by wback false h refl e
 
     abbrev accessIn : ℕ → Access
     accessIn mode =

@@ -4,9 +4,8 @@ use Prim.Native.Nat.{ℕ, zero, suc, _+_, _-_, _*_, _/_, _%_, _^_, _≤_, _<_}
 use mathlib.Core.Path.{_≡_, refl, sym, ap, _∙_}
 use mathlib.Core.Bool.{Bool, true, false}
 use mathlib.Core.List.{List}
-use native.Mathlib.Nat.{pow-suc, zero-mod, div-one, add-comm, mod-add-div'}
+use native.Mathlib.Nat.{zero-mod, div-one, add-comm, mod-add-div'}
 use native.Mathlib.Omega.{arith}
-use lib.Arith.{digits-lt}
 use lib.Dec.{eqb}
 use lib.ListN.{length, getD, set, List·getD-eq-default}
 use lib.Seq.{sets, set-out}
@@ -90,8 +89,3 @@ mem-monitor (suc n) a v s = mem-monitor n (Add a 1) (v / 2 ^ 8) (setByte a (part
 -- X gives the low bytes of its register
 pub low-bytes : (n v : ℕ) → bytesOf n (v % 2 ^ (8 * n)) ≡ bytesOf n v
 low-bytes n v = rw two-256 (sym (bytes-low n (v % 256 ^ n) (v / 256 ^ n)) ∙ ap (bytesOf n) (mod-add-div' v (256 ^ n)))
-
-pub joined-lt : (xs : List ℕ) → ((n : ℕ) → getD xs n 0 < 256) → (n at : ℕ) → joined (spanOf xs at n) < 256 ^ n
-unfolding joined spanOf
-joined-lt xs b zero at = omega arith
-joined-lt xs b (suc n) at = rw pow-suc (rw add-comm (digits-lt (joined-lt xs b n (suc at)) (b at)))

@@ -8,10 +8,10 @@ use Rattle.machine.specs.declared.Shown.{Shown}
 use Rattle.machine.specs.Step.{shown, Step, stopped, moved, stepOf}
 use Rattle.execution.specs.Walk.{ahead, goOn, walkOf, Log, runOf}
 use Rattle.execution.specs.Run.{machineRun}
-use Rattle.arm.specs.Real.{Real}
+use Rattle.machine.specs.Real.{Real}
 use Rattle.arm.specs.Choices.{badStart, armStep}
 use Rattle.arm.proofs.Arm.{bad-is, step-as-arm}
-use Rattle.arm.proofs.Reals.{RealStep, real-moved}
+use Rattle.machine.proofs.Reals.{RealStep, real-moved}
 
 walk-as-arm : (w : Window) (words : List ℕ) (m : Machine) → Real m → (last : Shown) → walkOf (stepOf w) words m last ≡ walkOf (armStep w) words m last
 unfolding walkOf
@@ -20,7 +20,7 @@ walk-as-arm w (x ∷ words) m r last =
     go (λ n h s. walk-as-arm w words n h s) (stepOf w x m) (real-moved m r w x) ∙ ap (goOn m (walkOf (armStep w) words)) (step-as-arm w x m r)
   where
     go : ((n : Machine) → Real n → (s : Shown) → walkOf (stepOf w) words n s ≡ walkOf (armStep w) words n s)
-        → (s : Step Machine) → RealStep m r s → goOn m (walkOf (stepOf w) words) s ≡ goOn m (walkOf (armStep w) words) s
+        → (s : Step Machine) → RealStep s → goOn m (walkOf (stepOf w) words) s ≡ goOn m (walkOf (armStep w) words) s
     go f (stopped answer address) h = refl
     go f (moved n s) h = ap (ahead s) (f n h s)
 

@@ -12,6 +12,7 @@ use lib.Seq.{sets, set-out, set-comm}
 use Rattle.bits.specs.Choice.{pick}
 use Rattle.bits.specs.Fields.{part, field}
 use Rattle.bits.specs.Bytes.{bytesOf, joined, spanOf}
+use Rattle.memory.proofs.Sources.{span-fits}
 use Rattle.registers.specs.File.{zeroSlot}
 use Rattle.bits.specs.Extension.{largest, extendedOf}
 use Rattle.instruction.specs.declared.row.Row.{Row}
@@ -27,10 +28,10 @@ use Rattle.plan.specs.Plans.{misalignedStack}
 use Rattle.machine.specs.Monitor.{statusOf, monitorAfter, writtenBack, fails}
 use Rattle.machine.specs.Machine.{Machine, operandsOf}
 use Rattle.arm.specs.Pseudocode.{Arm, MemOp, LOAD, STORE, PREFETCH, Extend, X, setX, setSP, setBase, Mem, setMem, withRegisters, withMonitor, Operation, hint, loads, stores, case}
-use Rattle.arm.specs.Pages.{pageOf}
+use Rattle.arm.specs.Pages.{sizedExtent, pageOf}
 use Rattle.arm.specs.Choices.{marked, misplaced, armOf}
 use Rattle.arm.proofs.Bits.{zero-extend, extended-is}
-use Rattle.arm.proofs.Places.{x-is, set-x, set-base, mem-is, withMemory, set-mem, mem-monitor, low-bytes, joined-lt}
+use Rattle.arm.proofs.Places.{x-is, set-x, set-base, mem-is, withMemory, set-mem, mem-monitor, low-bytes}
 use Rattle.arm.proofs.Marks.{single, one-marks}
 use Rattle.arm.proofs.Steps.{Ready, Steps, hints-step, faulty, access-step}
 
@@ -137,6 +138,9 @@ pub record Form (w : Window) (m : Machine) (l : Row) (word : ℕ) (a : Addressin
   pub status : pageOf l word .status ≡ false
   pub apart : wback ≡ true → ¬ (field 9 5 word ≡ zeroSlot (field 4 0 word))
 
+no-load : _≡_ {A = Bool} true false → ⊥
+no-load e = let z : _≡_ {A = ℕ} 0 1 = cc in omega arith
+
 -- a load is no store-exclusive
 no-store : (b : Bool) → pick b false false ≡ false
 no-store true = refl
@@ -152,10 +156,10 @@ module _ (w : Window) (m : Machine) (r : Ready w m) (l : Row) (word : ℕ) (a : 
   loaded k width g = back wback (field 9 5 word) next (setX (field 4 0 word) width (g (Mem address k (armed k))) (armed k))
 
   pub one-load : (k extent width : ℕ) (g : ℕ → ℕ) → 0 < k → k ≤ 16 → ((v : ℕ) → v < 256 ^ k → extendedOf k extent v ≡ g v)
-      → wordAccess word ≡ Moves (single exclusive false ordered k extent (field 4 0 word)) a
+      → pageOf l word .extent ≡ extent → wordAccess word ≡ Moves (single exclusive false ordered k extent (field 4 0 word)) a
       → Steps w m l word (faulty m stray (loads address k (loaded k width g)))
   unfolding setX statusOf fails writtenBack monitorAfter
-  one-load k extent width g p q ext e =
+  one-load k extent width g p q ext filled e =
       let n = field 9 5 word in
       let t = field 4 0 word in
       access-step w m (r .top) l word (single exclusive false ordered k extent t) a stray address k 0 (loaded k width g)
@@ -173,12 +177,12 @@ module _ (w : Window) (m : Machine) (r : Ready w m) (l : Row) (word : ℕ) (a : 
             let at = address - w .origin in
             let v : ℕ = joined (spanOf (m .memory) at k) in
             let x : extendedOf k extent v ≡ g (Mem address k (armed k)) =
-            ext v (joined-lt (m .memory) (r .real .bytes) k at) ∙ ap g (sym (mem-is (armed k) k address (h .from) (h .upto))) in
+            ext v (span-fits (m .memory) (r .real .bytes) at k) ∙ ap g (sym (mem-is (armed k) k address (h .from) (h .upto))) in
             rw (no-store exclusive) (load-all (armed k) (r .real .registers) wback n t next width _ (f .written) (f .sum) x (f .apart));
         marks =
             λ h.
             rw (no-store exclusive, alone, f .back, f .status)
-            (one-marks wback (w .origin) word address (m .taints) (r .real .marks) (h .from) exclusive false ordered k extent (a .written) (f .written));
+            (one-marks wback (w .origin) word address (m .taints) (r .real .marks) (h .from) exclusive false ordered k extent (pageOf l word .extent) (a .written) (λ z. filled) (f .written));
         memory = λ h. sym (back-memory wback n next (setX t width (g (Mem address k (armed k))) (armed k)));
         monitor = sym (back-monitor wback n next (setX t width (g (Mem address k (armed k))) (armed k)));
       })
@@ -216,7 +220,7 @@ module _ (w : Window) (m : Machine) (r : Ready w m) (l : Row) (word : ℕ) (a : 
         marks =
             λ h.
             rw (alone, f .back, f .status)
-            (one-marks wback (w .origin) word address (m .taints) (r .real .marks) (h .from) false true ordered k extent (a .written) (f .written));
+            (one-marks wback (w .origin) word address (m .taints) (r .real .marks) (h .from) false true ordered k extent (pageOf l word .extent) (a .written) (λ z. absurd (no-load z)) (f .written));
         memory = λ h. store-memory s (r .real .registers) k address (h .from) (h .upto) t p ∙ sym (back-memory wback n next _);
         monitor = sym (back-monitor wback n next _ ∙ mem-monitor k address _ s);
       })
@@ -225,7 +229,7 @@ module _ (w : Window) (m : Machine) (r : Ready w m) (l : Row) (word : ℕ) (a : 
   -- ---- all sizes and opcs
 
   load : (k extent width : ℕ) (g : ℕ → ℕ) → 0 < k → k ≤ 16 → ((v : ℕ) → v < 256 ^ k → extendedOf k extent v ≡ g v)
-      → wordAccess word ≡ Moves (single false false ordered k extent t) a
+      → pageOf l word .extent ≡ extent → wordAccess word ≡ Moves (single false false ordered k extent t) a
       → Steps w m l word (faulty m stray (loads address k (back wback n next (setX t width (g (Mem address k s)) s))))
   load = one-load w m r l word a false ordered wback stray address next f alone
 
@@ -243,7 +247,7 @@ module _ (w : Window) (m : Machine) (r : Ready w m) (l : Row) (word : ℕ) (a : 
 
   abbrev Paged : ℕ → ℕ → Type 0
   Paged size opc =
-      ¬ (size * 4 + opc ≡ 0b10_11) → ¬ (size * 4 + opc ≡ 0b11_11)
+      pageOf l word .extent ≡ sizedExtent size opc → ¬ (size * 4 + opc ≡ 0b10_11) → ¬ (size * 4 + opc ≡ 0b11_11)
       → wordAccess word ≡ sizedAccess (sizedAt (size * 4 + opc)) t ordered a → Steps w m l word (page size opc)
 
   pub all-sizes : (size opc : ℕ) → size < 4 → opc < 4 → Paged size opc
@@ -253,31 +257,31 @@ module _ (w : Window) (m : Machine) (r : Ready w m) (l : Row) (word : ℕ) (a : 
       bytes : (opc : ℕ) → opc < 4 → Paged 0 opc
       bytes =
           four (Paged 0)
-          (λ p q e. one-store 1 1 (omega arith) (omega arith) e)
-          (λ p q e. load 1 1 32 (Extend false 8 32) (omega arith) (omega arith) (zeros 1 32) e)
-          (λ p q e. load 1 8 64 (Extend true 8 64) (omega arith) (omega arith) (λ v. extended-is 0 8 v (omega arith)) e)
-          (λ p q e. load 1 4 32 (Extend true 8 32) (omega arith) (omega arith) (λ v. extended-is 0 4 v (omega arith)) e)
+          (λ x p q e. one-store 1 1 (omega arith) (omega arith) e)
+          (λ x p q e. load 1 1 32 (Extend false 8 32) (omega arith) (omega arith) (zeros 1 32) x e)
+          (λ x p q e. load 1 8 64 (Extend true 8 64) (omega arith) (omega arith) (λ v. extended-is 0 8 v (omega arith)) x e)
+          (λ x p q e. load 1 4 32 (Extend true 8 32) (omega arith) (omega arith) (λ v. extended-is 0 4 v (omega arith)) x e)
 
       halves : (opc : ℕ) → opc < 4 → Paged 1 opc
       halves =
           four (Paged 1)
-          (λ p q e. one-store 2 2 (omega arith) (omega arith) e)
-          (λ p q e. load 2 2 32 (Extend false 16 32) (omega arith) (omega arith) (zeros 2 32) e)
-          (λ p q e. load 2 8 64 (Extend true 16 64) (omega arith) (omega arith) (λ v. extended-is 1 8 v (omega arith)) e)
-          (λ p q e. load 2 4 32 (Extend true 16 32) (omega arith) (omega arith) (λ v. extended-is 1 4 v (omega arith)) e)
+          (λ x p q e. one-store 2 2 (omega arith) (omega arith) e)
+          (λ x p q e. load 2 2 32 (Extend false 16 32) (omega arith) (omega arith) (zeros 2 32) x e)
+          (λ x p q e. load 2 8 64 (Extend true 16 64) (omega arith) (omega arith) (λ v. extended-is 1 8 v (omega arith)) x e)
+          (λ x p q e. load 2 4 32 (Extend true 16 32) (omega arith) (omega arith) (λ v. extended-is 1 4 v (omega arith)) x e)
 
       words : (opc : ℕ) → opc < 4 → Paged 2 opc
       words =
           four (Paged 2)
-          (λ p q e. one-store 4 4 (omega arith) (omega arith) e)
-          (λ p q e. load 4 4 32 (Extend false 32 32) (omega arith) (omega arith) (zeros 4 32) e)
-          (λ p q e. load 4 8 64 (Extend true 32 64) (omega arith) (omega arith) (λ v. extended-is 3 8 v (omega arith)) e)
-          (λ p q e. absurd (p refl))
+          (λ x p q e. one-store 4 4 (omega arith) (omega arith) e)
+          (λ x p q e. load 4 4 32 (Extend false 32 32) (omega arith) (omega arith) (zeros 4 32) x e)
+          (λ x p q e. load 4 8 64 (Extend true 32 64) (omega arith) (omega arith) (λ v. extended-is 3 8 v (omega arith)) x e)
+          (λ x p q e. absurd (p refl))
 
       doubles : (opc : ℕ) → opc < 4 → Paged 3 opc
       doubles =
           four (Paged 3)
-          (λ p q e. one-store 8 8 (omega arith) (omega arith) e)
-          (λ p q e. load 8 8 64 (Extend false 64 64) (omega arith) (omega arith) (zeros 8 64) e)
-          (λ p q e. hints-step w m l word e)
-          (λ p q e. absurd (q refl))
+          (λ x p q e. one-store 8 8 (omega arith) (omega arith) e)
+          (λ x p q e. load 8 8 64 (Extend false 64 64) (omega arith) (omega arith) (zeros 8 64) x e)
+          (λ x p q e. hints-step w m l word e)
+          (λ x p q e. absurd (q refl))

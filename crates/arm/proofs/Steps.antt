@@ -29,7 +29,7 @@ use Rattle.arm.specs.Pseudocode.{Arm, Operation, hint, spFault, access}
 use Rattle.arm.specs.Marks.{marksOf}
 use Rattle.arm.specs.Pages.{pageOf}
 use Rattle.arm.specs.Choices.{marked, misplaced, outOf, shut, afterPage, chosen}
-use Rattle.arm.specs.Real.{Real}
+use Rattle.machine.specs.Real.{Real}
 
 -- a machine that there is, in a window that answer 1 passes
 pub record Ready (w : Window) (m : Machine) : Type 0 where
@@ -138,7 +138,7 @@ pub record Agreed (w : Window) (m : Machine) (l : Row) (word : ℕ) (t : Transfe
       pick (t .store) based (loadedValues (madeOf t status) (address - w .origin) based (m .memory)) ≡ after .registers
   pub marks : Inside w address size
       → moveRule (madeOf t status) (a .written) (address - w .origin) (m .taints)
-      ≡ marksOf (pageOf l word .paired) (pageOf l word .wback) (pageOf l word .status) (t .store) status (w .origin) word address size (m .taints)
+      ≡ marksOf (pageOf l word .paired) (pageOf l word .wback) (pageOf l word .status) (t .store) status (pageOf l word .extent) (w .origin) word address size (m .taints)
   pub memory : Inside w address size → pick (t .store) (storedBytes (madeOf t status) (address - w .origin) (m .values) (m .memory)) (m .memory) ≡ after .memory
   pub monitor : monitorAfter t address (m .monitor) ≡ after .monitor
 

@@ -13,7 +13,7 @@ use Rattle.machine.specs.Machine.{Machine}
 use Rattle.machine.specs.Step.{shown, Step, stopped, moved}
 use Rattle.arm.specs.Pseudocode.{Arm, Operation, hint, spFault, access, Align}
 use Rattle.arm.specs.Pages.{Alignment, anywhere, oneBlock, multiple, Page, pageOf}
-use Rattle.arm.specs.Marks.{marks, mark, marksOf}
+use Rattle.arm.specs.Marks.{anyMarked, marksAt, usedBytes, marksOf}
 
 -- 1: origin + len above 2^64, r above len, mark length not len, or PC not a multiple of 4
 unfoldable pub badStart : Window → Machine → Bool
@@ -23,11 +23,11 @@ badStart w m =
     || not (eqb (length (m .taints .bytes)) (length (m .memory)))
     || not (eqb (m .pc % 4) 0)
 
--- 5: base or index register marked (not for prefetch or literal)
+-- 5: "a marked byte in the base or in the used part of the index" (02, CR 13; not for prefetch or literal)
 abbrev pub marked : Page → ℕ → Machine → Bool
 marked page word m =
-    (page .based && marks (getD (m .taints .registers) (field 9 5 word) 0))
-    || (page .indexed && mark (field 20 16 word) (m .taints .registers))
+    (page .based && anyMarked 8 (getD (m .taints .registers) (field 9 5 word) 0))
+    || (page .indexed && anyMarked (usedBytes (field 15 13 word)) (marksAt (field 20 16 word) (m .taints .registers)))
 
 -- 6: ordered access not wholly inside one 16-byte aligned block: its first and its last byte are in two; "an exclusive's address
 -- not a multiple of the size", where Arm has an alignment fault
@@ -55,7 +55,7 @@ afterPage w word m page store address size status s =
       values = s .registers;
       pc = after (m .pc);
       memory = s .memory;
-      taints = marksOf (page .paired) (page .wback) (page .status) store status (w .origin) word address size (m .taints);
+      taints = marksOf (page .paired) (page .wback) (page .status) store status (page .extent) (w .origin) word address size (m .taints);
       monitor = s .monitor;
     }
 

@@ -10,4 +10,3 @@ pub mod AcquireRelease
 pub mod Marks
 pub mod Pages
 pub mod Choices
-pub mod Real

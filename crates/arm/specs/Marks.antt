@@ -1,6 +1,6 @@
--- 01's rule of marks, "Memory, marks and the trace", with 02's CR 3, for the registers that a word names and the bytes that its page
--- touches. A mark is a byte, and any but 0 marks.
-use Prim.Native.Nat.{ℕ, zero, suc, _+_, _-_, _/_}
+-- 01's rule of marks, "Memory, marks and the trace", with 02's CR 3 and CR 13, for the registers that a word names and the bytes that its
+-- page touches. A mark is a byte, and any but 0 marks. A register's marks are a number, with a byte for each byte of its value.
+use Prim.Native.Nat.{ℕ, zero, suc, _+_, _-_, _*_, _/_, _%_}
 use mathlib.Core.Bool.{Bool, false, not, _||_, _&&_}
 use mathlib.Core.List.{List}
 use lib.Dec.{eqb}
@@ -12,35 +12,55 @@ use Rattle.machine.specs.Rule.{Taints}
 abbrev pub marks : ℕ → Bool
 marks b = not (eqb b 0)
 
--- the mark of Rt, Rt2, Rm or Rs: 31 is the zero register, which has none
-abbrev pub mark : ℕ → List ℕ → Bool
-mark n u = pick (eqb n 31) false (marks (getD u n 0))
+-- "a marked byte" in the low n bytes of a register
+unfoldable pub anyMarked : ℕ → ℕ → Bool
+anyMarked zero x = false
+anyMarked (suc n) x = marks (x % 256) || anyMarked n (x / 256)
 
-abbrev pub setMark : ℕ → Bool → List ℕ → List ℕ
-setMark n b u = pick (eqb n 31) u (set u n (pick b 1 0))
+-- a mark as it is copied: "exactly 0 or 1"
+abbrev pub copied : ℕ → ℕ
+copied b = pick (marks b) 1 0
 
--- whether one of n bytes is marked, and n bytes marked or not
-unfoldable pub anyMarked : ℕ → ℕ → ℕ → List ℕ → Bool
-anyMarked origin address zero k = false
-anyMarked origin address (suc n) k = marks (getD k (address - origin) 0) || anyMarked origin (address + 1) n k
+-- the marks of Rt, Rt2, Rm or Rs: 31 is the zero register, which has none
+abbrev pub marksAt : ℕ → List ℕ → ℕ
+marksAt n u = pick (eqb n 31) 0 (getD u n 0)
 
-unfoldable pub setMarks : ℕ → ℕ → ℕ → Bool → List ℕ → List ℕ
-setMarks origin address zero b k = k
-setMarks origin address (suc n) b k = setMarks origin (address + 1) n b (set k (address - origin) (pick b 1 0))
+abbrev pub setMarks : ℕ → ℕ → List ℕ → List ℕ
+setMarks n x u = pick (eqb n 31) u (set u n x)
 
--- writeback leaves the base unmarked; a load marks each register exactly if one of its own bytes was; a store marks each
--- byte exactly if its register was. A pair has half the bytes for each register, Rt first. A store-exclusive unmarks Rs, and a
--- status of 1 "changes no byte's mark"
-unfoldable pub marksOf : Bool → Bool → Bool → Bool → ℕ → ℕ → ℕ → ℕ → ℕ → Taints → Taints
-marksOf paired wback hasStatus store status origin word address size p =
+-- the bytes in "the used part of the index (its low four for uxtw and sxtw)": options 010 and 110
+abbrev pub usedBytes : ℕ → ℕ
+usedBytes option = pick (eqb option 0b010 || eqb option 0b110) 4 8
+
+-- as many copies of one mark
+unfoldable pub repeated : ℕ → ℕ → ℕ
+repeated zero b = 0
+repeated (suc c) b = b + repeated c b * 256
+
+-- "A load copies marks byte for byte; sign copies take the mark of the top byte loaded": n bytes, then c copies of the mark before
+unfoldable pub loadMarks : ℕ → ℕ → ℕ → ℕ → ℕ → List ℕ → ℕ
+loadMarks origin address zero c last k = repeated c last
+loadMarks origin address (suc n) c last k =
+    let b = copied (getD k (address - origin) 0) in
+    b + loadMarks origin (address + 1) n c b k * 256
+
+-- "a store copies them back"
+unfoldable pub storeMarks : ℕ → ℕ → ℕ → ℕ → List ℕ → List ℕ
+storeMarks origin address zero x k = k
+storeMarks origin address (suc n) x k = storeMarks origin (address + 1) n (x / 256) (set k (address - origin) (copied (x % 256)))
+
+-- writeback leaves the base unmarked. A pair has half the bytes for each register, Rt first; what is loaded is extended with its
+-- sign to so many bytes. A store-exclusive unmarks Rs, and a status of 1 "changes no byte's mark"
+unfoldable pub marksOf : Bool → Bool → Bool → Bool → ℕ → ℕ → ℕ → ℕ → ℕ → ℕ → Taints → Taints
+marksOf paired wback hasStatus store status extent origin word address size p =
     let t = field 4 0 word in
     let t2 = field 14 10 word in
     let each = pick paired (size / 2) size in
     let based = pick wback (set (p .registers) (field 9 5 word) 0) (p .registers) in
-    let u = pick hasStatus (setMark (field 20 16 word) false based) based in
-    let loaded = setMark t (anyMarked origin address each (p .bytes)) u in
-    let stored = setMarks origin address each (mark t (p .registers)) (p .bytes) in
+    let u = pick hasStatus (setMarks (field 20 16 word) 0 based) based in
+    let loaded = setMarks t (loadMarks origin address each (extent - each) 0 (p .bytes)) u in
+    let stored = storeMarks origin address each (marksAt t (p .registers)) (p .bytes) in
     record {
-      registers = pick store u (pick paired (setMark t2 (anyMarked origin (address + each) each (p .bytes)) loaded) loaded);
-      bytes = pick (store && eqb status 0) (pick paired (setMarks origin (address + each) each (mark t2 (p .registers)) stored) stored) (p .bytes);
+      registers = pick store u (pick paired (setMarks t2 (loadMarks origin (address + each) each (extent - each) 0 (p .bytes)) loaded) loaded);
+      bytes = pick (store && eqb status 0) (pick paired (storeMarks origin (address + each) each (marksAt t2 (p .registers)) stored) stored) (p .bytes);
     }

@@ -1,7 +1,8 @@
 -- The page of each row of the table, and what 01's and 02's rules ask of its registers and its address.
-use Prim.Native.Nat.{ℕ}
+use Prim.Native.Nat.{ℕ, _^_}
 use mathlib.Core.Bool.{Bool, true, false}
 use lib.Dec.{eqb}
+use Rattle.bits.specs.Choice.{pick}
 use Rattle.bits.specs.Fields.{field}
 use Rattle.instruction.specs.declared.row.Row.{Row}
 use Rattle.instruction.specs.declared.row.Row.the-variants.{NoRow, LiteralRow, PairRow, OrderedRow, UnscaledRow, PostRow, PreRow, RegisterRow, UnsignedRow, LoadExclusiveRow, StoreExclusiveRow, AcquireReleaseRow}
@@ -21,7 +22,8 @@ pub data Alignment : Type 0 where
   oneBlock : Alignment
   multiple : Alignment
 
--- whether Rn is a base, Rm an index and Rt2 a second register; whether the base is written back; whether Rs gets a status
+-- whether Rn is a base, Rm an index and Rt2 a second register; whether the base is written back; whether Rs gets a status; to how
+-- many bytes what is loaded is extended with its sign
 pub record Page : Type 0 where
   pub operation : ℕ → Arm → Operation
   pub based : Bool
@@ -30,22 +32,31 @@ pub record Page : Type 0 where
   pub wback : Bool
   pub status : Bool
   pub alignment : Alignment
+  pub extent : ℕ
 
-abbrev page : (ℕ → Arm → Operation) → Bool → Bool → Bool → Bool → Bool → Alignment → Page
-page operation based indexed paired wback status alignment =
-    record { operation = operation; based = based; indexed = indexed; paired = paired; wback = wback; status = status; alignment = alignment }
+abbrev page : (ℕ → Arm → Operation) → Bool → Bool → Bool → Bool → Bool → Alignment → ℕ → Page
+page operation based indexed paired wback status alignment extent =
+    record { operation = operation; based = based; indexed = indexed; paired = paired; wback = wback; status = status; alignment = alignment; extent = extent }
+
+-- size and opc, "opc 01 loads with zeros above, 10 loads signed to 64 bits, 11 loads signed to 32 bits", and of literals and pairs,
+-- whose opc 00 has 4 bytes, 01 4 that are signed to 64 bits, or 8, and 10 8, or those
+abbrev pub sizedExtent : ℕ → ℕ → ℕ
+sizedExtent size opc = pick (eqb (field 1 1 opc) 1) (pick (eqb (field 0 0 opc) 1) 4 8) (2 ^ size)
+
+abbrev pub opcExtent : ℕ → ℕ
+opcExtent opc = pick (eqb opc 0b00) 4 8
 
 -- the two modes of a pair that write back have bit 23 in common
 abbrev pub pageOf : Row → ℕ → Page
-pageOf NoRow word = page (λ word s. hint) false false false false false anywhere
-pageOf LiteralRow word = page literal false false false false false anywhere
-pageOf PairRow word = page pair true false true (eqb (field 23 23 word) 1) false anywhere
-pageOf OrderedRow word = page ordered true false false false false oneBlock
-pageOf UnscaledRow word = page unscaled true false false false false anywhere
-pageOf PostRow word = page postIndex true false false true false anywhere
-pageOf PreRow word = page preIndex true false false true false anywhere
-pageOf RegisterRow word = page indexed true true false false false anywhere
-pageOf UnsignedRow word = page unsigned true false false false false anywhere
-pageOf LoadExclusiveRow word = page loadExclusive true false false false false multiple
-pageOf StoreExclusiveRow word = page storeExclusive true false false false true multiple
-pageOf AcquireReleaseRow word = page acquireRelease true false false false false oneBlock
+pageOf NoRow word = page (λ word s. hint) false false false false false anywhere 0
+pageOf LiteralRow word = page literal false false false false false anywhere (opcExtent (field 31 30 word))
+pageOf PairRow word = page pair true false true (eqb (field 23 23 word) 1) false anywhere (opcExtent (field 31 30 word))
+pageOf OrderedRow word = page ordered true false false false false oneBlock (sizedExtent (field 31 30 word) (field 23 22 word))
+pageOf UnscaledRow word = page unscaled true false false false false anywhere (sizedExtent (field 31 30 word) (field 23 22 word))
+pageOf PostRow word = page postIndex true false false true false anywhere (sizedExtent (field 31 30 word) (field 23 22 word))
+pageOf PreRow word = page preIndex true false false true false anywhere (sizedExtent (field 31 30 word) (field 23 22 word))
+pageOf RegisterRow word = page indexed true true false false false anywhere (sizedExtent (field 31 30 word) (field 23 22 word))
+pageOf UnsignedRow word = page unsigned true false false false false anywhere (sizedExtent (field 31 30 word) (field 23 22 word))
+pageOf LoadExclusiveRow word = page loadExclusive true false false false false multiple (2 ^ field 31 30 word)
+pageOf StoreExclusiveRow word = page storeExclusive true false false false true multiple (2 ^ field 31 30 word)
+pageOf AcquireReleaseRow word = page acquireRelease true false false false false oneBlock (2 ^ field 31 30 word)

@@ -8,10 +8,10 @@ ghost use mathlib.Core.Path.{_≡_};
 ghost use Prim.Native.Nat.{ℕ, _<_, _^_};
 ghost use lib.ListN.{getD};
 ghost use Rattle.machine.specs.Machine.{machineOf};
+ghost use Rattle.machine.specs.Real.{Real};
 ghost use Rattle.machine.specs.Step.{outcome, leaves};
 ghost use Rattle.execution.specs.Walk.{log, runOf};
 ghost use Rattle.execution.specs.Run.{result};
-ghost use Rattle.arm.specs.Real.{Real};
 ghost use Rattle.arm.specs.Choices.{badStart, armStep};
 
 // The machine's step, with a contract in Arm's terms.
@@ -45,7 +45,9 @@ pub fn real(state: State, memory: &[u8], taint: &[u8])
 {
     let file = state.registers;
     let value = file.value;
+    let marks = file.taint;
     values(&value);
+    values(&marks);
     bytes(memory);
 }
 
