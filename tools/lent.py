@@ -37,7 +37,7 @@ WIDTHS = {'u8': 8, 'u32': 32, 'u64': 64}
 # The parts of what is known of a reference.
 REFERENCE = ('ptr .0', 'ptr .1', 'name', 'now')
 STEP = [('word', 'u32'), ('state', RECORD), ('origin', 'u64'), ('readonly', 'u64'), ('memory', BYTES), ('taint', BYTES)]
-SET = [('state', RECORD), ('n', 'u32'), ('value', 'u64'), ('mark', 'u8')]
+SET = [('state', RECORD), ('n', 'u32'), ('value', 'u64'), ('marks', 'u64')]
 
 # Of each function: what it calls; its parameters in order, the slices last; the struct that holds the record and the
 # reply, and the reply's, if there is one, and their names in it; and what is ensured of the call, from the record h and
@@ -51,7 +51,7 @@ FUNCTIONS = {
             specs=['lentOutcome', 'lentStep']),
         'milestarling_set_register': dict(
             calls='with_register', parameters=SET, result=None, reply=None, fields=None,
-            ensures='r ≡ withRegister n value mark h',
+            ensures='r ≡ withRegister n value marks h',
             specs=['withRegister']),
     },
     'lending': {
@@ -61,7 +61,7 @@ FUNCTIONS = {
             specs=['lentOutcome', 'lentStep']),
         'set_register': dict(
             calls='milestarling_set_register', parameters=SET, result=None, reply=None, fields=None,
-            ensures='s ≡ withRegister n value mark h',
+            ensures='s ≡ withRegister n value marks h',
             specs=['withRegister']),
     },
 }

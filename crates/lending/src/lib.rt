@@ -25,9 +25,9 @@ pub fn step(
     Lent { state, reply }
 }
 
-pub fn set_register(mut state: State, n: u32, value: u64, mark: u8) -> State
-    ensures { λ r. ⌜ r ≡ withRegister n value mark state ⌝ }
+pub fn set_register(mut state: State, n: u32, value: u64, marks: u64) -> State
+    ensures { λ r. ⌜ r ≡ withRegister n value marks state ⌝ }
 {
-    session::milestarling_set_register(&mut state, n, value, mark);
+    session::milestarling_set_register(&mut state, n, value, marks);
     state
 }

@@ -4,7 +4,6 @@ use Prim.Native.Nat.{ℕ}
 use mathlib.Core.Path.{_≡_, ap, sym, _∙_}
 use mathlib.Core.List.{List}
 use Rattle.instruction.specs.Answers.{answerNumber}
-use Rattle.memory.specs.Taints.{tainted}
 use Rattle.registers.specs.declared.Registers.{Registers}
 use Rattle.registers.specs.File.{setAt}
 use Rattle.plan.specs.declared.window.Window.{Window}
@@ -35,8 +34,8 @@ step-exact w word before after m k m′ k′ m″ k″ r reply by-value in-place
       ap (λ (l : Lent). l .reply .status) same,
     )
 
-pub register-exact : (n value mark : ℕ) (before after : State) (file : Registers) → file ≡ setAt (before .registers) n value (tainted mark)
-    → after ≡ withRegister n value mark before → (after .registers ≡ file) × (after .pc ≡ before .pc) × (after .monitor ≡ before .monitor)
+pub register-exact : (n value marks : ℕ) (before after : State) (file : Registers) → file ≡ setAt (before .registers) n value marks
+    → after ≡ withRegister n value marks before → (after .registers ≡ file) × (after .pc ≡ before .pc) × (after .monitor ≡ before .monitor)
 unfolding withRegister
-register-exact n value mark before after file by-value in-place =
+register-exact n value marks before after file by-value in-place =
     (ap (λ (s : State). s .registers) in-place ∙ sym by-value, ap (λ (s : State). s .pc) in-place, ap (λ (s : State). s .monitor) in-place)

@@ -3,7 +3,6 @@ use Prim.Native.Nat.{ℕ}
 use mathlib.Core.List.{List}
 use Rattle.instruction.specs.declared.answer.Answer.{Answer}
 use Rattle.instruction.specs.Answers.{answerNumber}
-use Rattle.memory.specs.Taints.{tainted}
 use Rattle.registers.specs.declared.Registers.{Registers}
 use Rattle.registers.specs.File.{setAt}
 use Rattle.plan.specs.declared.window.Window.{Window}
@@ -36,6 +35,6 @@ lentStep w word s memory taint = lentOf (leaves (stepOf w word) (machineOf s mem
 abbrev pub withFile : Registers → State → State
 withFile file s = record { registers = file; pc = s .pc; monitor = s .monitor }
 
--- 01: "the whole file with one register changed, value and mark"; any mark but 0 is one
+-- 01: "the whole file with one register changed, value and mark"; a mark for each byte (02, CR 13), of which any but 0 is one
 unfoldable pub withRegister : ℕ → ℕ → ℕ → State → State
-withRegister n value mark s = withFile (setAt (s .registers) n value (tainted mark)) s
+withRegister n value marks s = withFile (setAt (s .registers) n value marks) s

@@ -42,10 +42,10 @@ pub extern "C" fn milestarling_step(
 }
 
 #[no_mangle]
-pub extern "C" fn milestarling_set_register(state: &mut State, n: u32, value: u64, mark: u8)
-    ensures { λ _. ⌜ now (state .exit) ≡ withRegister n value mark (now (state .entry)) ⌝ }
+pub extern "C" fn milestarling_set_register(state: &mut State, n: u32, value: u64, marks: u64)
+    ensures { λ _. ⌜ now (state .exit) ≡ withRegister n value marks (now (state .entry)) ⌝ }
 {
-    *state = with_register(*state, n, value, mark);
+    *state = with_register(*state, n, value, marks);
 }
 
 // The record with its monitor open.
@@ -93,11 +93,11 @@ fn step_replied(
     }
 }
 
-fn with_register(state: State, n: u32, value: u64, mark: u8) -> State
-    ensures { λ r. ⌜ r ≡ withRegister n value mark state ⌝ }
+fn with_register(state: State, n: u32, value: u64, marks: u64) -> State
+    ensures { λ r. ⌜ r ≡ withRegister n value marks state ⌝ }
 {
     let file = state.registers;
     let mut next = state;
-    next.registers = file.set(n, value, mark != 0);
+    next.registers = file.set(n, value, marks);
     next
 }
