@@ -28,9 +28,8 @@ use Rattle.encoder.specs.Encoding.{encodeOf}
 use Rattle.instruction.proofs.Rows.{never-overlap}
 use Rattle.instruction.proofs.Sorts.{exactly-one}
 use Rattle.plan.proofs.Refusals.{first-by}
-use Rattle.memory.specs.Taints.{tainted}
 use Rattle.registers.specs.declared.Registers.{Registers}
-use Rattle.registers.specs.File.{zeroSlot, valueAt, taintAt, setAt}
+use Rattle.registers.specs.File.{zeroSlot, valueAt, taintsAt, setAt}
 use Rattle.machine.specs.declared.Shown.{Shown}
 use Rattle.machine.specs.Rule.{Taints, wordRule}
 use Rattle.machine.specs.Machine.{Machine}
@@ -45,10 +44,11 @@ use Rattle.execution.specs.Walk.{Log, Result, notBegun, runOf}
 use Rattle.execution.specs.Run.{machineRun}
 use Rattle.execution.proofs.Walks.{run-keeps, run-ends, run-bad, run-short}
 use Rattle.execution.proofs.Refusals.{begun-late, early-unchanged}
-use Rattle.execution.proofs.Secrecy.{step-same, demand-3 as demand-3-of-runs, taints-of-run}
+use Rattle.secrecy.proofs.Halves.{secret}
+use Rattle.execution.proofs.Secrecy.{step-related, demand-3 as demand-3-of-runs, other-half, taints-of-run}
 use Rattle.arm.proofs.Arm.{step-as-arm}
 use Rattle.arm.proofs.Runs.{run-as-arm}
-use Rattle.arm.proofs.Reals.{step-real, cleared, cleared-real}
+use Rattle.machine.proofs.Reals.{step-real, cleared, cleared-real}
 use Rattle.encoder.specs.Exact.{Word, Exact}
 use Rattle.encoder.proofs.RoundTrip.{encode-exact}
 use Rattle.ascii.specs.Ascii.{asc, dec}
@@ -207,17 +207,17 @@ not-begun e =
       log = ap (λ (r : Result Machine). r .log) e;
     }
 
-above-31 : (file : Registers) (n value : ℕ) (mark : Bool) → length (file .value) ≡ 32 → length (file .taint) ≡ 32 → 31 < n
-    → (setAt file n value mark ≡ file) × (valueAt file n ≡ 0) × (taintAt file n ≡ false)
-above-31 file n value mark v t h =
+above-31 : (file : Registers) (n value marks : ℕ) → length (file .value) ≡ 32 → length (file .taint) ≡ 32 → 31 < n
+    → (setAt file n value marks ≡ file) × (valueAt file n ≡ 0) × (taintsAt file n ≡ 0)
+above-31 file n value marks v t h =
     let p : length (file .value) ≤ n = omega arith in
     let q : length (file .taint) ≤ n = omega arith in
-    (simp (set-out, p, q), List·getD-eq-default (file .value) 0 p, ap tainted (List·getD-eq-default (file .taint) 0 q))
+    (simp (set-out, p, q), List·getD-eq-default (file .value) 0 p, List·getD-eq-default (file .taint) 0 q)
 
-zero-register : (file : Registers) (n value : ℕ) (mark : Bool) → length (file .value) ≡ 32 → length (file .taint) ≡ 32 → 30 < n
-    → (setAt file (zeroSlot n) value mark ≡ file) × (valueAt file (zeroSlot n) ≡ 0) × (taintAt file (zeroSlot n) ≡ false)
-zero-register file n value mark v t h =
-    above-31 file (zeroSlot n) value mark v t (pick-by (λ (k : ℕ). 31 < k) (eqb n 31) (λ e. omega arith) (λ e. omega (arith, eqb-false n 31 e)))
+zero-register : (file : Registers) (n value marks : ℕ) → length (file .value) ≡ 32 → length (file .taint) ≡ 32 → 30 < n
+    → (setAt file (zeroSlot n) value marks ≡ file) × (valueAt file (zeroSlot n) ≡ 0) × (taintsAt file (zeroSlot n) ≡ 0)
+zero-register file n value marks v t h =
+    above-31 file (zeroSlot n) value marks v t (pick-by (λ (k : ℕ). 31 < k) (eqb n 31) (λ e. omega arith) (λ e. omega (arith, eqb-false n 31 e)))
 
 pub demand-1 : Demand1
 unfolding decodeOf classOf listOf copied runOf
@@ -277,7 +277,8 @@ pub demand-3 : Demand3
 demand-3 =
     record {
       two-runs = demand-3-of-runs;
-      two-steps = λ w word m n h. step-same w m n h word;
+      two-fillings = other-half;
+      two-steps = λ w word m n h. step-related secret w m n h word;
       marks-at-end = taints-of-run;
       marks-of-step = λ w word m. step-marks (wordRule (w .origin) word) m (stepOf w word m) (step-refuses w word m) (taints-by-rule w word m);
       marked-address = λ w word m t a e h. ap (λ s. answerNumber (performed m s .answer)) (tainted-refused w word m t a e h) ∙ tainted-answer (bad w m) (eqb (answerNumber (classOf word)) 0) (classOf word);

@@ -2,15 +2,16 @@
 -- each line is a part of it, or a theorem of the machine carried over it. Assumes nothing.
 use Prim.Native.Nat.{ℕ, _*_}
 use mathlib.Core.Path.{_≡_, refl, sym, ap, subst, _∙_}
-use mathlib.Core.Bool.{Bool, true, false, _&&_, _||_}
+use mathlib.Core.Bool.{Bool, true, false, _||_}
 use mathlib.Core.List.{List, [], _∷_}
 use mathlib.Core.Logic.{_↔_, _⊎_, inl, inr}
 use native.Mathlib.Omega.{arith}
 use borrow.Author.Tests.{eqb-true, eq-eqb}
 use lib.Dec.{eqb}
 use lib.ListN.{take}
-use Rattle.bits.specs.Choice.{pick}
+use Rattle.bits.specs.Choice.{pick, any}
 use Rattle.bits.specs.Fields.{field, bits}
+use Rattle.bits.proofs.Choices.{both}
 use Rattle.bits.proofs.Parts.{has-true}
 use Rattle.instruction.specs.declared.answer.Answer.{Answer}
 use Rattle.instruction.specs.Answers.{answerNumber}
@@ -26,14 +27,15 @@ use Rattle.machine.proofs.Taints.{taints-by-rule}
 use Rattle.session.specs.declared.StepReply.{StepReply}
 use Rattle.session.specs.Lent.{Lent, replyOf}
 use Rattle.session.proofs.Exact.{stateIn}
-use Rattle.secrecy.specs.Agree.{Shows}
+use Rattle.secrecy.specs.Shows.{Shows}
+use Rattle.secrecy.proofs.Halves.{secret}
 use Rattle.execution.specs.Walk.{Log, log, Result, notBegun, runOf, afterSteps}
 use Rattle.execution.specs.Ends.{Early}
 use Rattle.execution.specs.Run.{machineRun}
-use Rattle.execution.specs.Secrecy.{Same, SameRoom}
+use Rattle.execution.specs.Secrecy.{Same, Filled, SameRoom, ShowsRun}
 use Rattle.execution.proofs.Refusals.{early-unchanged}
-use Rattle.execution.proofs.Secrecy.{step-same, demand-3, taints-of-run}
-use Rattle.arm.specs.Real.{Real}
+use Rattle.execution.proofs.Secrecy.{step-related, demand-3, other-half, taints-of-run}
+use Rattle.machine.specs.Real.{Real}
 use Rattle.arm.proofs.Arm.{step-as-arm}
 use Rattle.arm.proofs.Runs.{run-as-arm}
 use Rattle.reader.specs.Reading.{LineOf}
@@ -87,7 +89,7 @@ shows-lent m n (moved p shown) (stopped other place) r h = absurd h
 shows-lent m n (moved p shown) (moved q seen) r (h, e) = record { reply = rw e; machine = h }
 
 steps-lent : {w v : Window} {x y : ℕ} (m n : Machine) → w ≡ v → x ≡ y → Same m n → ShowsLent (lentBy m (stepOf w x m)) (lentBy n (stepOf v y n))
-steps-lent {w} {v} {x} {y} m n e f h = rw (← e, ← f) (shows-lent m n (stepOf w x m) (stepOf w x n) h (step-same w m n h x))
+steps-lent {w} {v} {x} {y} m n e f h = rw (← e, ← f) (shows-lent m n (stepOf w x m) (stepOf w x n) h (step-related secret w m n h x))
 
 two-steps : (c d : StepCall) → c .window ≡ d .window → c .word ≡ d .word → Same (stepStart c) (stepStart d) → (c .reply ≡ d .reply) × Same (stepEnd c) (stepEnd d)
 two-steps c d e f h =
@@ -142,33 +144,35 @@ run-unbegun c h =
       ap slicesIn same,
     )
 
-record ShowsHosted (t u : Hosted) : Type 0 where
+record ShowsHosted (R : Machine → Machine → Type 0) (t u : Hosted) : Type 0 where
   answer : t .answer ≡ u .answer
   code : t .code ≡ u .code
   address : t .address ≡ u .address
   steps : t .steps ≡ u .steps
   trace : take (t .steps * 2) (t .log .trace) ≡ take (u .steps * 2) (u .log .trace)
   statuses : take (t .steps) (t .log .statuses) ≡ take (u .steps) (u .log .statuses)
-  machine : Same (t .machine) (u .machine)
+  machine : R (t .machine) (u .machine)
 
-shows-hosted : {w v : Window} {x y : List ℕ} (m n : Machine) (l k : Log) → w ≡ v → x ≡ y → Same m n → SameRoom l k → ShowsHosted (hostRun w x m l) (hostRun v y n k)
-shows-hosted {w} {v} {x} {y} m n l k e f h room =
-    let r = demand-3 w x m n l k h room in
-    rw (← e, ← f)
-    (record {
-      answer = ap answerNumber (r .answer);
-      code = ap (λ (s : Shown). s .code) (r .shown);
-      address = ap (λ (s : Shown). s .address) (r .shown);
-      steps = r .steps;
-      trace = r .trace;
-      statuses = r .statuses;
-      machine = r .machine;
-    })
+module _ (R : Machine → Machine → Type 0)
+    (shows : (w : Window) (words : List ℕ) (m n : Machine) (l k : Log) → R m n → SameRoom l k → ShowsRun R (machineRun w words m l) (machineRun w words n k)) where
+  shows-hosted : {w v : Window} {x y : List ℕ} (m n : Machine) (l k : Log) → w ≡ v → x ≡ y → R m n → SameRoom l k → ShowsHosted R (hostRun w x m l) (hostRun v y n k)
+  shows-hosted {w} {v} {x} {y} m n l k e f h room =
+      let r = shows w x m n l k h room in
+      rw (← e, ← f)
+      (record {
+        answer = ap answerNumber (r .answer);
+        code = ap (λ (s : Shown). s .code) (r .shown);
+        address = ap (λ (s : Shown). s .address) (r .shown);
+        steps = r .steps;
+        trace = r .trace;
+        statuses = r .statuses;
+        machine = r .machine;
+      })
 
-two-runs : (c d : RunCall) → c .window ≡ d .window → c .words ≡ d .words → Same (runStart c) (runStart d) → SameRoom (lentLog c) (lentLog d) → RunsShow c d
-two-runs c d e f h room =
-    let s = carried ShowsHosted (c .allowed) (d .allowed) (shows-hosted (runStart c) (runStart d) (lentLog c) (lentLog d) e f h room) in
-    record { answer = s .answer; code = s .code; address = s .address; steps = s .steps; trace = s .trace; statuses = s .statuses; machine = s .machine }
+  two-runs : (c d : RunCall) → c .window ≡ d .window → c .words ≡ d .words → R (runStart c) (runStart d) → SameRoom (lentLog c) (lentLog d) → RunsShow R c d
+  two-runs c d e f h room =
+      let s = carried (ShowsHosted R) (c .allowed) (d .allowed) (shows-hosted (runStart c) (runStart d) (lentLog c) (lentLog d) e f h room) in
+      record { answer = s .answer; code = s .code; address = s .address; steps = s .steps; trace = s .trace; statuses = s .statuses; machine = s .machine }
 
 run-marks : (c : RunCall)
     → runEnd c .taints ≡ afterSteps (wordRule (c .window .origin)) (c .words) (log (c .after .trace) (c .after .statuses)) (c .reply .steps) (runStart c .taints)
@@ -197,30 +201,14 @@ right-true true b e = refl
 right-true false b e = e
 
 abbrev SetsBlock : ℕ → Type 0
-SetsBlock word = (field 31 8 word ≡ 0xd50b74) × (oneOf (1 ∷ 3 ∷ 4 ∷ []) (field 7 5 word) ≡ true)
-
--- a group of words with one of three values of a field
-one-group : (h a b c : Bool) → ((h && (a && true)) || ((h && (b && true)) || ((h && (c && true)) || false))) ≡ true → (h ≡ true) × (pick a true (pick b true (pick c true false)) ≡ true)
-one-group true true b c e = (refl, refl)
-one-group true false true c e = (refl, refl)
-one-group true false false true e = (refl, refl)
-one-group true false false false e = absurd (let z : _≡_ {A = ℕ} 0 1 = cc in omega arith)
-one-group false a b c e = absurd (let z : _≡_ {A = ℕ} 0 1 = cc in omega arith)
-
-group-one : (h a b c : Bool) → h ≡ true → pick a true (pick b true (pick c true false)) ≡ true → ((h && (a && true)) || ((h && (b && true)) || ((h && (c && true)) || false))) ≡ true
-group-one h true b c e f = rw e
-group-one h false true c e f = rw e
-group-one h false false true e f = rw e
-group-one h false false false e f = absurd (let z : _≡_ {A = ℕ} 0 1 = cc in omega arith)
+SetsBlock word = (field 31 8 word ≡ 0xd50b74) × (any (eqb (field 7 5 word)) (1 ∷ 3 ∷ 4 ∷ []) ≡ true)
 
 block-is : (word : ℕ) → (setsBlock word ≡ true) ↔ SetsBlock word
 unfolding setsBlock
-block-is word =
-    let h = eqb (field 31 8 word) 0xd50b74 in
-    let op2 = field 7 5 word in (
-      (λ e. let g = one-group h (eqb op2 1) (eqb op2 3) (eqb op2 4) e in (eqb-true (field 31 8 word) 0xd50b74 (g .0), g .1)),
-      (λ g. group-one h (eqb op2 1) (eqb op2 3) (eqb op2 4) (eq-eqb (field 31 8 word) 0xd50b74 (g .0)) (g .1)),
-    )
+block-is word = (
+  (λ e. let (top, op2) = both (eqb (field 31 8 word) 0xd50b74) (any (eqb (field 7 5 word)) (1 ∷ 3 ∷ 4 ∷ [])) e in (eqb-true (field 31 8 word) 0xd50b74 top, op2)),
+  (λ g. rw (eq-eqb (field 31 8 word) 0xd50b74 (g .0)) (g .1)),
+)
 
 group-is : (word : ℕ) → (loadOrStore word ≡ true) ↔ ((field 27 27 word ≡ 1) × (field 25 25 word ≡ 0))
 unfolding loadOrStore
@@ -264,7 +252,8 @@ library =
       run-as-arm = λ c r. subst (RunGives c) (run-as-arm (c .window) (c .words) (runStart c) (lentLog c) r) (run-gives c);
       run-answers = λ c. rw (run-gives c .answer) (run-number (c .window) (c .words) (runStart c) (lentLog c));
       run-early = run-unbegun;
-      two-runs = two-runs;
+      two-runs = two-runs Same demand-3;
+      two-fillings = two-runs Filled other-half;
       run-marks = run-marks;
       text = λ word buffer buffer′ r e. (ap (λ (n : Numbered). n .answer) e, ap (λ (n : Numbered). n .length) e, ap (λ (n : Numbered). n .buffer) e);
       list = λ bytes output output′ r e. (ap (λ (n : Numbered). n .answer) e, ap (λ (n : Numbered). n .length) e, ap (λ (n : Numbered). n .buffer) e);

@@ -4,7 +4,7 @@
 -- to meet.
 use Prim.Native.Nat.{ℕ, suc, _+_, _%_, _^_, _≤_, _<_}
 use mathlib.Core.Path.{_≡_}
-use mathlib.Core.Bool.{Bool, true, false, not}
+use mathlib.Core.Bool.{true, false, not}
 use mathlib.Core.List.{List, [], _∷_, _++_}
 use mathlib.Core.Logic.{_↔_, _⊎_}
 use lib.Dec.{ltb, eqb}
@@ -26,9 +26,8 @@ use Rattle.access.specs.declared.Access.the-variants.{Moves}
 use Rattle.plan.specs.declared.window.Window.{Window}
 use Rattle.plan.specs.Refusals.{answerIn, Given}
 use Rattle.access.specs.Accesses.{wordAccess}
-use Rattle.memory.specs.Taints.{tainted}
 use Rattle.registers.specs.declared.Registers.{Registers}
-use Rattle.registers.specs.File.{zeroSlot, valueAt, taintAt, setAt}
+use Rattle.registers.specs.File.{zeroSlot, valueAt, taintsAt, setAt}
 use Rattle.machine.specs.declared.monitor.Monitor.{Monitor}
 use Rattle.machine.specs.Rule.{wordRule}
 use Rattle.machine.specs.declared.State.{State}
@@ -40,13 +39,13 @@ use Rattle.machine.specs.Exclusives.{StoresExclusive, withMonitor}
 use Rattle.session.specs.declared.StepReply.{StepReply}
 use Rattle.session.specs.Lent.{lentOutcome, lentStep, withRegister}
 use Rattle.session.specs.Watch.{observed, Stored, Watched}
-use Rattle.secrecy.specs.Agree.{Shows}
+use Rattle.secrecy.specs.Shows.{Shows}
 use Rattle.execution.specs.Walk.{Log, Result, short, runOf, afterSteps}
 use Rattle.execution.specs.Ends.{Kept, Ends, lastOf, Early}
 use Rattle.execution.specs.Run.{machineRun}
-use Rattle.execution.specs.Secrecy.{Same, SameRoom, ShowsRun}
+use Rattle.execution.specs.Secrecy.{Same, Filled, SameRoom, ShowsRun}
 use Rattle.arm.specs.Choices.{badStart, armStep}
-use Rattle.arm.specs.Real.{Real}
+use Rattle.machine.specs.Real.{Real}
 use Rattle.encoder.specs.Exact.{Word}
 use Rattle.ascii.specs.Ascii.{asc, dec}
 use Rattle.text.specs.Texts.{textOf, textMost}
@@ -127,10 +126,10 @@ pub record Demand1 : Type 0 where
       ¬ Early (answerNumber (r .answer)) × Ends (stepOf w) words m (r .steps) (lastOf r)
   -- "Setting a register gives back the whole file .. unchanged for register 31 as zero and for a number above 31; reading either of
   -- those gives 0, unmarked": of a file of 32 registers
-  pub register-above : (file : Registers) (n value : ℕ) (mark : Bool) → ListN.length (file .value) ≡ 32 → ListN.length (file .taint) ≡ 32 → 31 < n
-      → (setAt file n value mark ≡ file) × (valueAt file n ≡ 0) × (taintAt file n ≡ false)
-  pub register-zero : (file : Registers) (n value : ℕ) (mark : Bool) → ListN.length (file .value) ≡ 32 → ListN.length (file .taint) ≡ 32 → 30 < n
-      → (setAt file (zeroSlot n) value mark ≡ file) × (valueAt file (zeroSlot n) ≡ 0) × (taintAt file (zeroSlot n) ≡ false)
+  pub register-above : (file : Registers) (n value marks : ℕ) → ListN.length (file .value) ≡ 32 → ListN.length (file .taint) ≡ 32 → 31 < n
+      → (setAt file n value marks ≡ file) × (valueAt file n ≡ 0) × (taintsAt file n ≡ 0)
+  pub register-zero : (file : Registers) (n value marks : ℕ) → ListN.length (file .value) ≡ 32 → ListN.length (file .taint) ≡ 32 → 30 < n
+      → (setAt file (zeroSlot n) value marks ≡ file) × (valueAt file (zeroSlot n) ≡ 0) × (taintsAt file (zeroSlot n) ≡ 0)
   -- "A refused step changes no register, byte, mark or program counter", and "keeps the monitor" (02, CR 3)
   pub refused-step : (w : Window) (word : ℕ) (m : Machine) → ¬ (stepAnswer w word m ≡ 0) → stepped w word m .machine ≡ m
   -- "a refused run keeps the steps done before and nothing of the refused one": machine, trace, statuses and number of steps
@@ -165,9 +164,13 @@ pub record Demand3 : Type 0 where
   -- equal values in every unmarked register and byte. Then, whatever the marked ones hold in either run, both take the
   -- same number of steps, write the same trace, end with the same answer, code, address, program counter and marks, and
   -- have equal values in every register and byte unmarked at the end." With 02: they "start and end with equal monitors" (CR
-  -- 3), "lend lists of the same length and write the same statuses" (CR 8)
+  -- 3), "lend lists of the same length and write the same statuses" (CR 8), and each byte of a register has its own mark (CR 13)
   pub two-runs : (w : Window) (words : List ℕ) (m n : Machine) (l k : Log) → Same m n → SameRoom l k
       → ShowsRun Same (machineRun w words m l) (machineRun w words n k)
+  -- its other half (02, CR 13): "fill every marked starting byte with 0 in one run and 255 in another, else alike; after the same steps
+  -- every byte marked at the end differs", being 0 in the one and 255 in the other
+  pub two-fillings : (w : Window) (words : List ℕ) (m n : Machine) (l k : Log) → Filled m n → SameRoom l k
+      → ShowsRun Filled (machineRun w words m l) (machineRun w words n k)
   -- of a single step, likewise
   pub two-steps : (w : Window) (word : ℕ) (m n : Machine) → Same m n → Shows Same (stepOf w word m) (stepOf w word n)
   -- "In each run the marks at the end are exactly those that 01's rule makes of the starting marks over the steps done",
@@ -260,5 +263,5 @@ pub record Requests : Type 0 where
       → (after ≡ r .state) × (m″ ≡ m′) × (k″ ≡ k′)
       × (reply .answer ≡ answerNumber (r .answer)) × (reply .code ≡ r .shown .code) × (reply .address ≡ r .shown .address) × (reply .status ≡ r .shown .status)
   -- and of setting one register: the file is what setting by value returns, and program counter and monitor stay
-  pub lent-register : (n value mark : ℕ) (before after : State) (file : Registers) → file ≡ setAt (before .registers) n value (tainted mark)
-      → after ≡ withRegister n value mark before → (after .registers ≡ file) × (after .pc ≡ before .pc) × (after .monitor ≡ before .monitor)
+  pub lent-register : (n value marks : ℕ) (before after : State) (file : Registers) → file ≡ setAt (before .registers) n value marks
+      → after ≡ withRegister n value marks before → (after .registers ≡ file) × (after .pc ≡ before .pc) × (after .monitor ≡ before .monitor)

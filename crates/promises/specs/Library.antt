@@ -8,7 +8,7 @@ use mathlib.Core.List.{List, [], _∷_}
 use mathlib.Core.Logic.{_↔_, _⊎_}
 use lib.Dec.{eqb}
 use lib.ListN
-use Rattle.bits.specs.Choice.{pick}
+use Rattle.bits.specs.Choice.{pick, any}
 use Rattle.bits.specs.Fields.{field}
 use Rattle.instruction.specs.Answers.{answerNumber}
 use Rattle.instruction.specs.Table.{inSet}
@@ -23,9 +23,9 @@ use Rattle.session.specs.Lent.{lentOutcome, lentStep}
 use Rattle.execution.specs.Walk.{Log, log, Result, runOf, afterSteps}
 use Rattle.execution.specs.Ends.{Early}
 use Rattle.execution.specs.Run.{machineRun}
-use Rattle.execution.specs.Secrecy.{Same, SameRoom}
+use Rattle.execution.specs.Secrecy.{Same, Filled, SameRoom}
 use Rattle.arm.specs.Choices.{badStart, armStep}
-use Rattle.arm.specs.Real.{Real}
+use Rattle.machine.specs.Real.{Real}
 use Rattle.text.specs.Writing.{writeOf}
 use Rattle.listing.specs.Listing.{listOf}
 use Rattle.reader.specs.Reading.{LineOf}
@@ -119,16 +119,15 @@ pub record RunGives (c : RunCall) (r : Result Machine) : Type 0 where
   pub trace : c .after .trace ≡ r .log .trace
   pub statuses : c .after .statuses ≡ r .log .statuses
 
--- two calls that show the same, with the two numbers of the trace and the status for each step done, and leave machines that differ
--- only in what is marked
-pub record RunsShow (c d : RunCall) : Type 0 where
+-- two calls that show the same, with the two numbers of the trace and the status for each step done, and leave machines in a relation
+pub record RunsShow (R : Machine → Machine → Type 0) (c d : RunCall) : Type 0 where
   pub answer : c .reply .answer ≡ d .reply .answer
   pub code : c .reply .code ≡ d .reply .code
   pub address : c .reply .address ≡ d .reply .address
   pub steps : c .reply .steps ≡ d .reply .steps
   pub trace : ListN.take (c .reply .steps * 2) (c .after .trace) ≡ ListN.take (d .reply .steps * 2) (d .after .trace)
   pub statuses : ListN.take (c .reply .steps) (c .after .statuses) ≡ ListN.take (d .reply .steps) (d .after .statuses)
-  pub machine : Same (runEnd c) (runEnd d)
+  pub machine : R (runEnd c) (runEnd d)
 
 -- ---- all of it
 
@@ -154,8 +153,9 @@ pub record Library : Type 0 where
   pub run-answers : (c : RunCall) → oneOf (0 ∷ 1 ∷ 2 ∷ 3 ∷ 4 ∷ 5 ∷ 6 ∷ 7 ∷ 8 ∷ 10 ∷ []) (c .reply .answer) ≡ true
   pub run-early : (c : RunCall) → Early (c .reply .answer)
       → (c .reply .steps ≡ 0) × (c .reply .code ≡ 0) × (c .reply .address ≡ 0) × (c .reply .session ≡ c .session) × (c .after ≡ c .before)
-  -- demand 3 of two calls, and the marks at the end
-  pub two-runs : (c d : RunCall) → c .window ≡ d .window → c .words ≡ d .words → Same (runStart c) (runStart d) → SameRoom (lentLog c) (lentLog d) → RunsShow c d
+  -- demand 3 of two calls and its other half, and the marks at the end
+  pub two-runs : (c d : RunCall) → c .window ≡ d .window → c .words ≡ d .words → Same (runStart c) (runStart d) → SameRoom (lentLog c) (lentLog d) → RunsShow Same c d
+  pub two-fillings : (c d : RunCall) → c .window ≡ d .window → c .words ≡ d .words → Filled (runStart c) (runStart d) → SameRoom (lentLog c) (lentLog d) → RunsShow Filled c d
   pub run-marks : (c : RunCall)
       → runEnd c .taints ≡ afterSteps (wordRule (c .window .origin)) (c .words) (log (c .after .trace) (c .after .statuses)) (c .reply .steps) (runStart c .taints)
   -- a text and a listing, their length and what the buffer holds; refused or not
@@ -173,6 +173,6 @@ pub record Library : Type 0 where
   -- whether a word touches memory: bit 27 set and bit 25 clear, or `dc zva`, `dc gva` or `dc gzva`. Every word of the set does, so
   -- that one that doesn't never needs a step: it would get 2, where 1 doesn't come first
   pub touches : (word : ℕ) → (touchesMemory word ≡ true)
-      ↔ (((field 27 27 word ≡ 1) × (field 25 25 word ≡ 0)) ⊎ ((field 31 8 word ≡ 0xd50b74) × (oneOf (1 ∷ 3 ∷ 4 ∷ []) (field 7 5 word) ≡ true)))
+      ↔ (((field 27 27 word ≡ 1) × (field 25 25 word ≡ 0)) ⊎ ((field 31 8 word ≡ 0xd50b74) × (any (eqb (field 7 5 word)) (1 ∷ 3 ∷ 4 ∷ []) ≡ true)))
   pub set-touches : (word : ℕ) → inSet word ≡ true → touchesMemory word ≡ true
   pub never-stepped : (w : Window) (word : ℕ) (m : Machine) → touchesMemory word ≡ false → stepAnswer w word m ≡ pick (bad w m) 1 2
