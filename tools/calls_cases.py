@@ -20,8 +20,8 @@ are `case` with its number from 0, then fields parted by tabs:
     5, of a fragment    push, answer, length, the five bytes of the lister; buffer
     6                   close, likewise; either has the lister's bytes as its numbers
     7, 8, 9             set_register, opened or observed, program counter; registers; monitor; as in replay_format.py. The
-                        numbers are program counter, monitor, and then register, value, mark, or code, address, status;
-                        the bytes are the registers and a byte of taint for each
+                        numbers are program counter, monitor, and then register, value, marks, or code, address, status;
+                        the bytes are the registers and a number of taints for each
 
 Numbers below 0 are shown in two's complement. Input that ends inside a case gives the one line `case`, number, `cut short`.
 """
@@ -90,7 +90,7 @@ class Session(NamedTuple):
     address: int
     size: int
     registers: tuple
-    # A byte for each.
+    # A number for each, a byte of it for each byte of the register.
     taints: tuple
 
 
@@ -189,11 +189,11 @@ class Library:
 
     # Sessions.
 
-    def set_register(self, session, n, value, mark):
+    def set_register(self, session, n, value, marks):
         if n > 31:
             return session
         registers, taints = list(session.registers), list(session.taints)
-        registers[n], taints[n] = value, int(mark != 0)
+        registers[n], taints[n] = value, marks
         return session._replace(registers=tuple(registers), taints=tuple(taints))
 
     def opened(self, session):
@@ -221,15 +221,20 @@ def case_bytes(case):
 
 
 def session_bytes(session):
-    return struct.pack('<32Q', *session.registers) + bytes(session.taints)
+    return struct.pack('<64Q', *session.registers, *session.taints)
 
 
 def session_of(case):
-    return Session(*case.numbers[:3], struct.unpack('<32Q', case.given[:256]), tuple(case.given[256:]))
+    numbers = struct.unpack('<64Q', case.given)
+    return Session(*case.numbers[:3], numbers[:32], numbers[32:])
+
+
+def taints_text(marks):
+    return '*' + ''.join('01'[byte != 0] for byte in marks.to_bytes(8, 'big')) if marks else ''
 
 
 def session_lines(name, session):
-    registers = ['%016x%s' % (value, '*' if taint else '') for value, taint in zip(session.registers, session.taints)]
+    registers = ['%016x%s' % (value, taints_text(marks)) for value, marks in zip(session.registers, session.taints)]
     return [[name, session.pc], ['registers', *registers], ['monitor', session.address, session.size]]
 
 
@@ -388,7 +393,7 @@ def lister_cases(rng):
 
 def any_session(rng, address=0, size=0):
     return Session(rng.getrandbits(64), address, size, tuple(rng.getrandbits(64) for _ in range(32)),
-                   tuple(int(rng.random() < 0.3) for _ in range(32)))
+                   tuple(rng.getrandbits(64) & rng.choice((0, SPACE - 1, 0xff, 0xff << 56, 0x0101010101010101)) for _ in range(32)))
 
 
 def session_case(group, what, session, *arguments):
@@ -397,9 +402,9 @@ def session_case(group, what, session, *arguments):
 
 def register_cases(rng):
     for n in (0, 1, 15, 30, 31, 32, 33, 1 << 31, (1 << 32) - 1):
-        for mark in (0, 1, 255):
+        for marks in (0, 1, 0x0101010101010101, 0x80 << 56, SPACE - 1):
             value = rng.choice((0, SPACE - 1, rng.getrandbits(64)))
-            yield session_case('registers', SET, any_session(rng, rng.getrandbits(64), rng.getrandbits(3)), n, value, mark)
+            yield session_case('registers', SET, any_session(rng, rng.getrandbits(64), rng.getrandbits(3)), n, value, marks)
 
 
 def monitor_cases(rng):
@@ -491,8 +496,12 @@ def session_as_it_was(reply, arguments):
     return arguments[0]
 
 
-def mark_kept(reply, arguments):
+def marks_kept(reply, arguments):
     return reply._replace(taints=arguments[0].taints)
+
+
+def lowest_mark_alone(reply, _):
+    return reply._replace(taints=tuple(marks % 256 for marks in reply.taints))
 
 
 def counter_lost(reply, _):
@@ -511,7 +520,7 @@ WRONG += [replying(target_for_base, 'decode'), replying(class_0, 'classify'), re
 WRONG += [replying(change, name) for change in (monitor_exchanged, counter_lost) for name in ('set_register', 'opened', 'observed')
           if (change, name) != (monitor_exchanged, 'opened')]
 WRONG += [replying(session_as_it_was, name) for name in ('set_register', 'opened', 'observed')]
-WRONG += [replying(mark_kept, 'set_register'), replying(always_opened, 'observed')]
+WRONG += [replying(change, 'set_register') for change in (marks_kept, lowest_mark_alone)] + [replying(always_opened, 'observed')]
 
 
 class WrapsRound(Library):

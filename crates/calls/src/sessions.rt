@@ -7,8 +7,8 @@ use machine::State;
 pub fn put_set_register(output: &mut [u8], at: usize, start: &[u8], given: &[u8]) -> usize {
     let n = head::word(start, 3);
     let value = head::number(start, 4);
-    let mark = head::byte(start, 5);
-    let after = lending::set_register(state_of(start, given), n, value, mark);
+    let marks = head::number(start, 5);
+    let after = lending::set_register(state_of(start, given), n, value, marks);
     put_state(output, at, b"set_register", after)
 }
 

@@ -14,7 +14,7 @@ pub fn number(bytes: &[u8], at: usize, width: usize) -> u64 {
     memory::load(&bytes[at..], width)
 }
 
-// The registers: 32 numbers, and behind them a byte of taint for each.
+// The registers: 32 numbers, and behind them a number of taints for each.
 pub fn registers(bytes: &[u8]) -> Registers {
     let mut file = Registers {
         value: [0; 32],
@@ -23,7 +23,7 @@ pub fn registers(bytes: &[u8]) -> Registers {
     let mut n = 0;
     while n < 32 {
         let i = n as usize;
-        let next = file.set(n, number(bytes, 8 * i, 8), number(bytes, 256 + i, 1) != 0);
+        let next = file.set(n, number(bytes, 8 * i, 8), number(bytes, 256 + 8 * i, 8));
         file = next;
         n += 1;
     }

@@ -45,24 +45,45 @@ pub fn put_numbers(output: &mut [u8], at: usize, name: &[u8], numbers: &[u64]) -
     ascii::put_byte(output, end, b'\n')
 }
 
-// A line of 32 fields, with a star behind what is tainted.
+// A line of 32 fields, with a star and its taints behind what is tainted.
 pub fn put_registers(output: &mut [u8], at: usize, file: Registers) -> usize {
     let mut end = ascii::put_text(output, at, b"registers");
     let mut n = 0;
     while n < 32 {
-        end = put_register(output, end, file.get(n), file.is_tainted(n));
+        end = put_register(output, end, file.get(n), file.taints(n));
         n += 1;
     }
     ascii::put_byte(output, end, b'\n')
 }
 
-fn put_register(output: &mut [u8], at: usize, value: u64, taint: bool) -> usize {
+fn put_register(output: &mut [u8], at: usize, value: u64, taints: u64) -> usize {
     let tab_end = ascii::put_byte(output, at, b'\t');
     let value_end = put_hex(output, tab_end, value, 16);
-    if taint {
-        return ascii::put_byte(output, value_end, b'*');
+    if taints == 0 {
+        return value_end;
     }
-    value_end
+    let star_end = ascii::put_byte(output, value_end, b'*');
+    put_taints(output, star_end, taints)
+}
+
+// A digit for each byte, 1 where it is tainted, byte 7 first.
+fn put_taints(output: &mut [u8], at: usize, taints: u64) -> usize {
+    let mut end = at;
+    let mut rest = taints;
+    let mut i = 0u32;
+    while i < 8 {
+        end = ascii::put_byte(output, end, taint_digit(rest / 0x100_0000_0000_0000));
+        rest = rest % 0x100_0000_0000_0000 * 256;
+        i += 1;
+    }
+    end
+}
+
+fn taint_digit(taint: u64) -> u8 {
+    if taint == 0 {
+        return b'0';
+    }
+    b'1'
 }
 
 pub fn put_monitor(output: &mut [u8], at: usize, monitor: Monitor) -> usize {

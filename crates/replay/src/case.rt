@@ -1,4 +1,4 @@
-// A case of the input, little-endian: ten numbers, the 32 registers and a byte of taint for each, the words, memory, and
+// A case of the input, little-endian: ten numbers, the 32 registers and a number of taints for each, the words, memory, and
 // its taint bytes. It is read piece by piece into buffers that its sizes are tested against, and done twice from its start.
 use crate::show;
 use crate::steps;
@@ -79,10 +79,10 @@ fn replay_sized(number: u64, head: Head, output: &mut [u8], again: &mut [u8]) ->
     requires { ⌜ (head .words ≤ 512) × (head .memory ≤ 4096) × (head .taint ≤ 4096) × (head .trace ≤ 1024) × (head .statuses ≤ 512) ⌝ }
 {
     // The registers with their taints, and 512 words.
-    let mut start = [0u8; 2336];
+    let mut start = [0u8; 2560];
     let mut memory = io::buffer();
     let mut taint = io::buffer();
-    let start_end = 288 + 4 * head.words;
+    let start_end = 512 + 4 * head.words;
     let memory_end = head.memory;
     let taint_end = head.taint;
     if !read_rest(
@@ -111,7 +111,7 @@ fn read_rest(start: &mut [u8], memory: &mut [u8], taint: &mut [u8]) -> bool {
 fn replay_read(
     number: u64,
     head: Head,
-    start: [u8; 2336],
+    start: [u8; 2560],
     memory: [u8; 4096],
     taint: [u8; 4096],
     output: &mut [u8],
@@ -147,7 +147,7 @@ fn put_case(
     output: &mut [u8],
     number: u64,
     head: Head,
-    start: [u8; 2336],
+    start: [u8; 2560],
     mut memory: [u8; 4096],
     mut taint: [u8; 4096],
     by_steps: bool,
@@ -156,7 +156,7 @@ fn put_case(
 {
     let mut trace = [u64::MAX; 1024];
     let mut statuses = [u8::MAX; 512];
-    let start_end = 288 + 4 * head.words;
+    let start_end = 512 + 4 * head.words;
     let memory_end = head.memory;
     let taint_end = head.taint;
     let trace_end = head.trace;
@@ -247,7 +247,7 @@ fn words_of(start: &[u8], count: usize) -> [u32; 512]
     let mut words = [0u32; 512];
     let mut i = 0;
     while i < count {
-        words[i] = (fields::number(start, 288 + 4 * i, 4) % 0x1_0000_0000) as u32;
+        words[i] = (fields::number(start, 512 + 4 * i, 4) % 0x1_0000_0000) as u32;
         i += 1;
     }
     words
