@@ -10,9 +10,9 @@ mod reference;
 #[path = "../tests/support/mod.rs"]
 mod support;
 
-use milestarling::{list, raw, Memory, Register, Session, TaintedBytes, LINE_MAX};
+use milestarling::{list, raw, Memory, Register, Session, Taint, TaintedBytes, LINE_MAX};
 use reference::decoding::{decode, Family, Operation};
-use reference::running::{self, Monitor, State, Window};
+use reference::running::{self, State, Window};
 use std::collections::BTreeMap;
 use std::hint::black_box;
 use std::path::{Path, PathBuf};
@@ -74,8 +74,7 @@ fn candidate(random: &mut Random) -> Option<u32> {
 }
 
 fn load(random: &mut Random, stores: bool) -> Load {
-    let monitor = Monitor { address: 0, size: 0 };
-    let mut start = State { registers: [0; 32], taints: [false; 32], pc: PC, monitor };
+    let mut start = state_of(&raw::SessionRecord { pc: PC, ..Default::default() });
     start.registers[0] = 0x38;
     for register in &mut start.registers[1..] {
         *register = WINDOW.origin + 0x8000 + 8 * random.below(64) as u64;
@@ -130,9 +129,9 @@ impl Load {
         state_of(&session)
     }
 
+    /// The state to begin with, in which no register is tainted.
     fn session(&self) -> raw::SessionRecord {
-        let taint = self.state.taints.map(|taint| taint as u8);
-        raw::SessionRecord { value: self.state.registers, taint, pc: PC, ..Default::default() }
+        raw::SessionRecord { value: self.state.registers, pc: PC, ..Default::default() }
     }
 
     fn by_step(&mut self) -> State {
@@ -153,7 +152,7 @@ impl Load {
         let mut memory = Memory::new(window, lent);
         let mut session = Session::new();
         for (register, &value) in Register::all().zip(&self.state.registers) {
-            session.set(register, value, false);
+            session.set(register, value, Taint::NONE);
         }
         session.set_pc(PC);
         for &word in &self.words {

@@ -7,7 +7,7 @@
 //! cargo run --release --example turns ../../examples/lock.bin
 //! ```
 
-use milestarling::{touches_memory, Memory, Register, Session, Window};
+use milestarling::{touches_memory, Memory, Register, Session, Taint, Window};
 use std::error::Error;
 use std::ops::Range;
 use std::{env, fs};
@@ -30,12 +30,13 @@ fn compute(session: &mut Session, word: u32) -> Result<(), String> {
     let next = session.pc().wrapping_add(4);
     let pc = if word & 0xffe0_0000 == 0x5280_0000 {
         // mov of a number
-        session.set(register(word)?, u64::from(word >> 5 & 0xffff), false);
+        session.set(register(word)?, u64::from(word >> 5 & 0xffff), Taint::NONE);
         next
     } else if word & 0xffc0_0000 == 0x1100_0000 {
         // add of a number, to 32 bits
-        let (value, tainted) = session.get(register(word >> 5)?);
-        session.set(register(word)?, u64::from((value as u32).wrapping_add(word >> 10 & 0xfff)), tainted);
+        let (value, taint) = session.get(register(word >> 5)?);
+        let sum = (value as u32).wrapping_add(word >> 10 & 0xfff);
+        session.set(register(word)?, sum.into(), taint.carried().word());
         next
     } else if word & 0xff00_0000 == 0x3500_0000 {
         // cbnz of 32 bits
@@ -86,7 +87,7 @@ fn play(words: &[u32], manner: Manner, name: &str) -> Result<(), String> {
     let mut memory = Memory::zeroed(Window::at(LOCK), 8);
     // X30 is 0, where the function begins: it is called again when it returns.
     let mut ours = Session::new();
-    ours.set(Register::X0, LOCK, false);
+    ours.set(Register::X0, LOCK, Taint::NONE);
     let mut theirs = ours.clone();
     let (mut taken, mut both) = (0, 0);
     print!("{name}:");

@@ -2,9 +2,8 @@
 
 #![allow(unsafe_code)]
 
-use crate::raw::{
-    DecodeReply, Lister, ListerReply, Numbers, RunReply, SessionRecord, StepReply, TextReply, WordReply,
-};
+use crate::raw::{DecodeReply, Lister, ListerReply, Numbers, RunReply, SessionRecord, StepReply, TextReply, WordReply};
+use crate::Taint;
 
 extern "C" {
     fn milestarling_run(
@@ -32,7 +31,7 @@ extern "C" {
         taint: *mut u8,
         taint_len: usize,
     ) -> StepReply;
-    fn milestarling_set_register(session: *mut SessionRecord, number: u32, value: u64, tainted: u8);
+    fn milestarling_set_register(session: *mut SessionRecord, number: u32, value: u64, taint: Taint);
     fn milestarling_opened(session: SessionRecord) -> SessionRecord;
     fn milestarling_observed(session: SessionRecord, code: u64, address: u64, status: u64) -> SessionRecord;
     fn milestarling_text(word: u32, buffer: *mut u8, buffer_len: usize) -> TextReply;
@@ -113,9 +112,9 @@ pub(crate) fn step(
 }
 
 #[inline]
-pub(crate) fn set_register(session: &mut SessionRecord, number: u32, value: u64, tainted: u8) {
+pub(crate) fn set_register(session: &mut SessionRecord, number: u32, value: u64, taint: Taint) {
     // SAFETY: the record is of C's layout, of which any bits are one.
-    unsafe { milestarling_set_register(session, number, value, tainted) }
+    unsafe { milestarling_set_register(session, number, value, taint) }
 }
 
 #[inline]

@@ -6,6 +6,7 @@
 //!
 //! - [`Session`] is one session's registers, with their taints, PC and the monitor of exclusive accesses. It does steps and
 //!   runs in a [`Memory`], which owns its bytes and their taints or borrows them, and [`step_in`] does so in several.
+//! - [`Taint`] says which bytes of a register are secret.
 //! - [`Instruction`] goes from words to lines of text and back, and to [`Numbers`] and back.
 //! - [`words`] goes through an image, word by word, and [`touches_memory`] says which words a host steps.
 //! - [`listing`] lists bytes, and [`Lister`] and [`ListingWriter`] list what comes in fragments.
@@ -21,24 +22,26 @@
 //!
 //! # The host's own duty
 //!
-//! Taints (documents 01 and 02 call them marks) follow a value through the loads and stores that are done here, and
-//! nowhere else. A host that computes between two steps must carry them itself: the result is tainted where an operand
-//! is, which is why [`Session::get`] and [`Session::set`] take a value together with its taint. And it must not
-//! branch on a tainted value, nor take one for an address of its own: [`Session::known`] has none. A host that loads a
-//! letter of a password into X1, sets X2 to `x1 & 15` without its taint, and then steps `ldrb w3, [x7, x2]`, is not
-//! refused, and the trace tells the password. `examples/plugin.rs` is a host that does its duty. And where several sessions
-//! share memory, each one's monitor observes what the others do ([`Session::observe`], [`Session::observe_run`]).
+//! Taints (documents 01 and 02 call them marks) follow the bytes of a value through the loads and stores that are done here,
+//! and nowhere else. A host that computes between two steps must carry them itself: [`Taint`] says which operation spreads how,
+//! and [`Session::get`] and [`Session::set`] take a value together with its taint. And it must not branch on a value with a
+//! tainted byte, nor take one for an address of its own: [`Session::known`] has none. A host that loads a letter of a password
+//! into X1, sets X2 to `x1 & 15` without its taint, and then steps `ldrb w3, [x7, x2]`, is not refused, and the trace tells the
+//! password. A value that the plugin needs to branch on, though it came of a secret, such as a length or the verdict on a
+//! password, is the host's to give out, by setting its register with [`Taint::NONE`]: docs/SECRECY.md. `examples/plugin.rs` is
+//! a host that does its duty. And where several sessions share memory, each one's monitor observes what the others do
+//! ([`Session::observe`], [`Session::observe_run`]).
 //!
 //! # An example
 //!
 //! ```
-//! use milestarling::{Instruction, Memory, Register, Session, Window};
+//! use milestarling::{Instruction, Memory, Register, Session, Taint, Window};
 //!
 //! # fn main() -> Result<(), milestarling::Refusal> {
 //! let mut memory = Memory::zeroed(Window::at(4096), 64);
 //! let mut session = Session::new();
-//! session.set(Register::SP, 4096 + 64, false);
-//! session.set(Register::X19, 0x1234, false);
+//! session.set(Register::SP, 4096 + 64, Taint::NONE);
+//! session.set(Register::X19, 0x1234, Taint::NONE);
 //!
 //! let push: Instruction = "str x19, [sp, #-16]!".parse()?;
 //! let done = session.step(&mut memory, push.word())?;
@@ -61,6 +64,7 @@ pub mod raw;
 mod register;
 mod session;
 mod stream;
+mod taint;
 mod text;
 
 pub use answer::{Answer, Refusal, UnknownAnswer};
@@ -71,4 +75,5 @@ pub use raw::Numbers;
 pub use register::{Register, UnknownRegister};
 pub use session::{Monitor, Run, Session, Step};
 pub use stream::{Lister, ListingWriter};
+pub use taint::Taint;
 pub use text::{list, listing, Instruction, LINE_MAX};

@@ -103,7 +103,7 @@ pub struct TaintedBytes<M, T> {
 /// It owns its bytes and their taint bytes, or they are lent to it. A store leaves 0 or 1 in a taint byte.
 ///
 /// ```
-/// use milestarling::{Memory, Register, Session, TaintedBytes, Window};
+/// use milestarling::{Memory, Register, Session, Taint, TaintedBytes, Window};
 ///
 /// # fn main() -> Result<(), milestarling::Refusal> {
 /// let (mut bytes, mut taint) = ([0; 16], [0; 16]);
@@ -112,9 +112,9 @@ pub struct TaintedBytes<M, T> {
 /// memory.write(4104, b"key", true)?;
 ///
 /// let mut session = Session::new();
-/// session.set(Register::X1, 4096, false);
+/// session.set(Register::X1, 4096, Taint::NONE);
 /// session.step(&mut memory, 0xf9400420)?; // ldr x0, [x1, #8]
-/// assert!(session.is_tainted(Register::X0));
+/// assert_eq!(session.get(Register::X0).1, Taint::bytes(0..3));
 /// # Ok(())
 /// # }
 /// ```
@@ -210,15 +210,15 @@ impl<M: AsRef<[u8]>, T> fmt::Debug for Memory<M, T> {
 /// holds it. An access that runs on from one region into the next is outside both, and is refused with 7.
 ///
 /// ```
-/// use milestarling::{step_in, Answer, Memory, Register, Session, Window};
+/// use milestarling::{step_in, Answer, Memory, Register, Session, Taint, Window};
 ///
 /// let mut regions = [
 ///     Memory::zeroed(Window::at(0x1000).readonly(16), 16), // constants
 ///     Memory::zeroed(Window::at(0x8000), 64),              // a stack
 /// ];
 /// let mut session = Session::new();
-/// session.set(Register::X1, 0x1000, false);
-/// session.set(Register::SP, 0x8040, false);
+/// session.set(Register::X1, 0x1000, Taint::NONE);
+/// session.set(Register::SP, 0x8040, Taint::NONE);
 /// assert!(step_in(&mut regions, &mut session, 0xf9400020).is_ok()); // ldr x0, [x1]
 /// assert!(step_in(&mut regions, &mut session, 0xa9bf7bfd).is_ok()); // stp x29, x30, [sp, #-16]!
 /// let refusal = step_in(&mut regions, &mut session, 0xf9000020).unwrap_err(); // str x0, [x1]

@@ -11,7 +11,7 @@
 //! assert_eq!(&buffer[..reply.length as usize], b"ldr x0, [x1, #8]");
 //! ```
 
-use crate::ffi;
+use crate::{ffi, Taint};
 
 /// A session's record, which a host keeps, hands to [`run`] by value, and lends to [`step`]. The default is a new one.
 ///
@@ -22,8 +22,8 @@ use crate::ffi;
 pub struct SessionRecord {
     /// The values of x0 to x30 and SP.
     pub value: [u64; 32],
-    /// A taint byte for each of them: any but 0 is tainted, and those that a step sets become 0 or 1.
-    pub taint: [u8; 32],
+    /// The taints of their bytes. Those that a step sets become 0 or 1 each, and all others keep their bits.
+    pub value_taint: [Taint; 32],
     /// The program counter.
     pub pc: u64,
     /// The address of the monitor.
@@ -175,11 +175,10 @@ pub fn step(
     ffi::step(word, session, origin, readonly, memory, taint)
 }
 
-/// Sets x0 to x30 (0 to 30) or SP (31) of a session's record, with its taint, which any number but 0 is. Any other number
-/// changes nothing.
+/// Sets x0 to x30 (0 to 30) or SP (31) of a session's record, with its taint. Any other number changes nothing.
 #[inline]
-pub fn set_register(session: &mut SessionRecord, number: u32, value: u64, tainted: u8) {
-    ffi::set_register(session, number, value, tainted);
+pub fn set_register(session: &mut SessionRecord, number: u32, value: u64, taint: Taint) {
+    ffi::set_register(session, number, value, taint);
 }
 
 /// A session's record with its monitor open: address and size 0, and all else as it was.

@@ -1,29 +1,30 @@
 use crate::raw::{self, SessionRecord};
-use crate::{ffi, Access, Answer, Memory, Refusal, Register, TaintedBytes};
-use std::fmt;
+use crate::{ffi, Access, Answer, Memory, Refusal, Register, Taint, TaintedBytes};
+use std::{array, fmt};
 
 /// One session: its registers with their taints, PC, and the monitor of exclusive accesses.
 ///
 /// A value goes in and comes out together with its taint, so that neither is dropped or kept by mistake: a host that
-/// computes hands [`set`](Session::set) the taint of its operands, and one that branches asks for
-/// [`known`](Session::known), which has no value where there is a taint.
+/// computes hands [`set`](Session::set) the taint that came of its operands' ([`Taint`] says how), and one that branches asks
+/// for [`known`](Session::known), which has no value where a byte is tainted.
 ///
 /// ```
-/// use milestarling::{Answer, Memory, Register, Session, Window};
+/// use milestarling::{Answer, Memory, Register, Session, Taint, Window};
 ///
 /// # fn main() -> Result<(), milestarling::Refusal> {
 /// let mut memory = Memory::zeroed(Window::at(4096), 16);
 /// memory.write(4104, b"s", true)?; // a letter of a password
 /// let mut session = Session::new();
-/// session.set(Register::X1, 4096, false);
+/// session.set(Register::X1, 4096, Taint::NONE);
 ///
 /// let done = session.step(&mut memory, 0x39402020)?; // ldrb w0, [x1, #8]
 /// assert_eq!(done.to_string(), "load of 1 at 0x1008");
-/// assert!(session.is_tainted(Register::X0));
+/// assert_eq!(session.shown(Register::X0).to_string(), "0x00000000000000**");
 ///
 /// // and x2, x0, #15, which the host computes, and its taint too
-/// let (letter, tainted) = session.get(Register::X0);
-/// session.set(Register::X2, letter & 15, tainted);
+/// let (letter, taint) = session.get(Register::X0);
+/// assert_eq!(taint, Taint::bytes(0..1));
+/// session.set(Register::X2, letter & 15, taint);
 /// // cbz x2, ..: the branch would tell the letter.
 /// assert_eq!(session.known(Register::X2), None);
 ///
@@ -51,13 +52,13 @@ use std::fmt;
 /// two sessions that take turns of one word then never take the lock. `examples/turns.rs` shows all three.
 ///
 /// ```
-/// use milestarling::{Memory, Register, Session, Window};
+/// use milestarling::{Memory, Register, Session, Taint, Window};
 ///
 /// # fn main() -> Result<(), milestarling::Refusal> {
 /// let mut memory = Memory::zeroed(Window::at(4096), 8);
 /// let mut ours = Session::new();
-/// ours.set(Register::X0, 4096, false);
-/// ours.set(Register::X2, 1, false);
+/// ours.set(Register::X0, 4096, Taint::NONE);
+/// ours.set(Register::X2, 1, Taint::NONE);
 /// let mut theirs = ours.clone();
 /// let (load, store) = (0x885ffc01, 0x88037c02); // ldaxr w1, [x0]; stxr w3, w2, [x0]
 ///
@@ -125,27 +126,58 @@ impl Session {
         Session::default()
     }
 
-    /// A register's value, and whether it is tainted.
-    pub const fn get(&self, register: Register) -> (u64, bool) {
-        (self.record.value[register.number()], self.is_tainted(register))
+    /// A register's value, and which of its bytes are tainted.
+    pub const fn get(&self, register: Register) -> (u64, Taint) {
+        (self.record.value[register.number()], self.record.value_taint[register.number()].normal())
     }
 
-    /// A register's value where it isn't tainted: one that a host may branch on, take for an address of its own, or show.
+    /// A register's value where no byte is tainted: one that a host may branch on, take for an address of its own, or show.
     pub const fn known(&self, register: Register) -> Option<u64> {
-        match self.get(register) {
-            (value, false) => Some(value),
-            (_, true) => None,
+        if self.is_tainted(register) {
+            return None;
         }
+        Some(self.record.value[register.number()])
     }
 
-    /// Whether a register is tainted.
+    /// The bytes of a register that aren't tainted, the lowest first.
+    ///
+    /// ```
+    /// use milestarling::{Register, Session, Taint};
+    ///
+    /// let mut session = Session::new();
+    /// session.set(Register::X0, 0x0503, Taint::bytes(0..1) | Taint::bytes(3..));
+    /// assert_eq!(session.known_bytes(Register::X0), [None, Some(5), Some(0), None, None, None, None, None]);
+    /// ```
+    pub fn known_bytes(&self, register: Register) -> [Option<u8>; 8] {
+        let (value, taint) = self.get(register);
+        let bytes = value.to_le_bytes();
+        array::from_fn(|byte| (!taint.contains(byte)).then_some(bytes[byte]))
+    }
+
+    /// Whether any byte of a register is tainted.
     pub const fn is_tainted(&self, register: Register) -> bool {
-        self.record.taint[register.number()] != 0
+        !self.record.value_taint[register.number()].is_none()
     }
 
-    /// Sets a register's value and its taint. What a host has computed is tainted where one of its operands is.
-    pub fn set(&mut self, register: Register, value: u64, tainted: bool) {
-        raw::set_register(&mut self.record, register.number() as u32, value, tainted.into());
+    /// Sets a register's value and its taint: [`Taint`] has what an operation makes of those of its operands.
+    pub fn set(&mut self, register: Register, value: u64, taint: Taint) {
+        raw::set_register(&mut self.record, register.number() as u32, value, taint);
+    }
+
+    /// A register's value as a log may have it, in hexadecimal digits: where a byte is tainted all sixteen, with `**` for each
+    /// byte that is.
+    ///
+    /// ```
+    /// use milestarling::{Register, Session, Taint};
+    ///
+    /// let mut session = Session::new();
+    /// session.set(Register::X0, 0x7e5, Taint::NONE);
+    /// assert_eq!(session.shown(Register::X0).to_string(), "0x7e5");
+    /// session.set(Register::X0, 0x7e5, Taint::bytes(0..1));
+    /// assert_eq!(session.shown(Register::X0).to_string(), "0x00000000000007**");
+    /// ```
+    pub fn shown(&self, register: Register) -> impl fmt::Display + fmt::Debug {
+        Shown { known: self.known(register), bytes: self.known_bytes(register) }
     }
 
     /// The program counter. A step adds 4 to it where it is done, modulo 2^64, and keeps it where it is refused; a literal's
@@ -192,12 +224,12 @@ impl Session {
     /// [`Refusal`].
     ///
     /// ```
-    /// use milestarling::{Access, Memory, Monitor, Register, Session, Window};
+    /// use milestarling::{Access, Memory, Monitor, Register, Session, Taint, Window};
     ///
     /// let mut memory = Memory::zeroed(Window::at(4096), 16);
     /// let (mut ours, mut theirs) = (Session::new(), Session::new());
     /// ours.set_monitor(Some(Monitor { address: 4096, bytes: 4 }));
-    /// theirs.set(Register::X1, 4096, false);
+    /// theirs.set(Register::X1, 4096, Taint::NONE);
     /// let words = [0xf9000420, 0xb9000020, 0]; // str x0, [x1, #8]; str w0, [x1]; not of the set
     /// let (mut trace, mut statuses) = ([Access::default(); 3], [0; 3]);
     /// let ran = theirs.run(&mut memory, &words, &mut trace, &mut statuses);
@@ -248,11 +280,11 @@ impl Session {
     /// was.
     ///
     /// ```
-    /// use milestarling::{Access, Answer, Memory, Register, Session, Window};
+    /// use milestarling::{Access, Answer, Memory, Register, Session, Taint, Window};
     ///
     /// let mut memory = Memory::zeroed(Window::at(4096), 32);
     /// let mut session = Session::new();
-    /// session.set(Register::SP, 4128, false);
+    /// session.set(Register::SP, 4128, Taint::NONE);
     /// let words = [
     ///     0xa9bf7bfd, // stp x29, x30, [sp, #-16]!
     ///     0xc8007fe1, // stxr w0, x1, [sp]: nothing has armed the monitor
@@ -301,15 +333,37 @@ impl Session {
     }
 }
 
-/// A tainted value is a secret: it isn't shown, so that no log gets it.
+/// What [`Session::shown`] returns: the whole value where it is known, and its bytes.
+struct Shown {
+    known: Option<u64>,
+    bytes: [Option<u8>; 8],
+}
+
+impl fmt::Display for Shown {
+    fn fmt(&self, f: &mut fmt::Formatter<'_>) -> fmt::Result {
+        if let Some(value) = self.known {
+            return write!(f, "{value:#x}");
+        }
+        f.write_str("0x")?;
+        self.bytes.iter().rev().try_for_each(|byte| match byte {
+            Some(byte) => write!(f, "{byte:02x}"),
+            None => f.write_str("**"),
+        })
+    }
+}
+
+impl fmt::Debug for Shown {
+    fn fmt(&self, f: &mut fmt::Formatter<'_>) -> fmt::Result {
+        fmt::Display::fmt(self, f)
+    }
+}
+
+/// A tainted byte is a secret: it isn't shown, so that no log gets it.
 impl fmt::Debug for Session {
     fn fmt(&self, f: &mut fmt::Formatter<'_>) -> fmt::Result {
         let mut map = f.debug_map();
         for register in Register::all() {
-            match self.known(register) {
-                Some(value) => map.entry(&format_args!("{register}"), &format_args!("{value:#x}")),
-                None => map.entry(&format_args!("{register}"), &format_args!("tainted")),
-            };
+            map.entry(&format_args!("{register}"), &self.shown(register));
         }
         map.entry(&format_args!("pc"), &format_args!("{:#x}", self.pc()));
         map.entry(&format_args!("monitor"), &self.monitor()).finish()

@@ -1,8 +1,8 @@
 //! 01's own examples, and the package's types, by their safe names.
 
 use milestarling::{
-    listing, step_in, words, Access, Answer, Instruction, Memory, Refusal, Register, Session, Step, TaintedBytes,
-    Window,
+    listing, step_in, words, Access, Answer, Instruction, Memory, Refusal, Register, Session, Step, Taint,
+    TaintedBytes, Window,
 };
 use std::array::from_fn;
 use std::error::Error;
@@ -47,7 +47,7 @@ fn of_16(window: Window) -> Memory<Vec<u8>, Vec<u8>> {
 fn example() -> (Session, Memory<Vec<u8>, Vec<u8>>) {
     let (mut session, mut memory) = (Session::new(), of_16(Window::at(4096).readonly(4)));
     memory.write(4100, &[128], false).unwrap();
-    session.set(Register::X1, 4101, false);
+    session.set(Register::X1, 4101, Taint::NONE);
     (session, memory)
 }
 
@@ -70,7 +70,7 @@ fn examples_of_loads() {
 fn examples_of_refusals() {
     let at = |word, address| {
         let (mut session, mut memory) = example();
-        session.set(Register::X1, address, false);
+        session.set(Register::X1, address, Taint::NONE);
         session.step(&mut memory, word).map_err(|refusal| refusal.answer())
     };
     let load = 0xf940_0020; // ldr x0, [x1]
@@ -94,7 +94,7 @@ fn examples_of_refusals() {
 fn a_stack_pointer_is_aligned() {
     for sp in 4096..4104 {
         let (mut session, mut memory) = example();
-        session.set(Register::SP, sp, false);
+        session.set(Register::SP, sp, Taint::NONE);
         let before = session.clone();
         let stepped = session.step(&mut memory, 0xf841_07e0);
         if sp == 4096 {
@@ -114,7 +114,7 @@ fn lent_memory_is_changed_in_place() {
     let (mut left, mut left_taint) = (memory, taint);
     let lent = TaintedBytes { bytes: &mut memory[..], taint: &mut taint[..] };
     let mut session = Session::new();
-    session.set(Register::X0, 0x0102, false);
+    session.set(Register::X0, 0x0102, Taint::NONE);
     assert_eq!(session.step(&mut Memory::new(Window::at(0), lent), 0x7900_0020), done(66, 0)); // strh w0, [x1]
     left[..2].copy_from_slice(&[2, 1]);
     left_taint[..2].fill(0);
@@ -192,12 +192,19 @@ fn a_refusal_is_an_error() {
 
 /// What is tainted is a secret, and a log is read by many.
 #[test]
-fn a_tainted_value_is_not_shown() {
+fn a_tainted_byte_is_not_shown() {
     let mut session = Session::new();
-    session.set(Register::X3, 0x5ec3e7, false);
-    assert!(format!("{session:?}").contains("5ec3e7"));
-    session.set(Register::X3, 0x5ec3e7, true);
-    assert!(!format!("{session:?}").contains("5ec3e7"));
+    let mut shown = |taint| {
+        session.set(Register::X3, 0x5e_c3e7, taint);
+        let shown = session.shown(Register::X3).to_string();
+        assert!(format!("{session:?}").contains(&format!("x3: {shown}, x4: 0x0,")), "{session:?}");
+        shown
+    };
+    assert_eq!(shown(Taint::NONE), "0x5ec3e7");
+    assert_eq!(shown(Taint::bytes(0..2)), "0x00000000005e****");
+    assert_eq!(shown(Taint::bytes(1..=1) | Taint::bytes(7..)), "0x**000000005e**e7");
+    assert_eq!(shown(Taint::from_raw(0x8000_0200)), "0x00000000**5e**e7");
+    assert_eq!(shown(Taint::ALL), "0x****************");
     assert!(!format!("{:?}", example().1).contains("128"));
 }
 
@@ -214,10 +221,13 @@ fn answers_are_said_in_one_way() {
 fn a_value_goes_with_its_taint() {
     let mut session = Session::new();
     for register in Register::all() {
-        for tainted in [true, false] {
-            session.set(register, 5, tainted);
-            assert_eq!(session.get(register), (5, tainted));
-            assert_eq!((session.known(register), session.is_tainted(register)), ((!tainted).then_some(5), tainted));
+        for taint in [Taint::ALL, Taint::bytes(7..8), Taint::bytes(..4), Taint::NONE] {
+            session.set(register, 5, taint);
+            let known = taint.is_none().then_some(5);
+            assert_eq!(session.get(register), (5, taint));
+            assert_eq!((session.known(register), session.is_tainted(register)), (known, known.is_none()));
+            let bytes = from_fn(|byte| (!taint.contains(byte)).then_some(if byte == 0 { 5 } else { 0 }));
+            assert_eq!(session.known_bytes(register), bytes);
         }
         assert_eq!(register.to_string().parse(), Ok(register));
     }
@@ -226,10 +236,63 @@ fn a_value_goes_with_its_taint() {
     }
     assert_eq!(session.pc(), 0);
     session.set_pc(1 << 63);
-    assert_eq!(session.get(Register::SP), (5, false));
+    assert_eq!(session.get(Register::SP), (5, Taint::NONE));
     let record = session.as_raw_mut();
-    (record.value[3], record.taint[3]) = (9, 200);
-    assert_eq!(session.get(Register::X3), (9, true));
+    (record.value[3], record.value_taint[3]) = (9, Taint::from_raw(0x80ff_0002_0000_1000));
+    assert_eq!(session.get(Register::X3), (9, Taint::bytes(1..2) | Taint::bytes(4..5) | Taint::bytes(6..)));
+}
+
+/// Each of the 256 taints, by its bits: what is made of one, and of two.
+#[test]
+fn taints_are_sets_of_bytes() {
+    let of = |bits: usize| {
+        (0..8).filter(|byte| bits >> byte & 1 == 1).fold(Taint::NONE, |all, byte| all | Taint::bytes(byte..=byte))
+    };
+    assert_eq!((of(0), of(255), Taint::bytes(..)), (Taint::NONE, Taint::ALL, Taint::ALL));
+    assert_eq!(
+        (Taint::bytes(2..5), Taint::bytes(6..99), Taint::bytes(8..)),
+        (of(0b11100), of(0b1100_0000), Taint::NONE)
+    );
+    assert!(!Taint::ALL.contains(8) && !Taint::ALL.contains(usize::MAX));
+    for bits in 0..256 {
+        let taint = of(bits);
+        assert_eq!(taint.is_none(), bits == 0);
+        assert!((0..8).all(|byte| taint.contains(byte) == (bits >> byte & 1 == 1)));
+        assert_eq!(
+            taint.carried(),
+            (0..8).find(|&byte| taint.contains(byte)).map_or(Taint::NONE, |low| Taint::bytes(low..))
+        );
+        assert_eq!(taint.word(), of(bits & 15));
+        assert_eq!(format!("{taint:?}"), format!("Taint({bits:08b})"));
+        assert_eq!(Taint::from_raw(taint.to_raw()), taint);
+        for other in [0, 1, 0b1010_0101, 255] {
+            let mut both = taint;
+            both |= of(other);
+            assert_eq!((both, taint | of(other)), (of(bits | other), of(bits | other)));
+        }
+    }
+}
+
+/// One marked byte of a doubleword, spilled and reloaded: the others can be indices, and that one can't.
+#[test]
+fn an_untainted_byte_is_an_index_beside_a_tainted_one() {
+    let mut memory = Memory::zeroed(Window::at(0x1000), 64);
+    memory.write(0x1000, &[b's', 3], false).unwrap();
+    memory.write(0x1000, b"s", true).unwrap();
+    let mut session = Session::new();
+    session.set(Register::X0, 0x1000, Taint::NONE);
+    session.set(Register::SP, 0x1040, Taint::NONE);
+    let mut step = |line: &str| {
+        let done = session.step(&mut memory, line.parse::<Instruction>().unwrap().word());
+        (done.map_err(|refusal| refusal.answer()), session.get(Register::X1).1)
+    };
+    assert_eq!(step("ldr x1, [x0]").1, Taint::bytes(..1));
+    assert_eq!(step("str x1, [sp, #-16]!").0, done(72, 0x1030).map_err(|refusal| refusal.answer()));
+    assert_eq!(step("ldrsh x1, [sp]").1, Taint::bytes(..1));
+    assert_eq!(step("ldrsb w1, [sp]").1, Taint::bytes(..4));
+    assert_eq!(step("ldrb w2, [x0, x1]").0, Err(Answer::TaintedAddress));
+    assert_eq!(step("ldrb w1, [sp, #1]").1, Taint::NONE);
+    assert_eq!(step("ldrb w2, [x0, x1]").0, done(1, 0x1003).map_err(|refusal| refusal.answer()));
 }
 
 /// The host's mistake that the documents warn of, and the same with the taint carried.
@@ -239,11 +302,11 @@ fn a_host_that_drops_a_taint_shows_the_secret() {
         let mut memory = Memory::zeroed(Window::at(0x1000), 32);
         memory.write(0x1000, &[letter], true).unwrap();
         let mut session = Session::new();
-        session.set(Register::X0, 0x1000, false);
-        session.set(Register::X7, 0x1010, false);
+        session.set(Register::X0, 0x1000, Taint::NONE);
+        session.set(Register::X7, 0x1010, Taint::NONE);
         session.step(&mut memory, 0x3940_0001).unwrap(); // ldrb w1, [x0]
-        let (value, tainted) = session.get(Register::X1);
-        session.set(Register::X2, value & 15, tainted && carried);
+        let (value, taint) = session.get(Register::X1);
+        session.set(Register::X2, value & 15, if carried { taint } else { Taint::NONE });
         session.step(&mut memory, 0x3862_68e3) // ldrb w3, [x7, x2]
     };
     assert_eq!(run(b's', false), done(1, 0x1013));
@@ -276,7 +339,7 @@ fn a_step_finds_its_region() {
     let mut regions = [region(0x1000, 32, 1), region(0x1020, 0, 2), region(16u64.wrapping_neg() - 16, 0, 3)];
     let mut session = Session::new();
     let mut at = |address, word| {
-        session.set(Register::X1, address, false);
+        session.set(Register::X1, address, Taint::NONE);
         let done = step_in(&mut regions, &mut session, word).map_err(|refusal| refusal.answer());
         done.map(|done| (done.access.address, session.get(Register::X0).0 as u8))
     };
@@ -332,8 +395,8 @@ fn a_refusal_names_its_word() {
 fn a_run_is_its_steps() {
     let words = [0x885f_fc01, 0x8803_7c02, 0x8803_7c02, 0x385f_f020]; // ldaxr w1, [x0]; stxr w3, w2, [x0] twice; ldurb
     let (mut ours, mut memory) = example();
-    ours.set(Register::X0, 4100, false);
-    ours.set(Register::X2, 1, true);
+    ours.set(Register::X0, 4100, Taint::NONE);
+    ours.set(Register::X2, 1, Taint::bytes(1..8));
     let (mut theirs, mut region) = (ours.clone(), memory.clone());
     let (mut trace, mut statuses) = ([Access::default(); 4], [9; 4]);
     let refusal = ours.run(&mut memory, &words, &mut trace, &mut statuses).unwrap_err();
@@ -343,7 +406,7 @@ fn a_run_is_its_steps() {
     }
     assert!(ours == theirs && ours.monitor().is_none());
     assert_eq!((memory.bytes(), memory.taint()), (region.bytes(), region.taint()));
-    assert_eq!(memory.into_parts().taint[4..9], [1, 1, 1, 1, 0]);
+    assert_eq!(memory.into_parts().taint[4..9], [0, 1, 1, 1, 0]);
 
     let run = theirs.run(&mut region, &words[2..3], &mut trace, &mut statuses).unwrap();
     assert_eq!((run.steps, run.last.to_string()), (1, "store of 4 at 0x1004, which failed".to_string()));

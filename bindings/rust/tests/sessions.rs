@@ -5,7 +5,7 @@ mod reference;
 mod support;
 
 use milestarling::raw::{self, SessionRecord, StepReply};
-use milestarling::{Access, Memory, Monitor, Register, Session, Step, TaintedBytes, Window as Place};
+use milestarling::{Access, Memory, Monitor, Register, Session, Step, Taint, TaintedBytes, Window as Place};
 use reference::running::{self, Window};
 use reference::DONE;
 use std::mem::{align_of, size_of};
@@ -17,7 +17,7 @@ const ORIGIN: u64 = 0x1000;
 const MEMORY: usize = 96;
 
 // As the header has it.
-const _: () = assert!(size_of::<SessionRecord>() == 312 && align_of::<SessionRecord>() == 8);
+const _: () = assert!(size_of::<SessionRecord>() == 536 && align_of::<SessionRecord>() == 8);
 const _: () = assert!(size_of::<Session>() == size_of::<SessionRecord>());
 const _: () = assert!(size_of::<StepReply>() == 32 && align_of::<StepReply>() == 8);
 
@@ -27,12 +27,23 @@ fn the_record_is_that_of_the_header() {
     let start = addr_of!(record) as usize;
     let places = [
         addr_of!(record.value) as usize,
-        addr_of!(record.taint) as usize,
+        addr_of!(record.value_taint) as usize,
         addr_of!(record.pc) as usize,
         addr_of!(record.monitor_address) as usize,
         addr_of!(record.monitor_size) as usize,
     ];
-    assert_eq!(places.map(|place| place - start), [0, 256, 288, 296, 304]);
+    assert_eq!(places.map(|place| place - start), [0, 256, 512, 520, 528]);
+}
+
+/// A taint of any bytes, of which so many in sixteen registers have none, and half of the others some.
+fn any_taint(random: &mut Random, clear: u8) -> Taint {
+    let any = random.next();
+    let some = (0..8).filter(|byte| any >> byte & 1 == 1).fold(0, |mask, byte| mask | 0xff << (8 * byte));
+    match random.below(32) as u8 {
+        tainted if tainted < 2 * clear => Taint::NONE,
+        tainted if tainted % 2 == 0 => Taint::from_raw(random.next() & some),
+        _ => Taint::from_raw(random.next()),
+    }
 }
 
 /// A record of any bits, of which most bases lead into memory.
@@ -48,9 +59,8 @@ fn any_record(random: &mut Random) -> SessionRecord {
     if !random.once_in(8) {
         record.value[31] &= !15;
     }
-    random.fill(&mut record.taint);
     let clear = random.below(16) as u8;
-    record.taint = record.taint.map(|byte| if byte & 15 < clear { 0 } else { byte });
+    record.value_taint = record.value_taint.map(|_| any_taint(random, clear));
     record.pc = if random.once_in(64) { random.next() } else { ORIGIN + 4 * random.below(16) as u64 };
     record.monitor_address = if random.once_in(8) { random.next() } else { ORIGIN + 8 * random.below(4) as u64 };
     record.monitor_size = if random.once_in(8) { random.next() } else { 1 << random.below(4) };
@@ -93,13 +103,13 @@ fn setting_a_register_changes_that_one() {
     for _ in 0..20_000 {
         let before = any_record(&mut random);
         let number = if random.once_in(4) { about_power(&mut random) as u32 } else { random.below(34) as u32 };
-        let (value, mark) = (random.next(), random.word() as u8 & random.word() as u8 & random.word() as u8);
+        let (value, taint) = (random.next(), any_taint(&mut random, 4));
         let mut record = before;
-        raw::set_register(&mut record, number, value, mark);
+        raw::set_register(&mut record, number, value, taint);
         let mut expected = before;
         if number < 32 {
             expected.value[number as usize] = value;
-            expected.taint[number as usize] = (mark != 0) as u8;
+            expected.value_taint[number as usize] = taint;
         }
         assert_eq!(record, expected, "register {number}");
     }
@@ -162,15 +172,15 @@ fn a_run_is_observed_as_its_steps() {
 #[test]
 fn a_session_has_names_and_shows_no_secret() {
     let mut session = Session::new();
-    session.set(Register::X3, 0x5ec2e7, true);
-    session.set(Register::SP, 0x2000, false);
+    session.set(Register::X3, 0x5ec2e7, Taint::bytes(..7));
+    session.set(Register::SP, 0x2000, Taint::NONE);
     session.set_pc(64);
-    assert_eq!(session.get(Register::X3), (0x5ec2e7, true));
+    assert_eq!(session.get(Register::X3), (0x5ec2e7, Taint::bytes(..7)));
     assert_eq!((session.known(Register::X3), session.known(Register::SP)), (None, Some(0x2000)));
     assert_eq!((session.pc(), session.monitor()), (64, None));
     let record = *session.as_raw_mut();
     let shown = format!("{session:?} {record:?}");
-    assert!(!shown.contains("5ec2e7") && shown.contains("tainted") && shown.contains("0x2000"));
+    assert!(!shown.contains("5ec2e7") && shown.contains("0x00**************") && shown.contains("0x2000"));
 
     session.as_raw_mut().monitor_address = 7;
     session.as_raw_mut().monitor_size = 8;
@@ -183,6 +193,6 @@ fn a_session_has_names_and_shows_no_secret() {
     assert_eq!((done.address(), done.word(), done.steps()), (Some(0x2018), Some(0xf9000fe3), 0));
     let done = session.step(&mut memory, 0xf90003e3).unwrap(); // str x3, [sp]
     assert_eq!((done.access.code, done.access.address, done.failed), (72, 0x2000, false));
-    assert_eq!(memory.taint()[..9], [1, 1, 1, 1, 1, 1, 1, 1, 0]);
+    assert_eq!(memory.taint()[..9], [1, 1, 1, 1, 1, 1, 1, 0, 0]);
     assert!(Session::from_raw(*session.as_raw_mut()) == session);
 }

@@ -1,0 +1,124 @@
+use std::fmt;
+use std::ops::{BitOr, BitOrAssign, RangeBounds};
+
+/// Which of a register's eight bytes are secret, or came of a secret. Byte 0 is the lowest.
+///
+/// It is no number and no `bool`, so that nobody says 1 or `true` for a secret and means some other bytes by it: [`NONE`],
+/// [`ALL`] and [`bytes`] make one.
+///
+/// ```
+/// use milestarling::Taint;
+///
+/// let taint = Taint::bytes(0..2) | Taint::bytes(5..=5);
+/// assert!(taint.contains(1) && !taint.contains(2));
+/// assert_eq!(format!("{taint:?}"), "Taint(00100011)");
+/// assert_eq!(taint | Taint::ALL, Taint::ALL);
+/// assert_eq!(taint | Taint::NONE, taint);
+/// ```
+///
+/// # What a host computes
+///
+/// A load copies the taints of its bytes. The sign copies above them take that of the top byte loaded, up to byte 3 in a load
+/// to 32 bits, and cleared bytes have none. A store copies the taints of the bytes that it stores. A base that is written
+/// back and a status have none.
+///
+/// What the host computes by itself, it taints by itself. To taint more is safe, to taint less isn't:
+///
+/// - mov copies the taint, and a number that stands in the word has none.
+/// - and, orr, eor, bic, mvn, and a choice by an untainted condition: a byte where it is tainted in an operand, `a | b`.
+/// - add, sub, mul, and a shift to the left by an untainted amount: every byte from the lowest on that is tainted in an
+///   operand, since carries go upwards, `(a | b).carried()`.
+/// - everything else: [`ALL`], where any byte of an operand is tainted. That holds of a shift to the right too, which moves
+///   bytes downwards, of a rotation, a bit field, a division, the upper half of a product, a count of bits, a shift by a
+///   tainted amount and a choice by a tainted condition.
+/// - A result of 32 bits has the low four of these, [`word`]: its upper four bytes are cleared.
+/// - Flags are tainted where any byte of the result is, be the result dropped (cmp, tst) or not.
+///
+/// [`NONE`]: Taint::NONE
+/// [`ALL`]: Taint::ALL
+/// [`bytes`]: Taint::bytes
+/// [`word`]: Taint::word
+// The library's number, in which any byte but 0 is a taint.
+#[repr(transparent)]
+#[derive(Clone, Copy, Default, PartialEq, Eq, Hash)]
+pub struct Taint(u64);
+
+impl Taint {
+    /// No byte.
+    pub const NONE: Taint = Taint(0);
+    /// Every byte.
+    pub const ALL: Taint = Taint(0x0101_0101_0101_0101);
+
+    /// These bytes, of 0 to 7; there are none above.
+    pub fn bytes(range: impl RangeBounds<usize>) -> Taint {
+        Taint((0..8).filter(|byte| range.contains(byte)).map(|byte| 1 << (8 * byte)).sum())
+    }
+
+    /// Whether a byte is tainted; there are none above 7.
+    pub const fn contains(self, byte: usize) -> bool {
+        byte < 8 && self.0 >> (8 * byte) & 0xff != 0
+    }
+
+    /// Whether no byte is tainted.
+    pub const fn is_none(self) -> bool {
+        self.0 == 0
+    }
+
+    /// Every byte from the lowest tainted one on: of a sum, a difference, a product and a shift to the left.
+    #[must_use]
+    pub const fn carried(self) -> Taint {
+        match self.0 {
+            0 => Taint::NONE,
+            bytes => Taint(Taint::ALL.0 << (bytes.trailing_zeros() / 8 * 8)),
+        }
+    }
+
+    /// The low four bytes: of a result of 32 bits, whose upper four are 0.
+    #[must_use]
+    pub const fn word(self) -> Taint {
+        Taint(self.0 & 0xffff_ffff)
+    }
+
+    /// The taint of a number as the library has it: byte i is that of byte i of the value, and any but 0 is a taint. Taints are
+    /// equal where their numbers are, and all that are made in another way have bytes of 0 and 1 alone.
+    pub const fn from_raw(bytes: u64) -> Taint {
+        Taint(bytes)
+    }
+
+    /// The number.
+    pub const fn to_raw(self) -> u64 {
+        self.0
+    }
+
+    /// The same taint with bytes of 0 and 1 alone.
+    pub(crate) const fn normal(self) -> Taint {
+        let four = self.0 | self.0 >> 4;
+        let two = four | four >> 2;
+        Taint((two | two >> 1) & Taint::ALL.0)
+    }
+}
+
+impl BitOr for Taint {
+    type Output = Taint;
+
+    fn bitor(self, other: Taint) -> Taint {
+        Taint(self.0 | other.0)
+    }
+}
+
+impl BitOrAssign for Taint {
+    fn bitor_assign(&mut self, other: Taint) {
+        *self = *self | other;
+    }
+}
+
+/// A digit for each byte, the highest first.
+impl fmt::Debug for Taint {
+    fn fmt(&self, f: &mut fmt::Formatter<'_>) -> fmt::Result {
+        f.write_str("Taint(")?;
+        for byte in (0..8).rev() {
+            write!(f, "{}", u8::from(self.contains(byte)))?;
+        }
+        f.write_str(")")
+    }
+}
