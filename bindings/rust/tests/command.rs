@@ -197,6 +197,8 @@ bytes 01 02 fe ff
 x0 4096
 x1 0x1008
 tainted x3 7
+tainted x4.1 0x5607
+tainted x6.0-1,4,6-7 0x1112131415161718
 sp 0x1010
 pc 0x8000
 
@@ -214,8 +216,10 @@ step 2: store of 1 at 0x1008, by 39000022, `strb w2, [x1]`
 refused (5): the address would come from a secret value, by 386268a4, `ldrb w4, [x5, x2]`, after 2 steps
 x0 0x1000
 x1 0x1008
-tainted x2
-tainted x3
+x2 0x00000000000000**
+x3 0x****************
+x4 0x000000000000**07
+x6 0x****13**1516****
 sp 0x1010
 pc 0x8008
 0x1000: ** ** ** ** ** ** ** ** ** 00 00 00 01 02 fe ff
@@ -224,10 +228,15 @@ pc 0x8008
 
     let path = made("case", CASE.replace("word 386268a4", "").as_bytes());
     let ended = call(&["run", "--secrets", path.to_str().unwrap()], b"");
-    assert!(
-        ended.wrote.contains("\ndone, after 2 steps\n") && ended.wrote.contains("\ntainted x2 0x73\n"),
-        "{ended:?}"
-    );
+    let registers = "\
+x1 0x1008
+tainted x2.0 0x73
+tainted x3 0x7
+tainted x4.1 0x5607
+tainted x6.0-1,4,6-7 0x1112131415161718
+sp 0x1010
+";
+    assert!(ended.wrote.contains("\ndone, after 2 steps\n") && ended.wrote.contains(registers), "{ended:?}");
     assert!(ended.wrote.ends_with("0x1000: 73* 65* 73* 61* 6d* 65* 34* 32* 73* 00 00 00 01 02 fe ff\n"), "{ended:?}");
     assert_eq!(ended.status, Some(0));
     assert_eq!(call(&["run"], b""), Ended::well("done, after 0 steps\npc 0x0\n"));
@@ -285,6 +294,14 @@ fn a_wrong_case_is_named_by_its_line() {
         ("monitor 1", "is no number"),
         ("monitor 1 4 8", "is no number"),
         ("tainted", "tainted are"),
+        ("tainted x2.8 5", "`8` is neither a byte of a register"),
+        ("tainted x2. 5", "`` is neither a byte of a register"),
+        ("tainted x2.3-1 5", "`3-1` is neither a byte of a register"),
+        ("tainted x2.0-3, 5", "`` is neither a byte of a register"),
+        ("tainted x2.+1 5", "`+1` is neither a byte of a register"),
+        ("tainted x2.1 ", "is no number"),
+        ("tainted x31.1 5", "tainted are"),
+        ("x2.1 5", "refused (9)"),
         ("zeros 1073741825", "more than 1073741824 bytes"),
         ("zeros 18446744073709551615", "more than 1073741824 bytes"),
         ("word 123456789", "one to eight hexadecimal digits"),

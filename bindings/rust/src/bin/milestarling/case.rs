@@ -2,7 +2,7 @@
 
 use crate::input::{Failure, Source};
 use crate::{hexadecimal, number};
-use milestarling::{Access, Instruction, Memory, Monitor, Register, Session, Step, TaintedBytes, Window};
+use milestarling::{Access, Instruction, Memory, Monitor, Register, Session, Step, Taint, TaintedBytes, Window};
 use std::io::{self, Write};
 
 /// The most bytes of memory that a case may have.
@@ -64,9 +64,9 @@ impl Case {
                 let length = number(value.trim())?;
                 self.add(length, std::iter::repeat(0).take(length as usize), tainted)?;
             }
-            _ => match name.parse::<Register>() {
-                Ok(register) => self.session.set(register, number(value.trim())?, tainted),
-                Err(_) => return Ok(false),
+            _ => match register(name, tainted)? {
+                Some((register, taint)) => self.session.set(register, number(value.trim())?, taint),
+                None => return Ok(false),
             },
         }
         Ok(true)
@@ -84,6 +84,48 @@ impl Case {
 
 fn first_word(line: &str) -> (&str, &str) {
     line.split_once(char::is_whitespace).unwrap_or((line, ""))
+}
+
+/// The register of a name, with its taint; none where it is no register's. A tainted one may say of which bytes: `x2.0-3,7`.
+fn register(name: &str, tainted: bool) -> Result<Option<(Register, Taint)>, String> {
+    let (name, bytes) = match name.split_once('.') {
+        Some((name, bytes)) if tainted => (name, Some(bytes)),
+        _ => (name, None),
+    };
+    let Ok(register) = name.parse::<Register>() else { return Ok(None) };
+    let taint = match bytes {
+        Some(bytes) => {
+            bytes.split(',').try_fold(Taint::NONE, |taint, part| Ok::<_, String>(taint | tainted_bytes(part)?))?
+        }
+        None if tainted => Taint::ALL,
+        None => Taint::NONE,
+    };
+    Ok(Some((register, taint)))
+}
+
+/// One byte of a register, or those from one to another.
+fn tainted_bytes(part: &str) -> Result<Taint, String> {
+    let byte = |digits: &str| (0..8).find(|byte: &usize| byte.to_string() == digits);
+    let (first, last) = part.split_once('-').unwrap_or((part, part));
+    match (byte(first), byte(last)) {
+        (Some(first), Some(last)) if first <= last => Ok(Taint::bytes(first..=last)),
+        _ => Err(format!("`{part}` is neither a byte of a register, 0 to 7, nor bytes from one to another")),
+    }
+}
+
+/// What stands behind a register's name for its tainted bytes: nothing where it is all of them.
+fn named_bytes(taint: Taint) -> String {
+    if taint == Taint::ALL {
+        return String::new();
+    }
+    let starts = (0..8).filter(|&byte| taint.contains(byte) && (byte == 0 || !taint.contains(byte - 1)));
+    let parts: Vec<String> = starts
+        .map(|first| match (first..8).take_while(|&byte| taint.contains(byte)).last() {
+            Some(last) if last != first => format!("{first}-{last}"),
+            _ => first.to_string(),
+        })
+        .collect();
+    format!(".{}", parts.join(","))
 }
 
 fn byte(digits: &str) -> Result<u8, String> {
@@ -123,11 +165,11 @@ pub fn run(mut source: Source, secrets: bool, output: &mut impl Write) -> Result
 
 fn show_session(session: &Session, secrets: bool, output: &mut impl Write) -> io::Result<()> {
     for register in Register::all() {
-        match session.get(register) {
-            (0, false) => {}
-            (value, false) => writeln!(output, "{register} {value:#x}")?,
-            (value, true) if secrets => writeln!(output, "tainted {register} {value:#x}")?,
-            (_, true) => writeln!(output, "tainted {register}")?,
+        let (value, taint) = session.get(register);
+        if secrets && !taint.is_none() {
+            writeln!(output, "tainted {register}{} {value:#x}", named_bytes(taint))?;
+        } else if session.known(register) != Some(0) {
+            writeln!(output, "{register} {}", session.shown(register))?;
         }
     }
     writeln!(output, "pc {:#x}", session.pc())?;

@@ -34,8 +34,9 @@ milestarling: the loads and stores of an AArch64 emulator
   milestarling run [FILE] [--secrets]
       Runs a case and shows each step, and whether it is a store-exclusive that failed,
       and then the registers that aren't 0, the monitor where it isn't open, and memory.
-      What is tainted is shown as `tainted` and `**`, and by --secrets as it is. A case
-      has one statement a line, with numbers in decimal or after 0x in hexadecimal:
+      A tainted byte is shown as `**`, and by --secrets as it is: behind it stands a star in
+      memory, and before a register `tainted`. A case has one statement a line, with
+      numbers in decimal or after 0x in hexadecimal:
 
         # WORDS              a comment
         origin NUMBER        the address of memory's first byte, at first 0
@@ -49,6 +50,10 @@ milestarling: the loads and stores of an AArch64 emulator
                              the address and the size that a load-exclusive has armed
                              the monitor with, at first open
         tainted STATEMENT    bytes, letters, zeros or a register that are tainted
+        tainted x2.0-3 NUMBER
+                             a register of which these bytes alone are tainted, 0 to 7
+                             from the lowest on: one, from one to another, or such
+                             parted by commas (x2.0-3,7)
         word HEX             one more word to run
         ldr x0, [x1, #8]     one more word to run, by its text: any line that begins
                              with none of these names
