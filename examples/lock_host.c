@@ -57,8 +57,8 @@ static void take(struct milestarling_session *session, struct milestarling_sessi
 int main(void)
 {
     struct milestarling_session ours = {0}, theirs;
-    milestarling_set_register(&ours, 0, LOCK, 0);
-    milestarling_set_register(&ours, 2, 1, 0);
+    milestarling_set_register(&ours, 0, LOCK, MILESTARLING_TAINT_NONE);
+    milestarling_set_register(&ours, 2, 1, MILESTARLING_TAINT_NONE);
     theirs = ours;
 
     take(&ours, &theirs);

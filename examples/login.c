@@ -52,8 +52,8 @@ int main(void)
     struct milestarling_session session = {.pc = 0x8000};
     uint8_t memory[64] = {0}, taint[64] = {0}, statuses[COUNT];
     uint64_t trace[2 * COUNT];
-    milestarling_set_register(&session, 0, 0x1000, 0);
-    milestarling_set_register(&session, MILESTARLING_SP, 0x1000 + sizeof memory, 0);
+    milestarling_set_register(&session, 0, 0x1000, MILESTARLING_TAINT_NONE);
+    milestarling_set_register(&session, MILESTARLING_SP, 0x1000 + sizeof memory, MILESTARLING_TAINT_NONE);
     memory[8] = 5;
     memset(taint + 8, 1, 4);
     struct milestarling_run_reply ran = milestarling_run(
@@ -63,8 +63,8 @@ int main(void)
     for (uint64_t i = 0; i < ran.steps; i++)
         printf("code %" PRIu64 ", address 0x%" PRIx64 "\n", trace[2 * i], trace[2 * i + 1]);
     printf("steps %" PRIu64 ", answer %" PRIu64 ", pc 0x%" PRIx64 "\n", ran.steps, ran.answer, session.pc);
-    printf("w1 is %" PRIu64 ", taint %d; the byte at 48 is %d, taint %d\n", milestarling_value(&session, 1),
-        milestarling_tainted(&session, 1), memory[48], taint[48]);
+    printf("x1 is %" PRIu64 ", taint %016" PRIx64 "; the byte at 48 is %d, taint %d\n", milestarling_value(&session, 1),
+        milestarling_taint_of(&session, 1).bytes, memory[48], taint[48]);
     if (ran.answer == MILESTARLING_TAINTED_ADDRESS) {
         uint8_t text[MILESTARLING_TEXT_MAX];
         printf("refused: ");

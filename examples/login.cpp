@@ -45,8 +45,8 @@ int main()
     memory.taint_length = taint.size();
     memory.origin = 0x1000;
     milestarling_session session = milestarling_session();
-    milestarling_set_register(&session, 0, 0x1000, false);
-    milestarling_set_register(&session, MILESTARLING_SP, 0x1000 + bytes.size(), false);
+    milestarling_set_register(&session, 0, 0x1000, MILESTARLING_TAINT_NONE);
+    milestarling_set_register(&session, MILESTARLING_SP, 0x1000 + bytes.size(), MILESTARLING_TAINT_NONE);
     session.pc = 0x8000;
 
     std::vector<milestarling_access> trace(words.size());
@@ -56,8 +56,8 @@ int main()
     for (uint64_t i = 0; i < ran.steps; i++)
         std::printf("code %" PRIu64 ", address 0x%" PRIx64 "\n", trace[i].code, trace[i].address);
     std::printf("steps %" PRIu64 ", answer %" PRIu64 ", pc 0x%" PRIx64 "\n", ran.steps, ran.answer, session.pc);
-    std::printf("w1 is %" PRIu64 ", taint %d; the byte at 48 is %d, taint %d\n", milestarling_value(&session, 1),
-        milestarling_tainted(&session, 1), bytes[48], taint[48]);
+    std::printf("x1 is %" PRIu64 ", taint %016" PRIx64 "; the byte at 48 is %d, taint %d\n", milestarling_value(&session, 1),
+        milestarling_taint_of(&session, 1).bytes, bytes[48], taint[48]);
     if (ran.answer == MILESTARLING_TAINTED_ADDRESS)
         std::printf("refused: %s\n", text_of(words[ran.steps]).c_str());
     return 0;

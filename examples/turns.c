@@ -23,10 +23,10 @@ static const char *compute(struct milestarling_session *session, uint32_t word)
     const unsigned target = word & 31, source = (word >> 5) & 31;
     const uint64_t number = (word >> 10) & 0xfff;
     if ((word & 0xffe00000) == 0x52800000) {            /* mov of a number */
-        milestarling_set_register(session, target, (word >> 5) & 0xffff, 0);
+        milestarling_set_register(session, target, (word >> 5) & 0xffff, MILESTARLING_TAINT_NONE);
     } else if ((word & 0xffc00000) == 0x11000000) {     /* add of a number, to 32 bits */
         milestarling_set_register(session, target, (uint32_t)(milestarling_value(session, source) + number),
-            milestarling_tainted(session, source) != 0);
+            milestarling_taint_word(milestarling_taint_carried(milestarling_taint_of(session, source))));
     } else if ((word & 0xff000000) == 0x35000000) {     /* cbnz of 32 bits */
         if (milestarling_tainted(session, target))
             return "a branch on a tainted value";
@@ -81,7 +81,7 @@ static int play(const uint32_t *words, enum manner manner)
     struct milestarling_session sessions[2] = {{.pc = 0}, {.pc = 0}};
     int taken = 0, both = 0;
     for (int who = 0; who < 2; who++)
-        milestarling_set_register(&sessions[who], 0, LOCK, 0);
+        milestarling_set_register(&sessions[who], 0, LOCK, MILESTARLING_TAINT_NONE);
     printf("%s:", manners[manner]);
     for (int i = 0; i < TURNS; i++) {
         const int who = i % 2, held = holds(&sessions[who]);

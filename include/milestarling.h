@@ -11,11 +11,13 @@
  * one, and to pass it over or to compute it would lose bytes and taints in silence. One that doesn't touch memory is
  * computed, and the host adds 4 to pc or branches itself. Answer 2 by itself doesn't tell the two apart.
  *
- * The host's own duty: taints (documents 01 and 02 call them marks) follow a value through the loads and stores that are
- * done here, and nowhere else. A host that computes between two calls (add, and, mov, ..) must carry them itself: the
- * result is tainted where an operand is. And it must not branch on a tainted value, nor take one for an address of its
- * own. A host that loads a letter of a password into x1, sets x2 = x1 & 15 without setting x2's taint, and then runs
- * `ldrb w3, [x7, x2]`, gets answer 0 and a trace whose address tells the password. With x2's taint set it gets answer 5.
+ * The host's own duty: taints (documents 01 and 02 call them marks) follow the bytes of a value through the loads and stores
+ * that are done here, and nowhere else. A host that computes between two calls (add, and, mov, ..) must carry them itself:
+ * struct milestarling_taint, below, says which operation spreads how. And it must not branch on a value with a tainted byte,
+ * nor take one for an address of its own. A host that loads a letter of a password into x1, sets x2 = x1 & 15 without
+ * setting x2's taint, and then runs `ldrb w3, [x7, x2]`, gets answer 0 and a trace whose address tells the password. With
+ * x2's taint set it gets answer 5. A value that the plugin needs to branch on, though it came of a secret, such as a length
+ * or the verdict on a password, is the host's to give out, by setting its register without a taint: docs/SECRECY.md.
  * examples/plugin.c is a host that does its duty.
  *
  * A slice is a pointer and the number of its elements. The pointer is never null, even where the length is 0, and points to
@@ -51,9 +53,9 @@ extern "C" {
 #endif
 
 #define MILESTARLING_VERSION_MAJOR 0
-#define MILESTARLING_VERSION_MINOR 1
+#define MILESTARLING_VERSION_MINOR 2
 #define MILESTARLING_VERSION_PATCH 0
-#define MILESTARLING_VERSION "0.1.0"
+#define MILESTARLING_VERSION "0.2.0"
 
 /* How many registers a session has: x0 to x30, and sp behind them. */
 #define MILESTARLING_REGISTERS 32
@@ -85,7 +87,8 @@ enum milestarling_answer {
     /* the word's effect is unpredictable: it loads one register twice, writes the base back over a register that it moves,
        or is a store-exclusive whose status register is its data register or its base */
     MILESTARLING_UNPREDICTABLE = 4,
-    /* the address would depend on a tainted register */
+    /* the address would depend on a tainted byte: any of the base's eight, or one of the index that is used, the low four
+       for uxtw and sxtw, and all eight for lsl and sxtx */
     MILESTARLING_TAINTED_ADDRESS = 5,
     /* SP as the base that isn't a multiple of 16 (the address is SP), an ordered access that isn't inside one block of
        16 bytes, or an exclusive access whose address isn't a multiple of its size */
@@ -117,12 +120,50 @@ struct milestarling_word_reply {
 };
 
 /*
- * A session's record: the values of x0 to x30 and sp, a taint byte for each, pc, and the monitor of exclusive accesses, an
+ * The taint of a register: which of its eight bytes are secret or came of a secret. Byte i of the number, from the lowest, is
+ * that of byte i of the value, and any but 0 is a taint; a step, and the functions here, leave 0 or 1. It is a struct so that
+ * nobody hands in 1 for "tainted", which would be byte 0 alone: MILESTARLING_TAINT_NONE, MILESTARLING_TAINT_ALL and
+ * milestarling_taint_bytes make one.
+ *
+ * A load copies the taints of its bytes. The sign copies above them take that of the top byte loaded, up to byte 3 in a load to
+ * 32 bits, and cleared bytes have none. A store copies the taints of the bytes that it stores. A base that is written back and
+ * a status have none.
+ *
+ * What the host computes by itself, it taints by itself. To taint more is safe, to taint less isn't:
+ *
+ * - mov copies the taint, and a number that stands in the word has none.
+ * - and, orr, eor, bic, mvn, and a choice by an untainted condition: a byte where it is tainted in an operand,
+ *   milestarling_taint_union.
+ * - add, sub, mul, and a shift to the left by an untainted amount: every byte from the lowest on that is tainted in an operand,
+ *   since carries go upwards, milestarling_taint_carried of the union.
+ * - everything else: all bytes, where any byte of an operand is tainted. That holds of a shift to the right too, which moves
+ *   bytes downwards, of a rotation, a bit field, a division, the upper half of a product, a count of bits, a shift by a tainted
+ *   amount and a choice by a tainted condition.
+ * - A result of 32 bits has the low four of these, milestarling_taint_word: its upper four bytes are cleared.
+ * - Flags are tainted where any byte of the result is, be the result dropped (cmp, tst) or not.
+ */
+struct milestarling_taint {
+    uint64_t bytes;
+};
+
+/* Every byte's taint, as a number: in braces, {MILESTARLING_TAINT_ALL_BYTES}, it begins a static object in any C. */
+#define MILESTARLING_TAINT_ALL_BYTES UINT64_C(0x0101010101010101)
+
+/* No byte, and every byte. */
+#ifdef __cplusplus
+#define MILESTARLING_TAINT_NONE (milestarling_taint{0})
+#define MILESTARLING_TAINT_ALL (milestarling_taint{MILESTARLING_TAINT_ALL_BYTES})
+#else
+#define MILESTARLING_TAINT_NONE ((struct milestarling_taint){0})
+#define MILESTARLING_TAINT_ALL ((struct milestarling_taint){MILESTARLING_TAINT_ALL_BYTES})
+#endif
+
+/*
+ * A session's record: the values of x0 to x30 and sp, the taints of their bytes, pc, and the monitor of exclusive accesses, an
  * address and a size. The host keeps it; it crosses by value to milestarling_run, which returns it, and is lent to
  * milestarling_step and milestarling_set_register, which change it in place. One of zeros is a new one:
  * `struct milestarling_session session = {0};`. Any bytes in it have a meaning, so that every record is one that a call
- * takes, and gets an answer: any taint byte but 0 is a taint, and a step leaves 0 or 1 in those that it sets; a pc that
- * isn't a multiple of 4 is answer 1; and a monitor may hold any two numbers.
+ * takes, and gets an answer: a pc that isn't a multiple of 4 is answer 1, and a monitor may hold any two numbers.
  *
  * A step adds 4 to pc where it is done, modulo 2^64, and keeps it where it is refused; a literal's address counts from pc
  * as it is before the step. A host that computes a word by itself moves pc itself, as the loop at the head of this file
@@ -144,7 +185,7 @@ struct milestarling_word_reply {
  */
 struct milestarling_session {
     uint64_t value[MILESTARLING_REGISTERS];
-    uint8_t taint[MILESTARLING_REGISTERS];
+    struct milestarling_taint value_taint[MILESTARLING_REGISTERS];
     uint64_t pc;
     uint64_t monitor_address;
     uint64_t monitor_size;
@@ -225,10 +266,10 @@ struct milestarling_step_reply milestarling_step(
     uint8_t *taint, size_t taint_length);
 
 /*
- * Sets x0 to x30 (0 to 30) or sp (31) of a session's record, with its taint, which any byte but 0 is. Any other number changes
- * nothing.
+ * Sets x0 to x30 (0 to 30) or sp (31) of a session's record, with its taint as it is given. Any other number changes nothing.
  */
-void milestarling_set_register(struct milestarling_session *session, uint32_t number, uint64_t value, uint8_t tainted);
+void milestarling_set_register(
+    struct milestarling_session *session, uint32_t number, uint64_t value, struct milestarling_taint taint);
 
 /* The session with its monitor open: address and size 0, and registers and pc as they were. */
 MILESTARLING_MUST_USE
@@ -430,6 +471,53 @@ struct milestarling_decode_reply milestarling_decode(uint32_t word);
 MILESTARLING_MUST_USE
 struct milestarling_word_reply milestarling_encode(struct milestarling_instruction instruction);
 
+/* ---- Taints that a host carries. */
+
+/* That of so many bytes from the first on, counted from the lowest, 0: milestarling_taint_bytes(0, 4) is that of w0 in x0. There
+   are no bytes above 7. */
+MILESTARLING_MUST_USE
+static inline struct milestarling_taint milestarling_taint_bytes(uint32_t first, uint32_t count)
+{
+    struct milestarling_taint taint = MILESTARLING_TAINT_NONE;
+    uint32_t i;
+    for (i = 0; i < 8; i++)
+        if (i >= first && i - first < count)
+            taint.bytes |= (uint64_t)1 << (8 * i);
+    return taint;
+}
+
+/* Every byte that is tainted in one of both. */
+MILESTARLING_MUST_USE
+static inline struct milestarling_taint milestarling_taint_union(struct milestarling_taint a, struct milestarling_taint b)
+{
+    a.bytes |= b.bytes;
+    /* the lowest bit of a byte becomes whether any of its eight is set */
+    a.bytes |= a.bytes >> 4;
+    a.bytes |= a.bytes >> 2;
+    a.bytes |= a.bytes >> 1;
+    a.bytes &= MILESTARLING_TAINT_ALL_BYTES;
+    return a;
+}
+
+/* Every byte from the lowest tainted one on: of a sum, a difference, a product and a shift to the left. */
+MILESTARLING_MUST_USE
+static inline struct milestarling_taint milestarling_taint_carried(struct milestarling_taint taint)
+{
+    taint = milestarling_taint_union(taint, MILESTARLING_TAINT_NONE);
+    taint.bytes |= taint.bytes << 8;
+    taint.bytes |= taint.bytes << 16;
+    taint.bytes |= taint.bytes << 32;
+    return taint;
+}
+
+/* That of the low four bytes: of a result of 32 bits, whose upper four are 0. */
+MILESTARLING_MUST_USE
+static inline struct milestarling_taint milestarling_taint_word(struct milestarling_taint taint)
+{
+    taint.bytes &= UINT32_MAX;
+    return milestarling_taint_union(taint, MILESTARLING_TAINT_NONE);
+}
+
 /* ---- A session's record by its parts. */
 
 /* The value of x0 to x30 or sp; 0 for any other number. Ask for its taint too before it is branched on or shown. */
@@ -439,11 +527,19 @@ static inline uint64_t milestarling_value(const struct milestarling_session *ses
     return number < MILESTARLING_REGISTERS ? session->value[number] : 0;
 }
 
-/* Whether x0 to x30 or sp is tainted; 0 for any other number. */
+/* Which bytes of x0 to x30 or sp are tainted, 0 or 1 each; none for any other number. */
+MILESTARLING_MUST_USE
+static inline struct milestarling_taint milestarling_taint_of(const struct milestarling_session *session, uint32_t number)
+{
+    const struct milestarling_taint none = MILESTARLING_TAINT_NONE;
+    return number < MILESTARLING_REGISTERS ? milestarling_taint_union(session->value_taint[number], none) : none;
+}
+
+/* Whether any byte of x0 to x30 or sp is tainted; 0 for any other number. */
 MILESTARLING_MUST_USE
 static inline int milestarling_tainted(const struct milestarling_session *session, uint32_t number)
 {
-    return number < MILESTARLING_REGISTERS && session->taint[number] != 0;
+    return milestarling_taint_of(session, number).bytes != 0;
 }
 
 /* Opens the monitor, whatever it watches: after a write that no step of a session did. */

@@ -23,13 +23,14 @@ static void hold(int holds, const char *what)
 #define SESSION_AT(field, place) \
     typedef char session_##field##_at_##place[offsetof(struct milestarling_session, field) == place ? 1 : -1]
 SESSION_AT(value, 0);
-SESSION_AT(taint, 256);
-SESSION_AT(pc, 288);
-SESSION_AT(monitor_address, 296);
-SESSION_AT(monitor_size, 304);
-typedef char session_has_312_bytes[sizeof(struct milestarling_session) == 312 ? 1 : -1];
+SESSION_AT(value_taint, 256);
+SESSION_AT(pc, 512);
+SESSION_AT(monitor_address, 520);
+SESSION_AT(monitor_size, 528);
+typedef char session_has_536_bytes[sizeof(struct milestarling_session) == 536 ? 1 : -1];
+typedef char taint_has_8_bytes[sizeof(struct milestarling_taint) == 8 ? 1 : -1];
 typedef char reply_has_32_bytes[sizeof(struct milestarling_step_reply) == 32 ? 1 : -1];
-typedef char run_reply_has_344_bytes[sizeof(struct milestarling_run_reply) == 344 ? 1 : -1];
+typedef char run_reply_has_568_bytes[sizeof(struct milestarling_run_reply) == 568 ? 1 : -1];
 typedef char lister_has_5_bytes[sizeof(struct milestarling_lister) == 5 ? 1 : -1];
 typedef char lister_reply_has_24_bytes[sizeof(struct milestarling_lister_reply) == 24 ? 1 : -1];
 typedef char memory_has_48_bytes[sizeof(struct milestarling_memory) == 48 ? 1 : -1];
@@ -64,6 +65,50 @@ static struct milestarling_memory none(void)
     return memory;
 }
 
+/* The taint of each byte that a bit of this number is set for. */
+static struct milestarling_taint of_bits(unsigned bits)
+{
+    struct milestarling_taint taint = MILESTARLING_TAINT_NONE;
+    uint32_t i;
+    for (i = 0; i < 8; i++)
+        if ((bits >> i) & 1)
+            taint = milestarling_taint_union(taint, milestarling_taint_bytes(i, 1));
+    return taint;
+}
+
+static int same_taint(struct milestarling_taint one, struct milestarling_taint other)
+{
+    return one.bytes == other.bytes;
+}
+
+/* Each of the 256 taints: what is made of one, and of two, and of one with other bytes but 0 for its bytes. */
+static void a_host_carries_taints(void)
+{
+    static const struct milestarling_taint kept[2] = {{MILESTARLING_TAINT_ALL_BYTES}, {0}};
+    const uint64_t others[3] = {2, 128, 255};
+    unsigned bits, other, i;
+    hold(same_taint(kept[0], MILESTARLING_TAINT_ALL) && same_taint(kept[1], MILESTARLING_TAINT_NONE), "constants");
+    hold(same_taint(milestarling_taint_bytes(0, 8), MILESTARLING_TAINT_ALL), "all bytes");
+    hold(same_taint(milestarling_taint_bytes(2, 3), of_bits(0x1c)), "some bytes");
+    hold(same_taint(milestarling_taint_bytes(6, UINT32_MAX), of_bits(0xc0)), "no bytes above 7");
+    hold(milestarling_taint_bytes(8, 1).bytes == 0 && milestarling_taint_bytes(UINT32_MAX, UINT32_MAX).bytes == 0, "none");
+    for (bits = 0; bits < 256; bits++) {
+        const struct milestarling_taint taint = of_bits(bits);
+        const unsigned lowest = bits & (0u - bits);
+        hold(same_taint(milestarling_taint_carried(taint), of_bits(0x100 - lowest)), "carried");
+        hold(same_taint(milestarling_taint_word(taint), of_bits(bits & 15)), "of a word");
+        for (other = 0; other < 256; other++)
+            hold(same_taint(milestarling_taint_union(taint, of_bits(other)), of_bits(bits | other)), "a union");
+        for (i = 0; i < 3; i++) {
+            struct milestarling_taint given = taint;
+            given.bytes *= others[i];
+            hold(same_taint(milestarling_taint_union(given, MILESTARLING_TAINT_NONE), taint), "0 or 1");
+            hold(same_taint(milestarling_taint_carried(given), milestarling_taint_carried(taint)), "carried, 0 or 1");
+            hold(same_taint(milestarling_taint_word(given), of_bits(bits & 15)), "of a word, 0 or 1");
+        }
+    }
+}
+
 static void a_run_goes_on_from_a_session(void)
 {
     struct milestarling_memory memory = small();
@@ -76,7 +121,7 @@ static void a_run_goes_on_from_a_session(void)
     memset(&session, 0xff, sizeof session);
     session.pc = 0;
     taint[9] = 255;
-    milestarling_set_register(&session, 1, 4096, 0);
+    milestarling_set_register(&session, 1, 4096, MILESTARLING_TAINT_NONE);
 
     before = session;
     reply = milestarling_session_run(memory, &session, words, 2, trace, 1, statuses, 2);
@@ -89,12 +134,14 @@ static void a_run_goes_on_from_a_session(void)
     hold(reply.answer == MILESTARLING_TAINTED_ADDRESS && reply.steps == 1 && reply.code == 0, "a run");
     hold(trace[0].code == 8 && trace[0].address == 4104 && statuses[0] == 0 && statuses[1] == 9, "its trace");
     before.value[0] = 0x0707070707070707;
-    before.taint[0] = 1;
+    before.value_taint[0] = milestarling_taint_bytes(1, 1);
     before.pc = MILESTARLING_WORD_BYTES;
     hold(same(&session, &before) && same(&reply.session, &before), "its session");
     hold(milestarling_value(&session, 0) == 0x0707070707070707 && milestarling_value(&session, 32) == 0, "values");
-    hold(milestarling_tainted(&session, 0) && !milestarling_tainted(&session, 1), "taints");
-    hold(!milestarling_tainted(&session, 32), "no register 32");
+    hold(milestarling_tainted(&session, 0) && !milestarling_tainted(&session, 1), "whether a byte is tainted");
+    hold(same_taint(milestarling_taint_of(&session, 0), milestarling_taint_bytes(1, 1)), "which");
+    hold(same_taint(milestarling_taint_of(&session, 2), MILESTARLING_TAINT_ALL), "0 or 1 for any byte");
+    hold(!milestarling_tainted(&session, 32) && milestarling_taint_of(&session, 32).bytes == 0, "no register 32");
 
     reply = milestarling_session_run(memory, &session, NULL, 0, NULL, 0, NULL, 0);
     hold(reply.answer == MILESTARLING_DONE && reply.steps == 0 && same(&session, &before), "no words");
@@ -117,8 +164,8 @@ static void refuses(struct milestarling_memory memory, const char *what)
     size_t i;
     int kept = 1;
     memset(&session, 0, sizeof session);
-    milestarling_set_register(&session, 0, 5, 1);
-    milestarling_set_register(&session, 1, 4096, 0);
+    milestarling_set_register(&session, 0, 5, MILESTARLING_TAINT_ALL);
+    milestarling_set_register(&session, 1, 4096, MILESTARLING_TAINT_NONE);
     before = session;
     reply = milestarling_session_step(memory, &session, word);
     hold(reply.answer == MILESTARLING_BAD_WINDOW && reply.code == 0 && reply.address == 0 && reply.status == 0, what);
@@ -162,8 +209,8 @@ static void a_host_opens_the_monitor(void)
     const uint32_t load = 0x885ffc01, store = 0x88037c02; /* ldaxr w1, [x0]; stxr w3, w2, [x0] */
     uint32_t words[3];
     memset(&session, 0, sizeof session);
-    milestarling_set_register(&session, 0, 4096, 0);
-    milestarling_set_register(&session, 3, 5, 1);
+    milestarling_set_register(&session, 0, 4096, MILESTARLING_TAINT_NONE);
+    milestarling_set_register(&session, 3, 5, MILESTARLING_TAINT_ALL);
     words[0] = load;
     words[1] = words[2] = store;
 
@@ -173,7 +220,7 @@ static void a_host_opens_the_monitor(void)
     hold(ran.answer == MILESTARLING_DONE && ran.steps == 3, "a store-exclusive that fails isn't refused");
     hold(statuses[0] == 0 && statuses[1] == 0 && statuses[2] == 1, "statuses");
     hold(trace[1].code == MILESTARLING_STORE_CODE + 4 && memcmp(&trace[1], &trace[2], sizeof trace[1]) == 0, "shown alike");
-    hold(session.value[3] == 1 && session.taint[3] == 0 && session.monitor_size == 0, "the status, and an open monitor");
+    hold(session.value[3] == 1 && !milestarling_tainted(&session, 3) && session.monitor_size == 0, "status and monitor");
 
     bytes[0] = 9;
     reply = milestarling_session_step(memory, &session, load);
@@ -244,26 +291,29 @@ static void a_session_is_changed_in_place(void)
     struct milestarling_memory memory = small();
     struct milestarling_session session, before;
     struct milestarling_step_reply reply;
+    struct milestarling_taint given;
     memset(&session, 0xff, sizeof session);
     session.pc = 0;
     taint[9] = 255;
 
     before = session;
-    milestarling_set_register(&session, 1, 4096, 0);
-    hold(session.value[1] == 4096 && session.taint[1] == 0, "a register that is set");
+    milestarling_set_register(&session, 1, 4096, MILESTARLING_TAINT_NONE);
+    hold(session.value[1] == 4096 && session.value_taint[1].bytes == 0, "a register that is set");
     before.value[1] = 4096;
-    before.taint[1] = 0;
+    before.value_taint[1] = MILESTARLING_TAINT_NONE;
     hold(same(&session, &before), "no other register, pc or monitor");
-    milestarling_set_register(&session, MILESTARLING_SP, 5, 128);
-    hold(session.value[31] == 5 && session.taint[31] == 1, "sp");
+    given.bytes = UINT64_C(0xff80020100000000);
+    milestarling_set_register(&session, MILESTARLING_SP, 5, given);
+    hold(session.value[31] == 5 && same_taint(session.value_taint[31], given), "sp, with its taint as it is given");
+    hold(same_taint(milestarling_taint_of(&session, MILESTARLING_SP), milestarling_taint_bytes(4, 4)), "the same as 0 or 1");
     before = session;
-    milestarling_set_register(&session, 32, 6, 1);
+    milestarling_set_register(&session, 32, 6, MILESTARLING_TAINT_ALL);
     hold(same(&session, &before), "no register 32 to be set");
 
     reply = milestarling_session_step(memory, &session, 0xf9400420); /* ldr x0, [x1, #8] */
     hold(reply.answer == MILESTARLING_DONE && reply.code == 8 && reply.address == 4104 && reply.status == 0, "a step");
     before.value[0] = 0x0707070707070707;
-    before.taint[0] = 1;
+    before.value_taint[0] = milestarling_taint_bytes(1, 1);
     before.pc = MILESTARLING_WORD_BYTES;
     hold(same(&session, &before), "what it loads, its taint and pc");
 
@@ -274,11 +324,34 @@ static void a_session_is_changed_in_place(void)
     hold(same(&session, &before), "a refusal changes nothing");
 }
 
+/* Of a doubleword that is spilled, one byte is tainted: the one beside it is an index when it is reloaded, and that isn't. */
+static void bytes_keep_their_taints(void)
+{
+    struct milestarling_memory memory = small();
+    struct milestarling_session session;
+    memset(&session, 0, sizeof session);
+    milestarling_set_register(&session, 0, 4096, MILESTARLING_TAINT_NONE);
+    milestarling_set_register(&session, 1, 0x0503, milestarling_taint_bytes(0, 1));
+    hold(milestarling_session_step(memory, &session, 0xf9000001).answer == MILESTARLING_DONE, "str x1, [x0]");
+    hold(taint[0] == 1 && taint[1] == 0 && taint[7] == 0 && bytes[0] == 3 && bytes[1] == 5, "what is stored");
+    hold(milestarling_session_step(memory, &session, 0x39c00002).answer == MILESTARLING_DONE, "ldrsb w2, [x0]");
+    hold(same_taint(milestarling_taint_of(&session, 2), milestarling_taint_bytes(0, 4)), "sign copies of 32 bits");
+    hold(milestarling_session_step(memory, &session, 0x38626804).answer == MILESTARLING_TAINTED_ADDRESS, "ldrb w4, [x0, x2]");
+    hold(milestarling_session_step(memory, &session, 0x39400402).answer == MILESTARLING_DONE, "ldrb w2, [x0, #1]");
+    hold(!milestarling_tainted(&session, 2), "a byte beside a tainted one");
+    hold(milestarling_session_step(memory, &session, 0x38626804).address == 4101, "and an index");
+    milestarling_set_register(&session, 2, UINT64_C(0x500000005), milestarling_taint_bytes(4, 1));
+    hold(milestarling_session_step(memory, &session, 0x38626804).answer == MILESTARLING_TAINTED_ADDRESS, "byte 4, for lsl");
+    hold(milestarling_session_step(memory, &session, 0x38624804).address == 4101, "and not for uxtw");
+}
+
 int main(void)
 {
     uint64_t answer;
     uint8_t short_line[MILESTARLING_SHORT_MAX];
     const uint8_t over[3] = {1, 2, 3};
+    a_host_carries_taints();
+    bytes_keep_their_taints();
     a_session_is_changed_in_place();
     a_run_goes_on_from_a_session();
     taint_bytes_have_a_length_of_their_own();

@@ -2,7 +2,7 @@
 # Builds the library for C and C++ hosts from nothing but this repository, and tries it: the examples, the header in each
 # version of both languages and with each compiler that is there, the program that the README prints, and what
 # tools/install.sh puts below a prefix. Structs cross by value, so that each is compiled without optimizing and with it. A
-# call whose answer is dropped must not compile where that warning is made an error.
+# call whose answer is dropped must not compile where that warning is made an error, and a number for a taint nowhere.
 set -eo pipefail
 cd "$(dirname "${BASH_SOURCE[0]}")/.."
 bash tools/library.sh
@@ -48,6 +48,7 @@ answering=$(wc -l < "$room/declared")
 sed -n '/^| Answer | Text |$/,$p' docs/ANSWERS.md | tail -n +3 > "$room/said"
 version=$(sed -n 's/^version = "\(.*\)"$/\1/p' bindings/rust/Cargo.toml)
 echo "$version $version" >> "$room/said"
+wrongs=$(sed -nE 's/^#(el)?if WRONG == ([0-9]+)$/\2/p' tests/taints.c | paste -s -d ' ')
 versions=0
 for compiler in gcc g++ clang clang++; do
     command -v "$compiler" > /dev/null || continue
@@ -68,11 +69,21 @@ for compiler in gcc g++ clang clang++; do
             exit 1
         fi
         [ "$(grep -c 'error: .*unused-result' "$room/warned")" -eq "$answering" ] || { cat "$room/warned"; exit 1; }
+        taints=("$compiler" -x "$language" "-std=$standard" -Iinclude -c -o "$room/taints.o" tests/taints.c)
+        "${taints[@]}" "${strict[@]}" -Wconversion
+        for wrong in $wrongs; do
+            if "${taints[@]}" "-DWRONG=$wrong" 2> "$room/said_of_taint"; then
+                echo "host: $compiler -std=$standard takes line $wrong of tests/taints.c"
+                exit 1
+            fi
+            grep -q 'error: ' "$room/said_of_taint" || { cat "$room/said_of_taint"; exit 1; }
+        done
         versions=$((versions + 1))
     done
 done
 echo "host: the header was compiled without a warning in $versions versions of C and C++"
 echo "host: in each of them a dropped answer is an error, of each of the $answering functions that answer"
+echo "host: and none of them takes a number for a taint, nor the record's taint of one byte: $(wc -w <<< "$wrongs") tries"
 
 # The library needs nothing beside it but what the header says, and fits into a shared object.
 needed=$(nm -u "$archive" | awk 'NF == 2 && $2 !~ /^mem(cpy|move|set|cmp)$/ { print $2 }' | sort -u | paste -s -d ' ')

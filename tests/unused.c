@@ -19,12 +19,13 @@
 
 int main(void)
 {
-    struct milestarling_session session = {{0}, {0}, 0, 0, 0};
+    struct milestarling_session session = {{0}, {{0}}, 0, 0, 0};
     struct milestarling_memory memory = {NULL, 0, NULL, 0, 0, 0};
     struct milestarling_lister lister = {0, 0, 0, 0, 0};
     struct milestarling_instruction numbers = {0, 0, 0, 0, 0, 0, 0, 0, 0, 0, 0, 0, 0};
     uint8_t bytes[4] = {0}, taint[4] = {0}, statuses[1] = {0};
     uint64_t trace[2] = {0};
+    const struct milestarling_taint none = MILESTARLING_TAINT_NONE;
     const uint32_t words[1] = {0};
 
     ANSWER(struct milestarling_run_reply, milestarling_run(words, 1, session, 0, 0, bytes, 4, taint, 4, trace, 2, statuses, 1));
@@ -41,7 +42,12 @@ int main(void)
     ANSWER(int, milestarling_touches_memory_inline(0));
     ANSWER(struct milestarling_decode_reply, milestarling_decode(0));
     ANSWER(struct milestarling_word_reply, milestarling_encode(numbers));
+    ANSWER(struct milestarling_taint, milestarling_taint_bytes(0, 8));
+    ANSWER(struct milestarling_taint, milestarling_taint_union(none, none));
+    ANSWER(struct milestarling_taint, milestarling_taint_carried(none));
+    ANSWER(struct milestarling_taint, milestarling_taint_word(none));
     ANSWER(uint64_t, milestarling_value(&session, 0));
+    ANSWER(struct milestarling_taint, milestarling_taint_of(&session, 0));
     ANSWER(int, milestarling_tainted(&session, 0));
     ANSWER(struct milestarling_run_reply, milestarling_session_run(memory, &session, words, 1, NULL, 0, statuses, 1));
     ANSWER(struct milestarling_step_reply, milestarling_session_step(memory, &session, 0));

@@ -1,0 +1,38 @@
+/*
+ * A host that takes a register's taint for a number or a truth: none of it may compile, since 1 for "tainted" would be a
+ * taint of byte 0 alone. tests/host.sh compiles this file with WRONG as each number below, which has to fail, and without, which
+ * has to go well, in every version of C and C++ that the header is for.
+ */
+#include <string.h>
+
+#include "milestarling.h"
+
+int main(void)
+{
+    struct milestarling_session session;
+    struct milestarling_taint taint = MILESTARLING_TAINT_ALL;
+    memset(&session, 0, sizeof session);
+#if WRONG == 1
+    milestarling_set_register(&session, 2, 5, 1);
+#elif WRONG == 2
+    milestarling_set_register(&session, 2, 5, 0);
+#elif WRONG == 3
+    milestarling_set_register(&session, 2, 5, milestarling_tainted(&session, 1));
+#elif WRONG == 4
+    session.taint[2] = 1;
+#elif WRONG == 5
+    memset(session.taint, 1, sizeof session.taint);
+#elif WRONG == 6
+    session.value_taint[2] = 1;
+#elif WRONG == 7
+    taint = 1;
+#elif WRONG == 8
+    if (milestarling_taint_of(&session, 2))
+        taint = MILESTARLING_TAINT_NONE;
+#endif
+    session.value_taint[2] = taint;
+    milestarling_set_register(&session, 3, 5, milestarling_taint_of(&session, 2));
+    taint = milestarling_tainted(&session, 2) ? MILESTARLING_TAINT_ALL : MILESTARLING_TAINT_NONE;
+    milestarling_set_register(&session, 4, 5, taint);
+    return 0;
+}
