@@ -1,5 +1,5 @@
 /*
- * Three pieces of a login plugin, which the host examples/plugin.c and the Rust example plugin.rs run. build.sh compiles
+ * Four pieces of a login plugin, which the host examples/plugin.c and the Rust example plugin.rs run. build.sh compiles
  * each into a file of its own.
  */
 typedef unsigned char letter;
@@ -28,4 +28,17 @@ unsigned compare_early(const letter *given, const letter *stored, unsigned long 
 unsigned look_up(const letter *given, const letter *table)
 {
     return table[*given & 15];
+}
+
+/* A password, and behind it a doubleword of which the lowest byte is secret too, and the next one, a kind, is not. */
+struct login {
+    letter password[8];
+    unsigned long keyed;
+};
+
+/* What a table has for the kind, of a doubleword that is spilled to the stack whole: the secret beside it chooses nothing. */
+unsigned look_up_kind(const struct login *login, const letter *table)
+{
+    volatile unsigned long spilled = login->keyed;
+    return table[*((volatile letter *)&spilled + 1)];
 }
