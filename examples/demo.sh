@@ -50,7 +50,7 @@ echo "  X3 holds what it held, $(field 0 registers 5), and not 0. Nothing was ch
 echo
 echo "Another loads a letter of the password, copies it, and looks it up in a table:"
 echo "  $(line 2); $(line 3); $(line 4)"
-echo "  The letter is tainted (X2 is $(field 1 registers 4)), and so is its copy: taint $(field 1 taint 2 | cut -c 33-36)."
+echo "  The letter is tainted (X2 is $(field 1 registers 4), its lowest byte), and so is its copy: taint $(field 1 taint 2 | cut -c 33-36)."
 echo "  Steps done: $(field 1 case 3). The third would let the password choose an address: answer $(field 1 case 4)."
 echo "  What the help desk sees, code and address of each step done: $(field 1 trace 2-5 | tr '\t' ' ')"
 echo "  With another password, where X2 is $(field 2 registers 4), it sees:  $(field 2 trace 2-5 | tr '\t' ' ')"

@@ -275,7 +275,7 @@ pc 0x4
 #[test]
 fn runs_the_example() {
     let ended = call(&["run", &stored("examples/login.case")], b"");
-    let shown: String = ended.wrote.lines().take(3).map(|line| format!("    {line}\n")).collect();
+    let shown: String = ended.wrote.lines().take(6).map(|line| format!("    {line}\n")).collect();
     assert!(fs::read_to_string(stored("README.md")).unwrap().contains(&shown), "{shown}");
     assert_eq!(ended.status, Some(1));
 }

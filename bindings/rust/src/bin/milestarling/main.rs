@@ -34,9 +34,9 @@ milestarling: the loads and stores of an AArch64 emulator
   milestarling run [FILE] [--secrets]
       Runs a case and shows each step, and whether it is a store-exclusive that failed,
       and then the registers that aren't 0, the monitor where it isn't open, and memory.
-      A tainted byte is shown as `**`, and by --secrets as it is: behind it stands a star in
-      memory, and before a register `tainted`. A case has one statement a line, with
-      numbers in decimal or after 0x in hexadecimal:
+      A tainted byte is shown as `**`, and by --secrets as it is: in memory with a star
+      behind it, and in a register by a statement that begins with `tainted`. A case has
+      one statement a line, with numbers in decimal or after 0x in hexadecimal:
 
         # WORDS              a comment
         origin NUMBER        the address of memory's first byte, at first 0
