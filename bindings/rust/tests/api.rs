@@ -242,38 +242,7 @@ fn a_value_goes_with_its_taint() {
     assert_eq!(session.get(Register::X3), (9, Taint::bytes(1..2) | Taint::bytes(4..5) | Taint::bytes(6..)));
 }
 
-/// Each of the 256 taints, by its bits: what is made of one, and of two.
-#[test]
-fn taints_are_sets_of_bytes() {
-    let of = |bits: usize| {
-        (0..8).filter(|byte| bits >> byte & 1 == 1).fold(Taint::NONE, |all, byte| all | Taint::bytes(byte..=byte))
-    };
-    assert_eq!((of(0), of(255), Taint::bytes(..)), (Taint::NONE, Taint::ALL, Taint::ALL));
-    assert_eq!(
-        (Taint::bytes(2..5), Taint::bytes(6..99), Taint::bytes(8..)),
-        (of(0b11100), of(0b1100_0000), Taint::NONE)
-    );
-    assert!(!Taint::ALL.contains(8) && !Taint::ALL.contains(usize::MAX));
-    for bits in 0..256 {
-        let taint = of(bits);
-        assert_eq!(taint.is_none(), bits == 0);
-        assert!((0..8).all(|byte| taint.contains(byte) == (bits >> byte & 1 == 1)));
-        assert_eq!(
-            taint.carried(),
-            (0..8).find(|&byte| taint.contains(byte)).map_or(Taint::NONE, |low| Taint::bytes(low..))
-        );
-        assert_eq!(taint.word(), of(bits & 15));
-        assert_eq!(format!("{taint:?}"), format!("Taint({bits:08b})"));
-        assert_eq!(Taint::from_raw(taint.to_raw()), taint);
-        for other in [0, 1, 0b1010_0101, 255] {
-            let mut both = taint;
-            both |= of(other);
-            assert_eq!((both, taint | of(other)), (of(bits | other), of(bits | other)));
-        }
-    }
-}
-
-/// One marked byte of a doubleword, spilled and reloaded: the others can be indices, and that one can't.
+/// One tainted byte of a doubleword, spilled and reloaded: the others can be indices, and that one can't.
 #[test]
 fn an_untainted_byte_is_an_index_beside_a_tainted_one() {
     let mut memory = Memory::zeroed(Window::at(0x1000), 64);

@@ -1,0 +1,76 @@
+//! Taints of a register's bytes: as sets, and what a host's own operations make of them, by twins that differ in tainted bytes
+//! alone.
+
+mod reference;
+mod support;
+
+use milestarling::Taint;
+use support::Random;
+
+const CASES: usize = 20_000;
+
+/// The taint of each byte that a bit of this number is set for.
+fn of_bits(bits: usize) -> Taint {
+    (0..8).filter(|byte| bits >> byte & 1 == 1).fold(Taint::NONE, |taint, byte| taint | Taint::bytes(byte..=byte))
+}
+
+/// Each of the 256 taints, by its bits: what is made of one, and of two.
+#[test]
+fn taints_are_sets_of_bytes() {
+    assert_eq!((of_bits(0), of_bits(255), Taint::bytes(..)), (Taint::NONE, Taint::ALL, Taint::ALL));
+    assert_eq!((Taint::bytes(2..5), Taint::bytes(6..99)), (of_bits(0b1_1100), of_bits(0b1100_0000)));
+    assert_eq!((Taint::bytes(8..), Taint::bytes(5..5)), (Taint::NONE, Taint::NONE));
+    assert!(!Taint::ALL.contains(8) && !Taint::ALL.contains(usize::MAX));
+    for bits in 0..256 {
+        let taint = of_bits(bits);
+        let lowest = (0..8).find(|&byte| taint.contains(byte));
+        assert_eq!(taint.is_none(), bits == 0);
+        assert!((0..8).all(|byte| taint.contains(byte) == (bits >> byte & 1 == 1)));
+        assert_eq!(taint.carried(), lowest.map_or(Taint::NONE, |byte| Taint::bytes(byte..)));
+        assert_eq!(taint.word(), of_bits(bits & 15));
+        assert_eq!(format!("{taint:?}"), format!("Taint({bits:08b})"));
+        assert_eq!(Taint::from_raw(taint.to_raw()), taint);
+        for other in [0, 1, 0b1010_0101, 255] {
+            let mut both = taint;
+            both |= of_bits(other);
+            assert_eq!((both, taint | of_bits(other)), (of_bits(bits | other), of_bits(bits | other)));
+        }
+    }
+}
+
+/// The bytes in which two values differ.
+fn difference(one: u64, other: u64) -> Taint {
+    of_bits((0..8).filter(|byte| (one ^ other) >> (8 * byte) & 0xff != 0).map(|byte| 1 << byte).sum())
+}
+
+/// Two values that differ in tainted bytes alone; small differences and equal bytes are among them.
+fn twins(random: &mut Random, taint: Taint) -> [u64; 2] {
+    let mask = taint.to_raw() * 0xff;
+    let value = random.next() & random.next();
+    [value, value & !mask | (value ^ random.next() & random.next() & random.next()) & mask]
+}
+
+type Computed = fn(u64, u64) -> u64;
+
+/// The operations that the documents name, with what they make of two taints. What a right shift makes of one isn't carried.
+#[test]
+fn what_a_host_computes_differs_in_tainted_bytes_alone() {
+    let by_byte: [Computed; 5] = [|a, b| a & b, |a, b| a | b, |a, b| a ^ b, |a, b| a & !b, |a, _| !a];
+    let upwards: [Computed; 4] =
+        [|a, b| a.wrapping_add(b), |a, b| a.wrapping_sub(b), |a, b| a.wrapping_mul(b), |a, _| a << 13];
+    let mut random = Random::new(14);
+    for _ in 0..CASES {
+        let taints = [of_bits(random.below(256)), of_bits(random.below(256))];
+        let (a, b) = (twins(&mut random, taints[0]), twins(&mut random, taints[1]));
+        let both = taints[0] | taints[1];
+        let rows = by_byte.iter().map(|f| (f, both)).chain(upwards.iter().map(|f| (f, both.carried())));
+        for (computed, taint) in rows {
+            let [one, other] = [0, 1].map(|at| computed(a[at], b[at]));
+            assert_eq!(difference(one, other) | taint, taint, "{a:x?} {b:x?}");
+            let [one, other] = [one, other].map(|value| value & 0xffff_ffff);
+            assert_eq!(difference(one, other) | taint.word(), taint.word(), "{a:x?} {b:x?}");
+        }
+    }
+    let (secret, shifted) = (Taint::bytes(7..), difference(1 << 63 >> 32, 0));
+    assert!(shifted == Taint::bytes(3..4) && !secret.carried().contains(3));
+}
