@@ -16,6 +16,16 @@ use std::ops::{BitOr, BitOrAssign, RangeBounds};
 /// assert_eq!(taint | Taint::NONE, taint);
 /// ```
 ///
+/// Neither of these compiles:
+///
+/// ```compile_fail,E0308
+/// milestarling::Session::new().set(milestarling::Register::X2, 5, true);
+/// ```
+///
+/// ```compile_fail,E0308
+/// milestarling::raw::SessionRecord::default().value_taint[2] = 1;
+/// ```
+///
 /// # What a host computes
 ///
 /// A load copies the taints of its bytes. The sign copies above them take that of the top byte loaded, up to byte 3 in a load
