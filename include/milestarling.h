@@ -132,13 +132,13 @@ struct milestarling_word_reply {
  * What the host computes by itself, it taints by itself. To taint more is safe, to taint less isn't:
  *
  * - mov copies the taint, and a number that stands in the word has none.
- * - and, orr, eor, bic, mvn, and a choice by an untainted condition: a byte where it is tainted in an operand,
- *   milestarling_taint_union.
+ * - and, orr, eor, bic, mvn, and csel by untainted flags: a byte where it is tainted in an operand, milestarling_taint_union.
  * - add, sub, mul, and a shift to the left by an untainted amount: every byte from the lowest on that is tainted in an operand,
  *   since carries go upwards, milestarling_taint_carried of the union.
  * - everything else: all bytes, where any byte of an operand is tainted. That holds of a shift to the right too, which moves
  *   bytes downwards, of a rotation, a bit field, a division, the upper half of a product, a count of bits, a shift by a tainted
- *   amount and a choice by a tainted condition.
+ *   amount, and of what reads tainted flags (csel, adc).
+ * - An operand that the word shifts or extends by itself (and x0, x1, x2, lsr #8) has the taint of that shift.
  * - A result of 32 bits has the low four of these, milestarling_taint_word: its upper four bytes are cleared.
  * - Flags are tainted where any byte of the result is, be the result dropped (cmp, tst) or not.
  */
@@ -146,7 +146,8 @@ struct milestarling_taint {
     uint64_t bytes;
 };
 
-/* Every byte's taint, as a number: in braces, {MILESTARLING_TAINT_ALL_BYTES}, it begins a static object in any C. */
+/* The number of MILESTARLING_TAINT_ALL. In braces, {MILESTARLING_TAINT_ALL_BYTES}, it initialises a static object too, which in
+   strict C the constants below don't. */
 #define MILESTARLING_TAINT_ALL_BYTES UINT64_C(0x0101010101010101)
 
 /* No byte, and every byte. */

@@ -35,12 +35,13 @@ use std::ops::{BitOr, BitOrAssign, RangeBounds};
 /// What the host computes by itself, it taints by itself. To taint more is safe, to taint less isn't:
 ///
 /// - mov copies the taint, and a number that stands in the word has none.
-/// - and, orr, eor, bic, mvn, and a choice by an untainted condition: a byte where it is tainted in an operand, `a | b`.
+/// - and, orr, eor, bic, mvn, and csel by untainted flags: a byte where it is tainted in an operand, `a | b`.
 /// - add, sub, mul, and a shift to the left by an untainted amount: every byte from the lowest on that is tainted in an
 ///   operand, since carries go upwards, `(a | b).carried()`.
 /// - everything else: [`ALL`], where any byte of an operand is tainted. That holds of a shift to the right too, which moves
 ///   bytes downwards, of a rotation, a bit field, a division, the upper half of a product, a count of bits, a shift by a
-///   tainted amount and a choice by a tainted condition.
+///   tainted amount, and of what reads tainted flags (csel, adc).
+/// - An operand that the word shifts or extends by itself (`and x0, x1, x2, lsr #8`) has the taint of that shift.
 /// - A result of 32 bits has the low four of these, [`word`]: its upper four bytes are cleared.
 /// - Flags are tainted where any byte of the result is, be the result dropped (cmp, tst) or not.
 ///
