@@ -2,7 +2,7 @@
 
 The stored cases have to tell every one of them from the right machine, as those of machine_mutants.py.
 """
-from machine_model import EXCLUSIVE, LAST, NO_STATUS, OPEN, ORDERED, SIGNED_64, STACK, Model, fields_of
+from machine_model import EXCLUSIVE, LAST, NO_STATUS, NONE, OPEN, ORDERED, SIGNED_64, STACK, Model, fields_of
 from machine_mutants import ChangedAccess, ChangedRun
 
 
@@ -234,7 +234,7 @@ class FailedStatusKeepsTaint(Model):
     """Only a store that was done unmarks the status register."""
 
     def write_status(self, state, access, status):
-        self.write(state, access.status, status, status == 1 and self.read(state, access.status)[1])
+        self.write(state, access.status, status, self.read(state, access.status)[1] if status else NONE)
 
 
 class StatusTaintedByData(Model):
@@ -254,7 +254,7 @@ class StatusToStackPointer(Model):
     """Rs 31 is SP."""
 
     def write_status(self, state, access, status):
-        self.set(state, access.status, status, False)
+        self.set(state, access.status, status, NONE)
 
 
 class NoStatusIfStored(Model):

@@ -26,7 +26,7 @@ import tempfile
 
 from aarch64_rules import judged_words
 from list_corpus import listing_line
-from machine_model import Model, State
+from machine_model import NONE, Model, State
 from replay_format import Case, case_bytes, case_lines, outcome_of
 
 HOME = os.path.dirname(os.path.dirname(os.path.abspath(__file__)))
@@ -48,7 +48,7 @@ def case(words):
     """With an open monitor."""
     registers = [ORIGIN, 0, 1, 0x5555] + [0] * 28
     memory = struct.pack('<2I', 0, COUNT)
-    state = State(ORIGIN, 0, 65536, registers, [False] * 32, memory, bytes(len(memory)))
+    state = State(ORIGIN, 0, 65536, registers, [NONE] * 32, memory, bytes(len(memory)))
     return Case('lock', words, state, 2 * len(words), len(words))
 
 
@@ -65,7 +65,7 @@ def main():
     cases = [case(taken), case(taken[:2]), case(taken[1:2])]
     write('examples/lock.bin', b''.join(struct.pack('<I', word) for word in words))
     write('tests/lock.listing', ''.join(listing_line(word, *judged) for word, judged in zip(words, judgements)).encode())
-    write('examples/lock.cases', b''.join(case_bytes(number, each) for number, each in enumerate(cases)))
+    write('examples/lock.cases', b''.join(case_bytes(each) for each in cases))
     lines = [case_lines(number, outcome_of(Model(), each)) for number, each in enumerate(cases)]
     write('tests/lock.replayed', ''.join(lines).encode())
 

@@ -15,7 +15,7 @@ Memory is 32 bytes from address 4096. It holds a password, whose bytes are taint
 import os
 import struct
 
-from machine_model import Model, State
+from machine_model import NONE, Model, State
 from replay_format import Case, case_bytes, case_lines, outcome_of
 
 ORIGIN, COPY = 4096, 4112
@@ -35,7 +35,7 @@ def state(password):
     taint[:len(password)] = bytes([1]) * len(password)
     registers = [0] * 32
     registers[0], registers[1], registers[3], registers[5] = ORIGIN, COPY, 0x5555, ORIGIN
-    return State(ORIGIN, 0, 0x10000, registers, [False] * 32, memory, taint)
+    return State(ORIGIN, 0, 0x10000, registers, [NONE] * 32, memory, taint)
 
 
 def main():
@@ -45,7 +45,7 @@ def main():
         Case('secret', (LOAD, STORE, USE), state(b'open1234'), 6, 3),
     ]
     model = Model()
-    write('login.cases', b''.join(case_bytes(number, case) for number, case in enumerate(cases)))
+    write('login.cases', b''.join(case_bytes(case) for case in cases))
     write('login.outcomes', ''.join(case_lines(number, outcome_of(model, case)) for number, case in enumerate(cases)).encode())
     write('login.words', b''.join(struct.pack('<I', word) for word in LINES))
     write('login.lines', ''.join('%08x\t%s\t0\n' % line for line in LINES.items()).encode())

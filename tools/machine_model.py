@@ -1,4 +1,4 @@
-"""A model of 01's step and run, with 02's CR 1, CR 3 and CR 8's statuses, to hold the proved ones against.
+"""A model of 01's step and run, with 02's CR 1, CR 3, CR 13 and CR 8's statuses, to hold the proved ones against.
 
 It is written from them alone and shares no code with the crates or with the other scripts, so that an error would have
 to be made twice to stay unseen. Each rule is a method of its own: machine_mutants.py overrides one at a time.
@@ -20,6 +20,8 @@ NO_ALLOCATE, PAIR_POST, PAIR_OFFSET, PAIR_PRE = range(4)
 ZEROS, SIGNED_64, SIGNED_32 = range(3)
 # A monitor's address and size: a size of 0 is an open one.
 OPEN = 0, 0
+# The taint of a register: eight bytes, of which any but 0 marks the byte of the value at its place, the lowest first.
+NONE, ALL = bytes(8), b'\1' * 8
 
 # 01's table and 02's ninth family, bit 31 first: a digit is fixed, and a letter stands for a bit of the field that NAMES
 # gives it.
@@ -65,6 +67,11 @@ def fields_of(family, word):
     return {name: word >> low & (1 << width) - 1 for name, (low, width) in LAYOUTS[family][2].items()}
 
 
+def marks_of(taint):
+    """The marks that taint bytes are, as 0 and 1."""
+    return bytes(byte != 0 for byte in taint)
+
+
 def signed(value, bits):
     """The signed number that so many bits stand for."""
     return value - (1 << bits) if value >> bits - 1 else value
@@ -99,15 +106,15 @@ class Access(NamedTuple):
 class State:
     """Everything that a step gets beside its word. The length of the window is that of the memory."""
 
-    def __init__(self, origin, readonly, pc, registers, tainted, memory, taint, monitor=OPEN):
+    def __init__(self, origin, readonly, pc, registers, taints, memory, taint, monitor=OPEN):
         self.origin, self.readonly, self.pc = origin, readonly, pc
         # X0 to X30 and SP.
-        self.registers, self.tainted = list(registers), [bool(taint) for taint in tainted]
+        self.registers, self.taints = list(registers), list(taints)
         self.memory, self.taint = bytearray(memory), bytearray(taint)
         self.monitor = tuple(monitor)
 
     def copy(self):
-        return State(self.origin, self.readonly, self.pc, self.registers, self.tainted, self.memory, self.taint,
+        return State(self.origin, self.readonly, self.pc, self.registers, self.taints, self.memory, self.taint,
                      self.monitor)
 
     def end(self):
@@ -192,18 +199,18 @@ class Model:
 
     def read(self, state, number):
         """The value and the taint of Rt, Rt2 or Rm."""
-        return (0, False) if number == LAST else (state.registers[number], state.tainted[number])
+        return (0, NONE) if number == LAST else (state.registers[number], state.taints[number])
 
     def read_index(self, state, access):
         return self.read(state, access.index)
 
-    def write(self, state, number, value, tainted):
+    def write(self, state, number, value, taint):
         """To Rt or Rt2."""
         if number != LAST:
-            self.set(state, number, value, tainted)
+            self.set(state, number, value, taint)
 
-    def set(self, state, number, value, tainted):
-        state.registers[number], state.tainted[number] = value, tainted
+    def set(self, state, number, value, taint):
+        state.registers[number], state.taints[number] = value, taint
 
     def base_of(self, state, access):
         return state.pc if access.base is None else state.registers[access.base]
@@ -250,7 +257,17 @@ class Model:
     def is_tainted(self, state, access, address):
         if access.base is None:
             return False
-        return state.tainted[access.base] or access.index is not None and self.read_index(state, access)[1]
+        return self.is_base_tainted(state, access) or access.index is not None and self.is_index_tainted(state, access)
+
+    def is_base_tainted(self, state, access):
+        return any(state.taints[access.base])
+
+    def is_index_tainted(self, state, access):
+        return any(self.used_taint(access, self.read_index(state, access)[1]))
+
+    def used_taint(self, access, taint):
+        """Of the index: its low four bytes where its low 32 bits are taken, and all eight where it is taken whole."""
+        return taint[:4] if access.option in (0b010, 0b110) else taint
 
     def is_stack_misaligned(self, state, access, address):
         """02, CR 1: SP as the base, "before any offset", isn't a multiple of 16."""
@@ -280,11 +297,23 @@ class Model:
             return value
         return signed(value, 8 * access.width) % (SPACE if access.above == SIGNED_64 else 1 << 32)
 
-    def loaded_taint(self, taint):
-        return any(taint)
+    def loaded_taint(self, access, taint, old):
+        """A register's, from the taint of the bytes that it is loaded from and from its own as it was."""
+        loaded = self.read_marks(taint)
+        above = {ZEROS: 0, SIGNED_64: 8, SIGNED_32: 4}[access.above] - access.width
+        return (loaded + bytes([self.sign_mark(loaded)]) * above).ljust(8, b'\0')
 
-    def stored_taint(self, tainted):
-        return 1 if tainted else 0
+    def read_marks(self, taint):
+        """The marks of bytes of memory."""
+        return marks_of(taint)
+
+    def sign_mark(self, loaded):
+        """That of the copies of the sign: the sign is in the top byte loaded."""
+        return loaded[-1]
+
+    def stored_taint(self, access, taint, old):
+        """That of the bytes stored, from their register's and from their own as it was."""
+        return marks_of(taint[:access.width])
 
     def part(self, access, k):
         """Which part of a pair's bytes its k-th register has."""
@@ -294,19 +323,20 @@ class Model:
         for k, number in enumerate(access.targets):
             at = address - state.origin + self.part(access, k) * access.width
             value = int.from_bytes(state.memory[at:at + access.width], 'little')
-            tainted = self.loaded_taint(state.taint[at:at + access.width])
-            self.write(state, number, self.extended(access, value, self.read(state, number)[0]), tainted)
+            old, marks = self.read(state, number)
+            taint = self.loaded_taint(access, state.taint[at:at + access.width], marks)
+            self.write(state, number, self.extended(access, value, old), taint)
 
     def store(self, state, access, address):
         for k, number in enumerate(access.targets):
             at = address - state.origin + self.part(access, k) * access.width
-            value, tainted = self.read(state, number)
+            value, taint = self.read(state, number)
             stored = value % (1 << 8 * access.width)
             state.memory[at:at + access.width] = stored.to_bytes(access.width, 'little')
-            state.taint[at:at + access.width] = bytes([self.stored_taint(tainted)]) * access.width
+            state.taint[at:at + access.width] = self.stored_taint(access, taint, state.taint[at:at + access.width])
 
     def write_back(self, state, access, moved):
-        self.set(state, access.base, moved, False)
+        self.set(state, access.base, moved, NONE)
 
     # 02, CR 3: the monitor, once all tests are passed.
 
@@ -334,7 +364,7 @@ class Model:
         """A store-exclusive that fails changes no byte and no taint of one."""
 
     def write_status(self, state, access, status):
-        self.write(state, access.status, status, False)
+        self.write(state, access.status, status, NONE)
 
     def next_pc(self, pc):
         return (pc + 4) % SPACE

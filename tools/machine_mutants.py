@@ -3,11 +3,11 @@
 The stored cases have to tell every one of them from the right machine. The first list has the errors that 01 warns of
 and those that must not be provable, the second has further slips, the third has those of the stack pointer's alignment
 (02, CR 1), the fourth has those that only one value or one window shows, and the last has wrong runs. Those of exclusives
-and statuses stand in exclusive_mutants.py.
+and statuses stand in exclusive_mutants.py, and those of marks by byte in mark_mutants.py.
 """
 from machine_model import (
-    EXCLUSIVE, LAST, LITERAL, ORDERED, PAIR, PAIR_OFFSET, REGISTER, SIGNED_32, SIGNED_64, SPACE, STACK, UNTOUCHED, ZEROS,
-    Model)
+    ALL, EXCLUSIVE, LAST, LITERAL, NONE, ORDERED, PAIR, PAIR_OFFSET, REGISTER, SIGNED_32, SIGNED_64, SPACE, STACK, UNTOUCHED,
+    ZEROS, Model, marks_of)
 
 
 class KeepsUpperHalf(Model):
@@ -29,15 +29,15 @@ class SignsUpperHalf(Model):
 class LoadsStackPointer(Model):
     """Rt 31 of a load is SP."""
 
-    def write(self, state, number, value, tainted):
-        self.set(state, number, value, tainted)
+    def write(self, state, number, value, taint):
+        self.set(state, number, value, taint)
 
 
 class StoresStackPointer(Model):
     """Rt 31 of a store is SP."""
 
     def store(self, state, access, address):
-        given, self.read = self.read, lambda state, number: (state.registers[number], state.tainted[number])
+        given, self.read = self.read, lambda state, number: (state.registers[number], state.taints[number])
         super().store(state, access, address)
         self.read = given
 
@@ -46,7 +46,7 @@ class IndexesStackPointer(Model):
     """Rm 31 is SP."""
 
     def read_index(self, state, access):
-        return state.registers[access.index], state.tainted[access.index]
+        return state.registers[access.index], state.taints[access.index]
 
 
 class WritesBackFirst(Model):
@@ -84,13 +84,15 @@ class WrapsBothEnds(Model):
 
 
 class TaintsByFirstByte(Model):
-    def loaded_taint(self, taint):
-        return taint[0] != 0
+    """Every byte of a load is marked as the first one is."""
+
+    def read_marks(self, taint):
+        return marks_of(taint[:1]) * len(taint)
 
 
 class TaintsByLastByte(Model):
-    def loaded_taint(self, taint):
-        return taint[-1] != 0
+    def read_marks(self, taint):
+        return marks_of(taint[-1:]) * len(taint)
 
 
 class LeavesState(Model):
@@ -113,7 +115,7 @@ class AlwaysRefuses(Model):
 class TaintsAll(Model):
     def done(self, state, access, address):
         result = super().done(state, access, address)
-        state.tainted = [True] * 32
+        state.taints = [ALL] * 32
         state.taint = bytearray(b'\1' * len(state.taint))
         return result
 
@@ -121,21 +123,21 @@ class TaintsAll(Model):
 class TaintsLoadedAndStored(Model):
     """Whatever is loaded or stored becomes tainted."""
 
-    def loaded_taint(self, taint):
-        return True
+    def loaded_taint(self, access, taint, old):
+        return ALL
 
-    def stored_taint(self, tainted):
-        return 1
+    def stored_taint(self, access, taint, old):
+        return b'\1' * access.width
 
 
 class TaintsNoLoad(Model):
-    def loaded_taint(self, taint):
-        return False
+    def loaded_taint(self, access, taint, old):
+        return NONE
 
 
 class TaintsNoStore(Model):
-    def stored_taint(self, tainted):
-        return 0
+    def stored_taint(self, access, taint, old):
+        return bytes(access.width)
 
 
 class KeepsStoredTaint(Model):
@@ -151,7 +153,14 @@ class KeepsBaseTaint(Model):
     """Writeback leaves the base's taint as it was."""
 
     def write_back(self, state, access, moved):
-        self.set(state, access.base, moved, state.tainted[access.base])
+        self.set(state, access.base, moved, state.taints[access.base])
+
+
+class UnmarksOneByteOfBase(Model):
+    """Writeback unmarks the lowest byte of the base alone."""
+
+    def write_back(self, state, access, moved):
+        self.set(state, access.base, moved, NONE[:1] + state.taints[access.base][1:])
 
 
 class TaintsBase(Model):
@@ -216,13 +225,13 @@ class SaturatesPc(Model):
 class BaseTaintOnly(Model):
     """The index's taint isn't tested."""
 
-    def is_tainted(self, state, access, address):
-        return access.base is not None and state.tainted[access.base]
+    def is_index_tainted(self, state, access):
+        return False
 
 
 class IndexTaintOnly(Model):
-    def is_tainted(self, state, access, address):
-        return access.index is not None and self.read_index(state, access)[1]
+    def is_base_tainted(self, state, access):
+        return False
 
 
 class IndexTaintIfScaled(Model):
@@ -237,10 +246,8 @@ class IndexTaintIfScaled(Model):
 class IndexTaintIfShifted(Model):
     """The index's taint is tested only where it is shifted by more than nothing."""
 
-    def is_tainted(self, state, access, address):
-        if access.index is not None and access.shift == 0:
-            return state.tainted[access.base]
-        return super().is_tainted(state, access, address)
+    def is_index_tainted(self, state, access):
+        return access.shift != 0 and super().is_index_tainted(state, access)
 
 
 class TaintAfterWindow(Model):
@@ -293,7 +300,7 @@ class AddressOfTaint(Model):
 
 
 class TaintsPairTogether(Model):
-    """Both registers of a pair are tainted by all bytes."""
+    """Every byte of an access is marked where one is, those of both registers of a pair."""
 
     def load(self, state, access, address):
         taint = bytes(state.taint)
@@ -307,21 +314,20 @@ class TaintsPairTogether(Model):
 class TaintOnlyIfOne(Model):
     """Only a taint byte of 1 taints."""
 
-    def loaded_taint(self, taint):
-        return 1 in taint
+    def read_marks(self, taint):
+        return bytes(byte == 1 for byte in taint)
 
 
 class StoresTaintOf255(Model):
-    def stored_taint(self, tainted):
-        return 255 if tainted else 0
+    def stored_taint(self, access, taint, old):
+        return bytes(255 * mark for mark in super().stored_taint(access, taint, old))
 
 
 class KeepsLoadedTaint(Model):
     """A load of untainted bytes leaves the register's taint."""
 
-    def write(self, state, number, value, tainted):
-        if number != LAST:
-            self.set(state, number, value, tainted or state.tainted[number])
+    def loaded_taint(self, access, taint, old):
+        return bytes(new | mark for new, mark in zip(super().loaded_taint(access, taint, old), old))
 
 
 class BigEndian(Model):
@@ -428,7 +434,7 @@ class WritesBackLoaded(Model):
     """The base is moved after the load, from a register that the load may have changed: no case can tell."""
 
     def write_back(self, state, access, moved):
-        self.set(state, access.base, self.moved_base(state, access), False)
+        self.set(state, access.base, self.moved_base(state, access), NONE)
 
 
 class LiteralTaint(Model):
@@ -436,7 +442,7 @@ class LiteralTaint(Model):
 
     def is_tainted(self, state, access, address):
         if access.family == LITERAL:
-            return self.read(state, access.targets[0])[1]
+            return any(self.read(state, access.targets[0])[1])
         return super().is_tainted(state, access, address)
 
 
@@ -588,7 +594,7 @@ class StackWrittenBack(Model):
 
     def refusal(self, answer, state, address):
         if answer == STACK:
-            self.set(state, LAST, address, False)
+            self.set(state, LAST, address, NONE)
             return 6, 0, address
         return super().refusal(answer, state, address)
 
@@ -747,9 +753,9 @@ SLIPS = [
 STACKS = [
     StackUntested, StackWithOffset, StackOf8, StackByX30, StackOfLiteral, StackOfPrefetch, StackBeforeTaint, StackAfterBlock,
     StackAfterWindow, StackWithAddress, StackWrittenBack]
-# No input tells these from the right one: a step that writes back has an untainted base, or it is 5, and loads into no
+# No input tells these from the right one: a step that writes back has a base without a mark, or it is 5, and loads into no
 # register that is its base, or it is 4.
-SAME = [KeepsBaseTaint, WritesBackLoaded]
+SAME = [KeepsBaseTaint, UnmarksOneByteOfBase, WritesBackLoaded]
 
 
 # Wrong runs, which only more than one word can show.

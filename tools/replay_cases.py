@@ -4,7 +4,8 @@
     apt-get install python3-unicorn
     python3 tools/replay_cases.py                   runs of one word, and of many behind them
     python3 tools/replay_cases.py --endings DIR     writes small inputs that end in each way, and what must come
-    python3 tools/replay_cases.py --self-check      counts the cases that tell each wrong machine from the right one
+    python3 tools/replay_cases.py --self-check      counts the cases that tell each wrong machine from the right one, and
+                                                    holds them all against demand 3 and its other half
 
 What must come is the model's, which is written from 01 and 02 alone (machine_model.py). Every step that is done, prefetches
 too, is also done by Unicorn, and registers, memory, PC, address and length of the access have to be the same: the script
@@ -23,16 +24,19 @@ import os
 import random
 
 from exclusive_mutants import EXCLUSIVES
-from machine_model import EXCLUSIVE, FAMILIES, Model, fields_of
+from machine_model import EXCLUSIVE, FAMILIES, Model, fields_of, marks_of
 from machine_mutants import EDGES, RUNS, SAME, SLIPS, STACKS, WARNED
+from mark_mutants import OTHERS, TOO_FEW, TOO_MANY
 from replay_edges import all_edges
 from replay_exclusives import all_exclusives
 from replay_format import bad_ending, case_bytes, case_lines, outcome_of, write_endings
+from replay_marks import all_marks
+from replay_pairs import all_pairs, keeps_halves
 from replay_runs import all_runs, largest_case
-from replay_states import access_of, is_unpredictable, registers_of
+from replay_states import access_of, is_unpredictable, registers_of, with_any_marks
 from replay_steps import all_steps, flaws_of, with_longer_lists
 
-STEPS_SEED, RUNS_SEED, EDGES_SEED, EXCLUSIVES_SEED = 3, 4, 5, 6
+STEPS_SEED, RUNS_SEED, EDGES_SEED, EXCLUSIVES_SEED, MARKS_SEED, PAIRS_SEED = 3, 4, 5, 6, 7, 8
 MODEL = Model()
 
 
@@ -48,8 +52,8 @@ def show(title, counts):
 
 def write(cases, outcomes):
     # The last case is cut: its last byte of taint is missing.
-    ending = case_bytes(len(cases), next(case for case in cases if case.state.taint))[:-1]
-    given = b''.join(case_bytes(number, case) for number, case in enumerate(cases)) + ending
+    ending = case_bytes(next(case for case in cases if case.state.taint))[:-1]
+    given = b''.join(case_bytes(case) for case in cases) + ending
     expected = ''.join(case_lines(number, outcome) for number, outcome in enumerate(outcomes))
     expected += bad_ending(len(cases), 'cut short')
     os.makedirs(path_of('replay', ''), exist_ok=True)
@@ -139,8 +143,9 @@ def show_flaws(cases):
 
 def comparable(outcome):
     state = outcome.state
-    return (outcome.steps, outcome.answer, outcome.code, outcome.address, state.pc, state.registers, state.tainted,
-            state.memory, state.taint, state.monitor, outcome.trace, outcome.statuses)
+    return (outcome.steps, outcome.answer, outcome.code, outcome.address, state.pc, state.registers,
+            [marks_of(taint) for taint in state.taints], state.memory, state.taint, state.monitor, outcome.trace,
+            outcome.statuses)
 
 
 def differing(mutant, cases, right):
@@ -154,10 +159,24 @@ def differing(mutant, cases, right):
     return count
 
 
-def self_check(cases, outcomes):
+def check_halves(cases, marked):
+    """Demand 3's two halves of every case, and that wrong marks break them in those that are made for marks."""
+    assert all(keeps_halves(MODEL, case) for case in cases)
+    print('%7d  cases that end from 0 and from 255 as demand 3 and its other half say' % len(cases))
+    for title, mutants in (('too few marks, and cases that show it from 0 and 255', TOO_FEW),
+                           ('too many marks, likewise', TOO_MANY)):
+        print(title)
+        for mutant in mutants:
+            count = sum(not keeps_halves(mutant(), case) for case in marked)
+            print('%7d  %s' % (count, mutant.__name__))
+            if not count:
+                raise SystemExit('%s keeps both halves' % mutant.__name__)
+
+
+def self_check(cases, outcomes, marked):
     right = [comparable(outcome) for outcome in outcomes]
     lists = [('warned of', WARNED), ('further', SLIPS), ('stack pointer', STACKS), ('exclusives', EXCLUSIVES),
-             ('edges', EDGES), ('runs', RUNS)]
+             ('edges', EDGES), ('runs', RUNS), ('marks', TOO_FEW + TOO_MANY + OTHERS)]
     unseen = []
     for title, mutants in lists:
         print(title)
@@ -170,6 +189,7 @@ def self_check(cases, outcomes):
         print('      -  %s, which no input can show' % mutant.__name__)
     if unseen:
         raise SystemExit('not seen: %s' % unseen)
+    check_halves(cases, marked)
 
 
 def main():
@@ -181,9 +201,11 @@ def main():
     if options.endings:
         return write_endings(options.endings, MODEL, cases[0], largest_case(random.Random(RUNS_SEED)))
     cases = with_longer_lists(cases + all_runs(random.Random(RUNS_SEED))) + all_exclusives(random.Random(EXCLUSIVES_SEED))
+    marked = all_marks(random.Random(MARKS_SEED)) + all_pairs(random.Random(PAIRS_SEED))
+    cases = [with_any_marks(number, case) for number, case in enumerate(cases + marked)]
     outcomes = [outcome_of(MODEL, case) for case in cases]
     if options.self_check:
-        return self_check(cases, outcomes)
+        return self_check(cases, outcomes, cases[-len(marked):])
     print('%7d  words that the model sorts as the stored listing does' % sorted_as_listed())
     confirm(cases, outcomes)
     write(cases, outcomes)

@@ -5,9 +5,11 @@ take and lose the lock that a monitor is, or are refused while it is held.
 """
 import itertools
 
-from machine_model import EXCLUSIVE, LAST, OPEN, ORDERED, PAIR, POST, SPACE, UNSCALED, UNSIGNED, State, word_of
+from machine_model import (
+    ALL, EXCLUSIVE, LAST, NONE, OPEN, ORDERED, PAIR, POST, SPACE, UNSCALED, UNSIGNED, State, word_of)
 from replay_format import Case, outcome_of
-from replay_states import EXCLUSIVES, MODEL, TAINTS, any_word, choices, exclusive_choice, is_unpredictable, state_for
+from replay_states import (
+    EXCLUSIVES, MODEL, TAINTS, any_word, choices, exclusive_choice, is_unpredictable, state_for, whole)
 from replay_steps import bad_windows, sized, spoiled, step, undefined_exclusives, unpredictable_exclusives
 
 SIZES = range(4)
@@ -24,12 +26,12 @@ class Scene:
         registers = [rng.getrandbits(64) for _ in range(32)]
         registers[self.base], registers[self.other] = self.place, self.place + 16
         registers[LAST] = self.place + 32
-        tainted = [rng.getrandbits(1) for _ in range(32)]
+        taints = [whole(rng.getrandbits(1)) for _ in range(32)]
         for number in (self.base, self.other, LAST):
-            tainted[number] = False
+            taints[number] = NONE
         memory = [rng.getrandbits(8) for _ in range(64)]
         taint = [rng.choice(TAINTS) if rng.getrandbits(1) else 0 for _ in range(64)]
-        self.state = State(self.place - 16, 0, 4 * rng.randrange(250, 400), registers, tainted, memory, taint,
+        self.state = State(self.place - 16, 0, 4 * rng.randrange(250, 400), registers, taints, memory, taint,
                            (rng.getrandbits(64), rng.choice((0, 1, 2, 4, 8))))
 
     def armed(self):
@@ -173,7 +175,7 @@ def taint_cases(rng):
     """Data tainted or not, over bytes of which some, all or none are tainted, by a store that passes or fails."""
     for size, tainted, taint, passes, status in itertools.product(SIZES, range(2), (0, 255, None), range(2), range(2)):
         scene = Scene(rng, size)
-        scene.state.tainted[scene.data], scene.state.tainted[scene.status] = tainted, status
+        scene.state.taints[scene.data], scene.state.taints[scene.status] = whole(tainted), whole(status)
         if taint is not None:
             scene.state.taint[:] = bytes([taint]) * 64
         if passes:
@@ -182,13 +184,13 @@ def taint_cases(rng):
     for size, passes in itertools.product(SIZES, range(2)):
         # Rs 31 is the zero register: SP keeps its value and its taint.
         scene = Scene(rng, size).armed() if passes else Scene(rng, size)
-        scene.state.tainted[LAST] = True
+        scene.state.taints[LAST] = ALL
         yield scene.case('no status register', scene.store(rs=LAST), status=1 - passes)
         scene = Scene(rng, size).armed() if passes else Scene(rng, size)
         yield scene.case('no status register, by SP', scene.store(rs=LAST, rn=LAST))
         # What a status overwrites no longer keeps an address from being used.
         scene = Scene(rng, size).armed() if passes else Scene(rng, size)
-        scene.state.tainted[scene.status] = True
+        scene.state.taints[scene.status] = ALL
         yield scene.case('status as a base', scene.store(), word_of(UNSIGNED, size=0, opc=1, rn=scene.status, rt=0))
 
 
@@ -219,7 +221,7 @@ def refused_cases(rng):
 
 
 def tainted_base(scene):
-    scene.state.tainted[scene.base] = True
+    scene.state.taints[scene.base] = ALL
     return {}
 
 

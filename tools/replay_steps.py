@@ -6,16 +6,16 @@ that address. The edges then change one thing, or several at once where the orde
 import itertools
 
 from machine_model import (
-    EXCLUSIVE, FAMILIES, LAST, LAYOUTS, LITERAL, NO_ALLOCATE, ORDERED, PAIR, PAIR_POST, PAIR_PRE, POST, PRE, REGISTER,
-    SPACE, UNSCALED, UNSIGNED, State, fields_of, word_of)
+    ALL, EXCLUSIVE, FAMILIES, LAST, LAYOUTS, LITERAL, NO_ALLOCATE, NONE, ORDERED, PAIR, PAIR_POST, PAIR_PRE, POST, PRE,
+    REGISTER, SPACE, UNSCALED, UNSIGNED, State, fields_of, word_of)
 from replay_format import MOST_STATUSES, Case, outcome_of
 from replay_states import (
     EXCLUSIVES, MODEL, SIZED, TAINTS, WITH_PREFETCH, access_of, any_address, any_immediate, any_word, choices,
     equal_registers, exclusive_choice, immediates, is_unpredictable, prefetch_word, registers_of, sized_choices,
-    state_for)
+    state_for, whole)
 
 # Done cases for each choice of an instruction. The runs add more of each, so that every register stands in every place.
-EACH = {LITERAL: 20, PAIR: 17, REGISTER: 10, EXCLUSIVE: 20, **{family: 16 for family in SIZED}}
+EACH = {LITERAL: 16, PAIR: 12, REGISTER: 4, EXCLUSIVE: 10, **{family: 10 for family in SIZED}}
 
 
 def step(group, word, state, room=2, places=1):
@@ -33,7 +33,7 @@ def example_state(origin=4096, length=16, readonly=4, x1=4101, sp=0, bytes_at={4
     # A register that a step should not touch shows if it does.
     registers = [100 + i for i in range(31)] + [sp]
     registers[1] = x1
-    return State(origin, readonly, 65536, registers, [False] * 32, memory, bytes(length))
+    return State(origin, readonly, 65536, registers, [NONE] * 32, memory, bytes(length))
 
 
 def examples():
@@ -305,7 +305,7 @@ def tainted_cases(rng):
 
 
 def with_taint(state, number):
-    state.tainted[number] = True
+    state.taints[number] = ALL
     return state
 
 
@@ -318,10 +318,10 @@ def prefetch_cases(rng):
             word = prefetch_word(rng, family, **index, **({'rt': LAST} if i == 0 else {}))
             state = state_for(rng, word, readonly=0, pc=SPACE - 4 if i == 1 else None)
             if i % 2:
-                state.tainted = [rng.getrandbits(2) > 0 for _ in range(32)]
+                state.taints = [whole(rng.getrandbits(2) > 0) for _ in range(32)]
                 for number in (access_of(word).base, access_of(word).index):
                     if number is not None:
-                        state.tainted[number] = True
+                        state.taints[number] = ALL
             if i in (2, 3, 4):
                 state.memory, state.taint = bytearray(), bytearray()
             if i in (5, 6):
@@ -389,7 +389,7 @@ def stack_cases(rng):
             kind = residue % 3
             state = on_stack(rng, word, sp)
             if kind == 0:
-                state.tainted[LAST] = True
+                state.taints[LAST] = ALL
             elif kind == 1:
                 state.origin += 4096
             else:
@@ -556,7 +556,7 @@ def flawed_case(rng, flaws):
     if 8 in flaws:
         state.readonly = len(state.memory)
     if 5 in flaws:
-        state.tainted[access.base if access.index in (None, LAST) else rng.choice((access.base, access.index))] = True
+        state.taints[access.base if access.index in (None, LAST) else rng.choice((access.base, access.index))] = ALL
     if 2 in flaws or 3 in flaws:
         word = 0x91000000 if 2 in flaws else 0xb8c00020 | rng.getrandbits(10)
     if 1 in flaws:
