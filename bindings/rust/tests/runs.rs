@@ -3,11 +3,12 @@
 mod reference;
 mod support;
 
-use milestarling::raw::{self, SessionRecord};
+use milestarling::raw::{self, RunReply, SessionRecord};
+use milestarling::Taint;
 use reference::decoding::{decode, Family, Instruction, Operation};
 use reference::running::{self, Outcome, Window};
 use reference::*;
-use support::{about_power, about_powers, any_word, distinct, kept_or_set, state_of, word_of_line, Random};
+use support::{about_power, about_powers, any_word, distinct, kept_or_set, some_bytes, state_of, word_of_line, Random};
 
 /// What lies before and behind a buffer that was lent, and in a trace that wasn't written.
 const GUARD: usize = 24;
@@ -42,17 +43,7 @@ impl Case {
     /// Runs it by the library and by the reference, and compares all that they say and leave: the outcome, and the
     /// statuses of the steps done.
     fn compare_statuses(&self) -> (Outcome, Vec<u8>) {
-        let mut ours = self.clone();
-        let reply = raw::run(
-            &ours.words,
-            ours.session,
-            ours.window.origin,
-            ours.window.readonly,
-            inner(&mut ours.memory),
-            inner(&mut ours.taint),
-            inner(&mut ours.trace),
-            inner(&mut ours.statuses),
-        );
+        let (ours, reply) = self.by_library();
         let mut theirs = self.clone();
         let mut state = state_of(&self.session);
         let outcome = running::run(
@@ -78,12 +69,41 @@ impl Case {
         (outcome, statuses)
     }
 
+    /// What the library leaves, and what it says.
+    fn by_library(&self) -> (Case, RunReply) {
+        let mut left = self.clone();
+        let reply = raw::run(
+            &left.words,
+            left.session,
+            left.window.origin,
+            left.window.readonly,
+            inner(&mut left.memory),
+            inner(&mut left.taint),
+            inner(&mut left.trace),
+            inner(&mut left.statuses),
+        );
+        left.session = reply.session;
+        (left, reply)
+    }
+
+    /// The same case with this byte wherever one is marked.
+    fn filled(&self, byte: u8) -> Case {
+        let mut case = self.clone();
+        for (value, taint) in case.session.value.iter_mut().zip(&self.session.value_taint) {
+            *value = u64::from_le_bytes(blended(value.to_le_bytes(), marks_of(taint), byte));
+        }
+        for (place, &taint) in inner(&mut case.memory).iter_mut().zip(inner(&mut case.taint).iter()) {
+            *place = if taint != 0 { byte } else { *place };
+        }
+        case
+    }
+
     fn show(&self) -> String {
         format!(
-            "words {:08x?}, {:x?}, taints {:?}, {:x?}, {} bytes, {} taint bytes, trace of {}, {} statuses",
+            "words {:08x?}, {:x?}, taints {:x?}, {:x?}, {} bytes, {} taint bytes, trace of {}, {} statuses",
             &self.words[..self.words.len().min(40)],
             state_of(&self.session),
-            self.session.taint,
+            self.session.value_taint.map(Taint::to_raw),
             self.window,
             self.len(),
             self.taint.len() - 2 * GUARD,
@@ -91,6 +111,20 @@ impl Case {
             self.statuses.len() - 2 * GUARD
         )
     }
+}
+
+/// The bytes of a register's taint.
+fn marks_of(taint: &Taint) -> [u8; 8] {
+    taint.to_raw().to_le_bytes()
+}
+
+fn blended(value: [u8; 8], marks: [u8; 8], byte: u8) -> [u8; 8] {
+    std::array::from_fn(|at| if marks[at] != 0 { byte } else { value[at] })
+}
+
+/// Whether two lists of bytes differ at each place that is marked, and at no other.
+fn differ_by_marks(ours: &[u8], theirs: &[u8], marks: &[u8]) -> bool {
+    ours.iter().zip(theirs).zip(marks).all(|((one, other), &mark)| (one != other) == (mark != 0))
 }
 
 /// A number that is often at an end of its range.
@@ -192,7 +226,12 @@ fn blank(random: &mut Random, len: usize, words: usize) -> Case {
     for register in &mut case.session.value {
         *register = if random.once_in(3) { number(random) } else { address(random, window, len) };
     }
-    taints(random, &mut case.session.taint);
+    let rarity = *random.choose(&[1000, 40, 40, 8, 2]);
+    for taint in &mut case.session.value_taint {
+        if random.once_in(rarity) {
+            *taint = some_bytes(random);
+        }
+    }
     let pc = match random.below(4) {
         0 => number(random),
         1 => (4 * random.below(4) as u64).wrapping_neg(),
@@ -390,8 +429,8 @@ fn long_runs() {
         case.session.value[31] &= !15;
         case.session.pc = (1 << 20) + 8192;
         if !random.once_in(4) {
-            case.session.taint[..9].fill(0);
-            case.session.taint[31] = 0;
+            case.session.value_taint[..9].fill(Taint::NONE);
+            case.session.value_taint[31] = Taint::NONE;
         }
         case.words.extend((0..words).map(|_| tame_word(&mut random)));
         let outcome = case.compare();
@@ -419,7 +458,7 @@ fn locks() {
         case.session.value[1] = place;
         case.session.value[2] = place + *random.choose(&[0, 1, 2, 4, 8, 16]);
         case.session.pc &= !3;
-        case.session.taint[1..3].fill(0);
+        case.session.value_taint[1..3].fill(Taint::NONE);
         case.session.monitor_address = *random.choose(&[place, place, 0, place + 8]);
         let often = random.below(4) as u32;
         for _ in 0..words {
@@ -482,7 +521,7 @@ fn every_place_of_a_small_window() {
                     if random.once_in(2) {
                         case.taint = distinct(32 + 2 * GUARD);
                     }
-                    case.session.taint[1] = 0;
+                    case.session.value_taint[1] = Taint::NONE;
                     case.session.value[1] = origin.wrapping_add(place as u64);
                     case.session.pc &= !3;
                     case.words.push(word);
@@ -506,8 +545,8 @@ fn plain_case(random: &mut Random, word: u32) -> Case {
     case.statuses = guarded(random, 1);
     case.session.value[1] = 4096 + 16;
     case.session.pc &= !3;
-    case.session.taint[1] = 0;
-    case.session.taint[4] = 0;
+    case.session.value_taint[1] = Taint::NONE;
+    case.session.value_taint[4] = Taint::NONE;
     case.words.push(word);
     case
 }
@@ -552,4 +591,107 @@ fn indexes_about_powers() {
             }
         }
     }
+}
+
+/// Each load and store with one byte of memory, or one byte of a register, marked by each kind of number.
+#[test]
+fn each_byte_marked_alone() {
+    let mut random = Random::new(18);
+    for word in plain_words() {
+        for place in 0..48 {
+            for mark in [1, 2, 0x80, 0xff] {
+                let mut case = plain_case(&mut random, word);
+                case.taint.fill(0);
+                inner(&mut case.taint)[place] = mark;
+                assert_eq!(case.compare().answer, DONE);
+                if place < 16 {
+                    let taint = Taint::from_raw((mark as u64) << (8 * (place % 8)));
+                    case.session.value_taint[2..4].fill(Taint::NONE);
+                    case.session.value_taint[2 + place / 8] = taint;
+                    assert_eq!(case.compare().answer, DONE);
+                }
+            }
+        }
+    }
+}
+
+/// Each load and store by an index with every choice of marked bytes, under every option and S: an address comes of its
+/// low half where the option takes 32 bits, and of all of it else.
+#[test]
+fn each_marked_part_of_an_index() {
+    let mut random = Random::new(19);
+    let tops = (0..4u32).flat_map(|size| (0..4u32).map(move |opc| size << 30 | opc << 22));
+    let words = tops.flat_map(|top| (0..16u32).map(move |index| top | 0x3824_0822 | index << 12));
+    for word in words {
+        let Ok(instruction) = decode(word) else { continue };
+        if instruction.operation == Operation::Prefetch {
+            continue;
+        }
+        for bits in 0..256u64 {
+            let mut case = plain_case(&mut random, word);
+            let index = random.below(8) as u64;
+            case.session.value[4] = index;
+            case.session.value[1] = (4096u64 + 16).wrapping_sub(index_taken(&instruction, index));
+            let bytes = (0..8).filter(|byte| bits >> byte & 1 == 1);
+            case.session.value_taint[4] = bytes.fold(Taint::NONE, |taint, byte| taint | Taint::bytes(byte..=byte));
+            let used = if word >> 13 & 1 == 0 { bits & 15 } else { bits };
+            assert_eq!(case.compare().answer, if used == 0 { DONE } else { TAINTED_ADDRESS });
+        }
+    }
+}
+
+/// A run of tame words in a window of 4,096 bytes, of which some are marked, as some registers are.
+fn secret_case(random: &mut Random) -> Case {
+    let words = 1 + random.below(40);
+    let mut case = blank(random, 4096, words);
+    case.window = Window { origin: 1 << 20, readonly: 64 };
+    case.taint = vec![0; 4096 + 2 * GUARD];
+    taints(random, &mut case.taint);
+    case.session.value[0] = random.below(64) as u64;
+    for register in &mut case.session.value[1..] {
+        *register = (1 << 20) + 2048 + random.below(256) as u64;
+    }
+    case.session.value[31] &= !15;
+    case.session.pc = (1 << 20) + 2048;
+    if !random.once_in(8) {
+        case.session.value_taint[..9].fill(Taint::NONE);
+        case.session.value_taint[31] = Taint::NONE;
+    }
+    case.words.extend((0..words).map(|_| tame_word(random)));
+    case
+}
+
+/// What two runs that differ in marked bytes only have to say and leave alike.
+fn is_seen_alike(ours: (&Case, &RunReply), theirs: (&Case, &RunReply)) -> bool {
+    let said = |reply: &RunReply| (reply.steps, reply.answer, reply.code, reply.address);
+    let rest = |session: SessionRecord| SessionRecord { value: [0; 32], ..session };
+    said(ours.1) == said(theirs.1)
+        && rest(ours.0.session) == rest(theirs.0.session)
+        && ours.0.taint == theirs.0.taint
+        && ours.0.trace == theirs.0.trace
+        && ours.0.statuses == theirs.0.statuses
+}
+
+/// Demand 3 and its other half, of the library alone: two runs that begin with 0 and with 255 in every marked byte say the
+/// same, and end with bytes that differ just where there are marks.
+#[test]
+fn runs_from_0_and_from_255() {
+    let mut random = Random::new(20);
+    let (mut steps, mut refused, mut marked) = (0, 0, 0);
+    for _ in 0..40_000 {
+        let case = secret_case(&mut random);
+        let [(mut low, said), (mut high, other)] = [0, 255].map(|byte| case.filled(byte).by_library());
+        assert!(is_seen_alike((&low, &said), (&high, &other)), "{}", case.show());
+        for (number, taint) in low.session.value_taint.iter().enumerate() {
+            let [ours, theirs] = [&low, &high].map(|case| case.session.value[number].to_le_bytes());
+            assert!(differ_by_marks(&ours, &theirs, &marks_of(taint)), "x{number}, {}", case.show());
+            marked += usize::from(*taint != Taint::NONE);
+        }
+        let marks = inner(&mut low.taint).to_vec();
+        assert!(differ_by_marks(inner(&mut low.memory), inner(&mut high.memory), &marks), "{}", case.show());
+        steps += said.steps;
+        refused += usize::from(said.answer != DONE.into());
+    }
+    println!("{steps} steps, {refused} runs refused, {marked} registers marked at the end");
+    assert!(steps > 100_000 && refused > 1000 && marked > 20_000);
 }

@@ -3,6 +3,11 @@
 use super::decoding::{decode, Family, Instruction, Operation};
 use super::*;
 
+/// Which bytes of a register are marked, the lowest first.
+pub type Marks = [bool; 8];
+
+const UNMARKED: Marks = [false; 8];
+
 /// What a monitor is when it opens.
 const OPEN: Monitor = Monitor { address: 0, size: 0 };
 
@@ -17,7 +22,7 @@ pub struct Monitor {
 #[derive(Clone, Debug, PartialEq, Eq)]
 pub struct State {
     pub registers: [u64; 32],
-    pub taints: [bool; 32],
+    pub taints: [Marks; 32],
     pub pc: u64,
     pub monitor: Monitor,
 }
@@ -44,17 +49,17 @@ struct Refused {
 
 impl State {
     /// A register in a place where 31 is zero.
-    fn data(&self, number: u8) -> (u64, bool) {
+    fn data(&self, number: u8) -> (u64, Marks) {
         match number {
-            31 => (0, false),
+            31 => (0, UNMARKED),
             _ => (self.registers[number as usize], self.taints[number as usize]),
         }
     }
 
-    fn set_data(&mut self, number: u8, value: u64, tainted: bool) {
+    fn set_data(&mut self, number: u8, value: u64, marks: Marks) {
         if number != 31 {
             self.registers[number as usize] = value;
-            self.taints[number as usize] = tainted;
+            self.taints[number as usize] = marks;
         }
     }
 }
@@ -90,6 +95,23 @@ fn joined(instruction: &Instruction, bytes: &[u8]) -> u64 {
     }
 }
 
+/// The marks that a register gets from the taint of its part of a load: a copy of the sign has that of the byte with the sign.
+fn copied(instruction: &Instruction, taint: &[u8]) -> Marks {
+    let top = taint.len() - 1;
+    let extent = match instruction.operation {
+        Operation::LoadSigned64 => 8,
+        Operation::LoadSigned32 => 4,
+        _ => taint.len(),
+    };
+    std::array::from_fn(|byte| byte < extent && taint[byte.min(top)] != 0)
+}
+
+/// Whether the part of an index that makes an address is marked: options 010 and 110 take its low half.
+fn is_index_marked(instruction: &Instruction, marks: Marks) -> bool {
+    let used = if matches!(instruction.option, 0b010 | 0b110) { 4 } else { 8 };
+    marks[..used].contains(&true)
+}
+
 /// Answer 6: an exclusive goes by its size, and what acquires or releases by the block of 16 bytes.
 fn is_misaligned(instruction: &Instruction, address: u64, length: usize) -> bool {
     match instruction.family {
@@ -121,7 +143,7 @@ fn walk(
     } else {
         let (base, shift) = (instruction.rn as usize, state.data(instruction.rm));
         let has_index = instruction.family == Family::Register;
-        if state.taints[base] || has_index && shift.1 {
+        if state.taints[base].contains(&true) || has_index && is_index_marked(&instruction, shift.1) {
             return Err(early(TAINTED_ADDRESS));
         }
         let is_stack = base == 31;
@@ -167,22 +189,21 @@ fn walk(
         // "Stores nothing, marks included."
     } else if instruction.is_store() {
         for ((bytes, taints), register) in parts {
-            let (value, tainted) = state.data(register);
+            let (value, marks) = state.data(register);
             bytes.copy_from_slice(&value.to_le_bytes()[..width]);
-            taints.fill(tainted as u8);
+            taints.iter_mut().zip(marks).for_each(|(taint, mark)| *taint = mark as u8);
         }
     } else {
         for ((bytes, taints), register) in parts {
-            let tainted = taints.iter().any(|&byte| byte != 0);
-            state.set_data(register, joined(&instruction, bytes), tainted);
+            state.set_data(register, joined(&instruction, bytes), copied(&instruction, taints));
         }
     }
     if instruction.writes_back() {
         state.registers[instruction.rn as usize] = base.wrapping_add(instruction.offset as u64);
-        state.taints[instruction.rn as usize] = false;
+        state.taints[instruction.rn as usize] = UNMARKED;
     }
     if instruction.has_status() {
-        state.set_data(instruction.rs, status as u64, false);
+        state.set_data(instruction.rs, status as u64, UNMARKED);
     }
     state.pc = state.pc.wrapping_add(4);
     let direction = if instruction.is_store() { 64 } else { 0 };

@@ -5,6 +5,7 @@
 
 use crate::reference::running::{Monitor, State};
 use milestarling::raw::SessionRecord;
+use milestarling::Taint;
 use std::fs;
 use std::path::Path;
 
@@ -14,20 +15,33 @@ pub fn stored(program: &str, name: &str) -> Vec<u8> {
     fs::read(&path).unwrap_or_else(|error| panic!("{}: {error}", path.display()))
 }
 
-/// The reference's state of a session's record, in which any taint byte but 0 is a taint.
+/// The reference's state of a session's record, in which any byte of a taint but 0 is a mark.
 pub fn state_of(record: &SessionRecord) -> State {
     State {
         registers: record.value,
-        taints: record.taint.map(|byte| byte != 0),
+        taints: record.value_taint.map(|taint| taint.to_raw().to_le_bytes().map(|byte| byte != 0)),
         pc: record.pc,
         monitor: Monitor { address: record.monitor_address, size: record.monitor_size },
     }
 }
 
-/// Whether a call has left a record's taint bytes as it has to: what it doesn't set keeps its bits, and what it does
-/// becomes 0 or 1.
+/// Whether a call has left a record's taints as it has to: what it doesn't set keeps its bits, and the bytes of what it does
+/// become 0 or 1.
 pub fn kept_or_set(before: &SessionRecord, after: &SessionRecord) -> bool {
-    before.taint.iter().zip(&after.taint).all(|(before, &after)| after == *before || after < 2)
+    let pairs = before.value_taint.iter().zip(&after.value_taint);
+    pairs.into_iter().all(|(before, after)| after == before || after.to_raw() & !Taint::ALL.to_raw() == 0)
+}
+
+/// A register's taint of which some bytes, or only those of one half, are marked, each by any number.
+pub fn some_bytes(random: &mut Random) -> Taint {
+    let any = (0..8).fold(0, |taint, byte| taint | (*random.choose(&[0, 0, 1, 1, 2, 0x80, 0xff]) as u64) << (8 * byte));
+    let part = match random.below(6) {
+        0 => 0xffff_ffff,
+        1 => 0xffff_ffff << 32,
+        2 | 3 => 0xff << (8 * random.below(8)),
+        _ => u64::MAX,
+    };
+    Taint::from_raw(any & part)
 }
 
 /// Steele, Lea and Flood's SplitMix64.
