@@ -44,6 +44,7 @@ use Rattle.stream.specs.Streams.{Call}
 use Rattle.host.specs.declared.WordReply.{WordReply}
 use Rattle.host.specs.Replies.{Numbered, ReadAs, ListerNumbered}
 use Rattle.host.specs.Hosting.{Hosted, hosted, hostedOf, hostRun}
+use Rattle.records.specs.Replies.{touchesNumber}
 use Rattle.records.specs.Space.{loadOrStore, setsBlock, touchesMemory}
 use Rattle.records.proofs.Spaces.{set-touches}
 use Rattle.promises.specs.Answered.{oneOf}
@@ -222,6 +223,15 @@ touches-exactly word = (either (loadOrStore word) (setsBlock word) (group-is wor
     back (inl g) = left-true (loadOrStore word) (setsBlock word) (group-is word .1 g)
     back (inr g) = right-true (loadOrStore word) (setsBlock word) (block-is word .1 g)
 
+number-at : (b : Bool) → (oneOf (0 ∷ 1 ∷ []) (pick b 1 0) ≡ true) × ((_≡_ {A = ℕ} (pick b 1 0) 1) ↔ (b ≡ true))
+number-at true = (refl, ((λ e. refl), (λ e. refl)))
+number-at false = (refl, ((λ e. absurd (let z : _≡_ {A = ℕ} 0 1 = e in omega arith)), (λ e. absurd (let z : _≡_ {A = ℕ} 0 1 = cc in omega arith))))
+
+touches-number : (word r : ℕ) → r ≡ touchesNumber word → (oneOf (0 ∷ 1 ∷ []) r ≡ true) × ((r ≡ 1) ↔ (((field 27 27 word ≡ 1) × (field 25 25 word ≡ 0)) ⊎ SetsBlock word))
+touches-number word r e =
+    let (few, one) = number-at (touchesMemory word) in
+    (rw e few, ((λ f. touches-exactly word .0 (one .0 (sym e ∙ f))), (λ g. e ∙ one .1 (touches-exactly word .1 g))))
+
 -- a word that doesn't touch memory isn't of the set
 outside-set : (word : ℕ) → touchesMemory word ≡ false → inSet word ≡ false
 outside-set word t = go (inSet word) refl
@@ -262,7 +272,7 @@ library =
           (ap (λ (n : ListerNumbered). n .answer) e, ap (λ (n : ListerNumbered). n .length) e, ap (λ (n : ListerNumbered). n .lister) e, ap (λ (n : ListerNumbered). n .buffer) e);
       word = λ t r h. let (read, none, zero) = read-fields t r h in (word-number t r h, read, none, zero);
       word-some = word-some;
-      touches = touches-exactly;
+      touches = touches-number;
       set-touches = set-touches;
       never-stepped = never-stepped;
     }

@@ -24,7 +24,6 @@ use Rattle.records.specs.Replies.{decodeNumbered, EncodedAs}
 use Rattle.records.proofs.Replies.{encoded-as}
 use Rattle.promises.specs.Answered.{oneOf}
 use Rattle.promises.specs.Numbers.{Numbers}
-use Rattle.promises.proofs.Answered.{by-definition}
 use Rattle.promises.proofs.Demands.{decoded-number, class-number}
 
 decoded-fields : (word : ℕ) (r : PlainReply) → r ≡ decodeNumbered (decodePlain word)
@@ -94,7 +93,7 @@ encoded-fields p r (inr (d, z, n)) = (((λ e. absurd (not-both (sym d ∙ e))), 
 pub numbers : Numbers
 numbers =
     record {
-      classify = λ word. by-definition (answerNumber (classOf word)) (class-number word);
+      classify = λ word r e. (rw e (class-number word), e);
       decode = decoded-fields;
       encode = λ p. record { some = reply-some p (encoded-some p); one = reply-one p; answer = reply-number p };
       encode-answers = encoded-fields;

@@ -37,6 +37,7 @@ use Rattle.host.specs.declared.WordReply.{WordReply}
 use Rattle.host.specs.declared.ListerReply.{ListerReply}
 use Rattle.host.specs.Replies.{textOutcome, numbered, ReadAs, listerOutcome, listerNumbered}
 use Rattle.host.specs.Hosting.{hosted, hostRun}
+use Rattle.records.specs.Replies.{touchesNumber}
 use Rattle.records.specs.Space.{touchesMemory}
 use Rattle.promises.specs.Answered.{oneOf}
 use Rattle.promises.specs.Demands.{stepAnswer}
@@ -172,7 +173,7 @@ pub record Library : Type 0 where
   pub word-some : (t : List ℕ) → (r : WordReply) × ReadAs t r
   -- whether a word touches memory: bit 27 set and bit 25 clear, or `dc zva`, `dc gva` or `dc gzva`. Every word of the set does, so
   -- that one that doesn't never needs a step: it would get 2, where 1 doesn't come first
-  pub touches : (word : ℕ) → (touchesMemory word ≡ true)
-      ↔ (((field 27 27 word ≡ 1) × (field 25 25 word ≡ 0)) ⊎ ((field 31 8 word ≡ 0xd50b74) × (any (eqb (field 7 5 word)) (1 ∷ 3 ∷ 4 ∷ []) ≡ true)))
+  pub touches : (word r : ℕ) → r ≡ touchesNumber word → (oneOf (0 ∷ 1 ∷ []) r ≡ true) × ((r ≡ 1)
+      ↔ (((field 27 27 word ≡ 1) × (field 25 25 word ≡ 0)) ⊎ ((field 31 8 word ≡ 0xd50b74) × (any (eqb (field 7 5 word)) (1 ∷ 3 ∷ 4 ∷ []) ≡ true))))
   pub set-touches : (word : ℕ) → inSet word ≡ true → touchesMemory word ≡ true
   pub never-stepped : (w : Window) (word : ℕ) (m : Machine) → touchesMemory word ≡ false → stepAnswer w word m ≡ pick (bad w m) 1 2

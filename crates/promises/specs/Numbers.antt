@@ -14,12 +14,12 @@ use Rattle.plain.specs.Coding.{decodePlain, NumbersOf}
 use Rattle.plain.specs.Examples.{Holds, examples}
 use Rattle.records.specs.declared.PlainReply.{PlainReply}
 use Rattle.records.specs.declared.EncodedReply.{EncodedReply}
-use Rattle.records.specs.Replies.{decodeNumbered, EncodedAs}
-use Rattle.promises.specs.Answered.{oneOf, Answered, Is}
+use Rattle.records.specs.Replies.{classNumber, decodeNumbered, EncodedAs}
+use Rattle.promises.specs.Answered.{oneOf, Answered}
 
 pub record Numbers : Type 0 where
   -- every word gets an answer, and so do any numbers
-  pub classify : (word : ℕ) → Answered (Is (answerNumber (classOf word))) (λ n. n) (0 ∷ 2 ∷ 3 ∷ 4 ∷ [])
+  pub classify : (word r : ℕ) → r ≡ classNumber word → (oneOf (0 ∷ 2 ∷ 3 ∷ 4 ∷ []) r ≡ true) × (r ≡ answerNumber (classOf word))
   pub decode : (word : ℕ) (r : PlainReply) → r ≡ decodeNumbered (decodePlain word)
       → (oneOf (0 ∷ 2 ∷ 3 ∷ []) (r .answer) ≡ true) × (r .answer ≡ answerNumber (decodeOf word .answer)) × (r .plain ≡ plainOf (decodeOf word .instruction))
   pub encode : (p : Plain) → Answered (EncodedAs p) (λ r. r .answer) (0 ∷ 11 ∷ [])

@@ -4,11 +4,9 @@ use instruction::Answer;
 use plain::Plain;
 ghost use mathlib.Core.Path.{_≡_};
 ghost use Rattle.instruction.specs.Answers.{answerNumber};
-ghost use Rattle.decoder.specs.Decoding.{classOf};
 ghost use Rattle.plain.specs.Coding.{decodePlain};
-ghost use Rattle.bits.specs.Choice.{pick};
-ghost use Rattle.records.specs.Replies.{decodeNumbered, EncodedAs};
-ghost use Rattle.records.specs.Space.{loadOrStore, setsBlock, touchesMemory};
+ghost use Rattle.records.specs.Replies.{classNumber, touchesNumber, decodeNumbered, EncodedAs};
+ghost use Rattle.records.specs.Space.{loadOrStore, setsBlock};
 
 // The numbers are zeros where the answer is not 0.
 #[repr(C)]
@@ -27,7 +25,7 @@ pub struct EncodedReply {
 // Answers 2, 3 and 4, which depend on the word alone, or 0.
 #[no_mangle]
 pub extern "C" fn milestarling_classify(word: u32) -> u64
-    ensures { λ r. ⌜ r ≡ answerNumber (classOf word) ⌝ }
+    ensures { λ r. ⌜ r ≡ classNumber word ⌝ }
 {
     answer_number(decoder::classify(word))
 }
@@ -35,7 +33,7 @@ pub extern "C" fn milestarling_classify(word: u32) -> u64
 // Whether a word touches memory, of the set or not: 1, or 0. One that doesn't is no load or store, and never needs a step.
 #[no_mangle]
 pub extern "C" fn milestarling_touches_memory(word: u32) -> u64
-    ensures { λ r. ⌜ r ≡ pick (touchesMemory word) 1 0 ⌝ }
+    ensures { λ r. ⌜ r ≡ touchesNumber word ⌝ }
 {
     if is_load_or_store(word) | sets_block(word) {
         return 1;
