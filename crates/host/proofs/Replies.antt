@@ -16,8 +16,8 @@ pub numbered-by : {o p : Outcome} {n : ℕ} → n ≡ answerNumber (o .answer) �
 numbered-by e same = rw (e, same)
 
 pub read-as : (t : List ℕ) (r : Reading) {n : ℕ} → n ≡ answerNumber (r .answer) → ReadOf t r → ReadAs t (record { answer = n; word = r .word })
-read-as t r e (inl (done, line)) = inl (e ∙ ap answerNumber done, line)
-read-as t r e (inr (none, zero, never)) = inr (e ∙ ap answerNumber none, zero, never)
+read-as t r e (inl (done, line)) = inl (e ∙ done, line)
+read-as t r e (inr (none, zero, never)) = inr (e ∙ none, zero, never)
 
 pub lister-by : (p : Pushed) (output : List ℕ) {r : ListerReply} {o : stream.Outcome} → r ≡ record { lister = p .lister; answer = answerNumber (p .answer); length = p .length } → stream.outcome p output ≡ o
     → listerOutcome r output ≡ listerNumbered o

@@ -11,7 +11,9 @@ use Rattle.bits.specs.Choice.{pick}
 use Rattle.instruction.specs.declared.answer.Answer.{Answer}
 use Rattle.instruction.specs.declared.answer.Encoded.{Encoded}
 use Rattle.instruction.specs.declared.family.Instruction.{Instruction}
+use Rattle.instruction.specs.Answers.{answerNumber}
 use Rattle.instruction.specs.Table.{allocated, instructionOf}
+use Rattle.instruction.proofs.Answers.{number-once}
 use Rattle.decoder.specs.Decoding.{decodeOf, empty}
 use Rattle.decoder.proofs.Decodes.{decode-answers}
 use Rattle.encoder.specs.Encoding.{encodeOf}
@@ -82,14 +84,14 @@ numbers-once w v p n m =
     ap (λ (x : Encoded). x .word)
     (sym (encode-decoded w (n .below) (n .defined)) ∙ ap encodeOf (named-word w p n ∙ sym (named-word v p m)) ∙ encode-decoded v (m .below) (m .defined))
 
-beside : {a b : Answer} {w v : ℕ} → a ≡ b → w ≡ v → _≡_ {A = Encoded} (record { answer = a; word = w }) (record { answer = b; word = v })
-beside e f = rw (e, f)
+beside : (a b : Answer) {w v : ℕ} → answerNumber a ≡ answerNumber b → w ≡ v → _≡_ {A = Encoded} (record { answer = a; word = w }) (record { answer = b; word = v })
+beside a b e f = rw (number-once a b e, f)
 
 pub encoded-once : (p : Plain) (r s : Encoded) → EncodedFrom p r → EncodedFrom p s → r ≡ s
-encoded-once p r s (inl (a, n)) (inl (b, m)) = beside (a ∙ sym b) (numbers-once (r .word) (s .word) p n m)
+encoded-once p r s (inl (a, n)) (inl (b, m)) = beside (r .answer) (s .answer) (a ∙ sym b) (numbers-once (r .word) (s .word) p n m)
 encoded-once p r s (inl (a, n)) (inr (b, z, never)) = absurd (never (r .word) n)
 encoded-once p r s (inr (a, y, never)) (inl (b, m)) = absurd (never (s .word) m)
-encoded-once p r s (inr (a, y, never)) (inr (b, z, none)) = beside (a ∙ sym b) (y ∙ sym z)
+encoded-once p r s (inr (a, y, never)) (inr (b, z, none)) = beside (r .answer) (s .answer) (a ∙ sym b) (y ∙ sym z)
 
 -- ---- words to numbers and back, and numbers to words and back
 
@@ -113,9 +115,6 @@ unfolding decodePlain decodeOf
 numbers-decoded w p n = rw (decode-answers w .2 .1 (n .defined), n .defined, n .numbers)
 
 -- decoding the word that numbers are encoded as gives the numbers
-pub decode-numbers : (p : Plain) (r : Encoded) → EncodedFrom p r → r .answer ≡ Answer.Done → decodePlain (r .word) ≡ record { answer = Answer.Done; plain = p }
+pub decode-numbers : (p : Plain) (r : Encoded) → EncodedFrom p r → answerNumber (r .answer) ≡ 0 → decodePlain (r .word) ≡ record { answer = Answer.Done; plain = p }
 decode-numbers p r (inl (a, n)) d = numbers-decoded (r .word) p n
-decode-numbers p r (inr (a, z, never)) d =
-    let e : Answer.NoSuchInstruction ≡ Answer.Done = sym a ∙ d in
-    let y : _≡_ {A = ℕ} 0 1 = cc in
-    absurd (omega arith)
+decode-numbers p r (inr (a, z, never)) d = absurd (omega (arith, a, d))

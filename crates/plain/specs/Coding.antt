@@ -3,8 +3,8 @@ use Prim.Native.Nat.{ℕ, _^_, _<_}
 use mathlib.Core.Path.{_≡_}
 use mathlib.Core.Bool.{true}
 use mathlib.Core.Logic.{_⊎_}
-use Rattle.instruction.specs.declared.answer.Answer.the-variants.{Done, NoSuchInstruction}
 use Rattle.instruction.specs.declared.answer.Encoded.{Encoded}
+use Rattle.instruction.specs.Answers.{answerNumber}
 use Rattle.instruction.specs.Table.{allocated, instructionOf}
 use Rattle.decoder.specs.Decoding.{decodeOf}
 use Rattle.plain.specs.declared.record.Plain.{Plain}
@@ -24,5 +24,5 @@ pub record NumbersOf (w : ℕ) (p : Plain) : Type 0 where
 -- the word whose numbers they are, or 11 and word 0 where there is none
 abbrev pub EncodedFrom : Plain → Encoded → Type 0
 EncodedFrom p r =
-    ((r .answer ≡ Done) × NumbersOf (r .word) p)
-    ⊎ ((r .answer ≡ NoSuchInstruction) × (r .word ≡ 0) × ((w : ℕ) → ¬ NumbersOf w p))
+    ((answerNumber (r .answer) ≡ 0) × NumbersOf (r .word) p)
+    ⊎ ((answerNumber (r .answer) ≡ 11) × (r .word ≡ 0) × ((w : ℕ) → ¬ NumbersOf w p))

@@ -98,8 +98,8 @@ pub not-both : {n : ℕ} → n ≡ 0 → ¬ (n ≡ 9)
 not-both d e = omega arith
 
 read-answer : (t : List ℕ) (r : Reading) → ReadOf t r → ((answerNumber (r .answer) ≡ 9) ↔ ((word : ℕ) → ¬ LineOf word t)) × ((answerNumber (r .answer) ≡ 0) ↔ LineOf (r .word) t)
-read-answer t r (inl (d, l)) = (((λ e. absurd (not-both (ap answerNumber d) e)), (λ n. absurd (n (r .word) l))), ((λ e. l), (λ k. ap answerNumber d)))
-read-answer t r (inr (d, z, n)) = (((λ e. n), (λ k. ap answerNumber d)), ((λ e. absurd (not-both e (ap answerNumber d))), (λ l. absurd (n (r .word) l))))
+read-answer t r (inl (d, l)) = (((λ e. absurd (not-both d e)), (λ n. absurd (n (r .word) l))), ((λ e. l), (λ k. d)))
+read-answer t r (inr (d, z, n)) = (((λ e. n), (λ k. d)), ((λ e. absurd (not-both e d)), (λ l. absurd (n (r .word) l))))
 
 encode-answer : (i : Instruction) {e : Encoded} → Exact i e
     → ((answerNumber (e .answer) ≡ 0) × Word i (e .word)) ⊎ ((answerNumber (e .answer) ≡ 11) × (e .word ≡ 0) × ((word : ℕ) → ¬ Word i word))

@@ -42,9 +42,9 @@ pub hints-read : HintsRead
 hints-read = record { new = taken; old = refused }
   where
     taken : (r : Reading) → ReadOf (asc newLine) r → (answerNumber (r .answer) ≡ 0) × (r .word ≡ 0xf8800020)
-    taken r (inl (d, l)) = (ap answerNumber d, text-injective (r .word) 0xf8800020 _ l new-is)
+    taken r (inl (d, l)) = (d, text-injective (r .word) 0xf8800020 _ l new-is)
     taken r (inr (d, z, n)) = absurd (n 0xf8800020 new-is)
 
     refused : (r : Reading) → ReadOf (asc oldLine) r → (answerNumber (r .answer) ≡ 9) × (r .word ≡ 0)
     refused r (inl (d, l)) = absurd (no-line (r .word) l)
-    refused r (inr (d, z, n)) = (ap answerNumber d, z)
+    refused r (inr (d, z, n)) = (d, z)

@@ -9,6 +9,7 @@ use native.Mathlib.Decide.{ℕ-discrete}
 use borrow.Author.Tests.{not-true}
 use Rattle.bits.proofs.Choices.{both}
 use Rattle.instruction.specs.Table.{columnsOf, inSet, rowOf, undefined, allocated, instructionOf}
+use Rattle.instruction.proofs.Answers.{number-once}
 use Rattle.instruction.proofs.Rows.{row-has}
 use Rattle.encoder.specs.Encoding.{encodeOf}
 use Rattle.instruction.specs.declared.answer.Encoded.{Encoded}
@@ -41,7 +42,7 @@ text-injective v w t a b = ap (λ (e : Encoded). e .word) (sym (line-encodes v t
 
 -- reading the line of an allocated word gives that word
 pub read-back : (w : ℕ) → w < 2 ^ 32 → allocated w ≡ true → (r : Reading) → ReadOf (wordText w) r → r ≡ record { answer = Done; word = w }
-read-back w h a r (inl (d, l)) = let e = text-injective (r .word) w (wordText w) l (record { below = h; defined = a; line = refl }) in λ i. record { answer = d i; word = e i }
+read-back w h a r (inl (d, l)) = let e = text-injective (r .word) w (wordText w) l (record { below = h; defined = a; line = refl }) in λ i. record { answer = number-once (r .answer) Done d i; word = e i }
 read-back w h a r (inr (d, z, n)) = absurd (n w (record { below = h; defined = a; line = refl }))
 
 -- ---- a text is read in just one way
@@ -62,7 +63,7 @@ pub read-some : (t : List ℕ) → (r : Reading) × ReadOf t r
 read-some t = some-from t (encode-exact (buildOf (foldl stepOf scanStart t)))
 
 pub read-once : (t : List ℕ) (r s : Reading) → ReadOf t r → ReadOf t s → r ≡ s
-read-once t r s (inl (d, l)) (inl (e, k)) = let same = text-injective (r .word) (s .word) t l k in λ i. record { answer = (d ∙ sym e) i; word = same i }
+read-once t r s (inl (d, l)) (inl (e, k)) = let same = text-injective (r .word) (s .word) t l k in λ i. record { answer = number-once (r .answer) (s .answer) (d ∙ sym e) i; word = same i }
 read-once t r s (inl (d, l)) (inr (e, z, n)) = absurd (n (r .word) l)
 read-once t r s (inr (d, z, n)) (inl (e, l)) = absurd (n (s .word) l)
-read-once t r s (inr (d, z, n)) (inr (e, y, k)) = λ i. record { answer = (d ∙ sym e) i; word = (z ∙ sym y) i }
+read-once t r s (inr (d, z, n)) (inr (e, y, k)) = λ i. record { answer = number-once (r .answer) (s .answer) (d ∙ sym e) i; word = (z ∙ sym y) i }

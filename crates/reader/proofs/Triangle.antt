@@ -5,6 +5,7 @@ use mathlib.Core.Path.{_≡_, refl, sym, ap, _∙_, subst}
 use mathlib.Core.List.{List}
 use mathlib.Core.Logic.{inl, inr}
 use native.Mathlib.Omega.{arith}
+use Rattle.instruction.specs.Answers.{answerNumber}
 use Rattle.instruction.specs.Table.{instructionOf}
 use Rattle.encoder.specs.Encoding.{encodeOf}
 use Rattle.instruction.specs.declared.answer.Encoded.{Encoded}
@@ -22,14 +23,14 @@ use Rattle.reader.proofs.RoundTrip.{text-injective}
 encodes : (w : ℕ) → Allocated w → encodeOf (instructionOf w) ≡ record { answer = Done; word = w }
 encodes w a = encode-decoded w (a .0) (a .1)
 
-from-word : (i : Instruction) {e : Encoded} → Exact i e → e .answer ≡ Done → (w : ℕ) × Allocated w × (instructionOf w ≡ i)
+from-word : (i : Instruction) {e : Encoded} → Exact i e → answerNumber (e .answer) ≡ 0 → (w : ℕ) × Allocated w × (instructionOf w ≡ i)
 from-word i (inl (w, e, x)) d = (w, (x .below, x .defined), x .instruction)
-from-word i (inr (e, n)) d = let z : _≡_ {A = ℕ} 0 1 = cc (ap (λ (x : Encoded). x .answer) e) in absurd (omega arith)
+from-word i (inr (e, n)) d = absurd (omega (arith, d, ap (λ (x : Encoded). answerNumber (x .answer)) e))
 
 pub words-instructions : Bijection Allocated Encodable instructionOf
 words-instructions =
     record {
-      into = λ w a. ap (λ (e : Encoded). e .answer) (encodes w a);
+      into = λ w a. ap (λ (e : Encoded). answerNumber (e .answer)) (encodes w a);
       one-one = λ v w a b e. ap (λ (x : Encoded). x .word) (sym (encodes v a) ∙ ap encodeOf e ∙ encodes w b);
       onto = λ i d. from-word i (encode-exact i) d;
     }
@@ -39,9 +40,9 @@ words-instructions =
 line-of : (w : ℕ) → Allocated w → LineOf w (wordText w)
 line-of w a = record { below = a .0; defined = a .1; line = refl }
 
-from-line : (t : List ℕ) (r : Reading) → ReadOf t r → r .answer ≡ Done → (w : ℕ) × Allocated w × (wordText w ≡ t)
+from-line : (t : List ℕ) (r : Reading) → ReadOf t r → answerNumber (r .answer) ≡ 0 → (w : ℕ) × Allocated w × (wordText w ≡ t)
 from-line t r (inl (d, l)) e = (r .word, (l .below, l .defined), l .line)
-from-line t r (inr (d, k, n)) e = let z : _≡_ {A = ℕ} 0 1 = cc in absurd (omega arith)
+from-line t r (inr (d, k, n)) e = absurd (omega (arith, d, e))
 
 pub words-lines : Bijection Allocated Readable wordText
 words-lines =

@@ -5,8 +5,9 @@ use mathlib.Core.Bool.{true}
 use mathlib.Core.List.{List}
 use mathlib.Core.Logic.{_⊎_}
 use Rattle.text.specs.Writing.{wordText}
+use Rattle.instruction.specs.Answers.{answerNumber}
 use Rattle.instruction.specs.Table.{allocated}
-use Rattle.reader.specs.Types.{Done, NoSuchText, Reading}
+use Rattle.reader.specs.Types.{Reading}
 
 -- t is the line of the allocated word w
 pub record LineOf (w : ℕ) (t : List ℕ) : Type 0 where
@@ -16,5 +17,5 @@ pub record LineOf (w : ℕ) (t : List ℕ) : Type 0 where
 
 abbrev pub ReadOf : List ℕ → Reading → Type 0
 ReadOf t r =
-    ((r .answer ≡ Done) × LineOf (r .word) t)
-    ⊎ ((r .answer ≡ NoSuchText) × (r .word ≡ 0) × ((w : ℕ) → ¬ LineOf w t))
+    ((answerNumber (r .answer) ≡ 0) × LineOf (r .word) t)
+    ⊎ ((answerNumber (r .answer) ≡ 9) × (r .word ≡ 0) × ((w : ℕ) → ¬ LineOf w t))

@@ -4,9 +4,10 @@ use Prim.Native.Nat.{ℕ, _^_, _<_}
 use mathlib.Core.Path.{_≡_}
 use mathlib.Core.Bool.{true}
 use mathlib.Core.List.{List}
+use Rattle.instruction.specs.Answers.{answerNumber}
 use Rattle.instruction.specs.Table.{allocated}
 use Rattle.encoder.specs.Encoding.{encodeOf}
-use Rattle.reader.specs.Types.{Done, Instruction, Reading}
+use Rattle.reader.specs.Types.{Instruction, Reading}
 use Rattle.reader.specs.Reading.{ReadOf}
 
 -- f leads from the members of A to those of B, to each from exactly one
@@ -19,7 +20,7 @@ abbrev pub Allocated : ℕ → Type 0
 Allocated w = (w < 2 ^ 32) × (allocated w ≡ true)
 
 abbrev pub Encodable : Instruction → Type 0
-Encodable i = encodeOf i .answer ≡ Done
+Encodable i = answerNumber (encodeOf i .answer) ≡ 0
 
 abbrev pub Readable : List ℕ → Type 0
-Readable t = (r : Reading) × ReadOf t r × (r .answer ≡ Done)
+Readable t = (r : Reading) × ReadOf t r × (answerNumber (r .answer) ≡ 0)

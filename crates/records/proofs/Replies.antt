@@ -9,5 +9,5 @@ use Rattle.plain.specs.Coding.{EncodedFrom}
 use Rattle.records.specs.Replies.{EncodedAs}
 
 pub encoded-as : (p : Plain) (r : Encoded) {n : ℕ} → n ≡ answerNumber (r .answer) → EncodedFrom p r → EncodedAs p (record { answer = n; word = r .word })
-encoded-as p r e (inl (done, numbers)) = inl (e ∙ ap answerNumber done, numbers)
-encoded-as p r e (inr (none, zero, never)) = inr (e ∙ ap answerNumber none, zero, never)
+encoded-as p r e (inl (done, numbers)) = inl (e ∙ done, numbers)
+encoded-as p r e (inr (none, zero, never)) = inr (e ∙ none, zero, never)

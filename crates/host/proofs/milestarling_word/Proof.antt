@@ -11,4 +11,4 @@ milestarling-word-spec =
     (λ c κs. search needs)
     (λ c κs. search needs)
     (λ c. search needs)
-    (λ c. read-as _ _ (c .before .answer-number .ensures) (c .before .before .read .ensures)))
+    (λ c. read-as _ (c .before .before .read .result) (c .before .answer-number .ensures) (c .before .before .read .ensures)))

@@ -11,4 +11,4 @@ milestarling-encode-spec =
     (λ c κs. search needs)
     (λ c κs. search needs)
     (λ c. search needs)
-    (λ c. encoded-as _ _ (c .before .answer-number .ensures) (c .before .before .encode .ensures)))
+    (λ c. encoded-as _ (c .before .before .encode .result) (c .before .answer-number .ensures) (c .before .before .encode .ensures)))
