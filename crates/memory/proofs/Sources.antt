@@ -97,6 +97,10 @@ sign-at low t k c p l s (no n) =
     let w : k * 256 * suc j ≡ k * 256 + j * (k * 256) = omega (arith, mul-suc (k * 256) j, mul-comm (k * 256) j) in
     rw (le-ltb t 128 o, lt-ltb ((k * 256 - 1) / 2) (low + t * k) e, g, w) (omega arith)
 
+-- the sign of a span is that of its top byte
+sign-of : (m : List ℕ) (at n : ℕ) → valueFrom m (signFrom at (suc n)) ≡ signCopy (getD m (at + n) 0)
+sign-of m at n = ap (λ (i : ℕ). signCopy (getD m i 0)) (omega arith)
+
 extended-by : (m : List ℕ) (at n extent : ℕ) → n ≤ extent → Small m
     → extendedOf n extent (joined (spanOf m at n)) ≡ joined (spanOf m at n) + joined (replicate (extent - n) (valueFrom m (signFrom at n))) * 256 ^ n
 unfolding extendedOf largest spanOf joined
@@ -107,7 +111,7 @@ extended-by m at (suc n) extent h s =
     let whole : extent ≡ suc n + c = omega arith in
     let e : 256 ^ extent ≡ k * 256 * 256 ^ c = ap (λ (x : ℕ). 256 ^ x) whole ∙ pow-add 256 (suc n) c ∙ ap (λ (x : ℕ). x * 256 ^ c) (pow-suc 256 n) in
     let low : joined (spanOf m at n) < k = span-fits m s at n in
-    rw (top-byte m at n, e, pow-suc 256 n) (sign-at (joined (spanOf m at n)) (getD m (at + n) 0) k c (one-le-pow n 256 (lit< tt)) low (s (at + n)) (decLt (getD m (at + n) 0) 128))
+    rw (sign-of m at n, top-byte m at n, e, pow-suc 256 n) (sign-at (joined (spanOf m at n)) (getD m (at + n) 0) k c (one-le-pow n 256 (lit< tt)) low (s (at + n)) (decLt (getD m (at + n) 0) 128))
 
 -- an extended number is what its sources give
 pub extended-sources : (m : List ℕ) (at n extent : ℕ) → n ≤ extent → Small m → extendedOf n extent (joined (spanOf m at n)) ≡ joined (map (valueFrom m) (sourcesOf at n extent))

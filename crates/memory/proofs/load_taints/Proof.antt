@@ -1,7 +1,6 @@
 -- `memory::load_taints` meets its contract. Assumes nothing.
-use Prim.Native.Nat.{min, _≤_}
+use Prim.Native.Nat.{_≤_}
 use native.Mathlib.Omega.{arith}
-use denote.Ref.{now}
 use Rattle.bits.proofs.Joining.{low}
 use Rattle.memory.proofs.Taints.{span-taints}
 use borrow.Author.Needs.{needs}
@@ -17,8 +16,9 @@ load-taints-spec =
     (λ c κs. search needs)
     (λ c κs. search needs)
     (λ c.
-    let a = c .before .before .before .before .before .args in
-    let m = min (a .n) 8 in
-    let few : m ≤ 8 = omega arith in
+    let bound = c .before .before .at-most-8 in
+    let m = bound .result in
+    let few : m ≤ 8 = omega (arith, bound .ensures) in
     let joins = low m few (c .before .before .before .eight-at .ensures) in
-    span-taints (now (a .part)) m few joins (rw (c .before .cut .ensures, c .before .before .at-most-8 .ensures) at (c .normal .ensures))))
+    let whole = span-taints _ m few joins (rw (c .before .cut .ensures) at (c .normal .ensures)) in
+    (rw (bound .ensures) at (whole .0), rw (bound .ensures) at (whole .1))))
