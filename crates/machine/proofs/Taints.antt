@@ -106,8 +106,8 @@ taints-room n extent l e h =
     let wide : 256 ^ n ≤ 256 ^ 8 = pow-le-pow-right (lit< tt) few in
     omega arith
 
-pub loaded-taints : (k : List ℕ) (at n extent : ℕ) {x r : ℕ} → n ≤ extent → x ≡ joined (map normal (spanOf k at n)) → r ≡ extendedOf n extent (x * 255) / 255 → r ≡ loadedTaint at n extent k
-loaded-taints k at n extent l e f = f ∙ rw e (extended-taints k at n extent l)
+pub loaded-taints : (k : List ℕ) (at n extent : ℕ) {x r : ℕ} → x ≡ joined (map normal (spanOf k at n)) → r ≡ extendedOf n extent (x * 255) / 255 → n ≤ extent → r ≡ loadedTaint at n extent k
+loaded-taints k at n extent e f l = f ∙ rw e (extended-taints k at n extent l)
 
 pub loaded-taint-below : (k : List ℕ) (at n extent : ℕ) → n ≤ extent → extent ≤ 8 → loadedTaint at n extent k < 2 ^ 64
 loaded-taint-below k at n extent l e =

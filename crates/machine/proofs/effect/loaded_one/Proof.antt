@@ -1,6 +1,7 @@
 -- `machine::effect::loaded_one` meets its contract. Assumes nothing.
-use Prim.Native.Nat.{min}
-use mathlib.Core.Path.{_≡_, _∙_}
+use Prim.Native.Nat.{ℕ, min}
+use mathlib.Core.Path.{_≡_, refl, _∙_}
+use mathlib.Core.List.{List}
 use native.Mathlib.Omega.{arith}
 use Rattle.bits.specs.Extension.{largest, extendedOf}
 use Rattle.bits.specs.Bytes.{joined, spanOf}
@@ -12,12 +13,15 @@ use Rattle.machine.proofs.Taints.{loaded-taints}
 use Rattle.machine.proofs.effect.loaded_one.Statement.{statement}
 use Rattle.machine.proofs.effect.loaded_one.Tie as tie
 
-pub loaded-one-spec : {M : Type 1} → statement M
+nothing-loaded : (m : List ℕ) (at extent : ℕ) → extendedOf 0 extent (joined (spanOf m at 0)) ≡ 0
 unfolding extendedOf largest joined spanOf
+nothing-loaded m at extent = refl
+
+pub loaded-one-spec : {M : Type 1} → statement M
 loaded-one-spec =
     tie.close
     (tie.spec
-    (λ c. rw (c .if1 .taken, no-source))
+    (λ c. rw (c .if1 .taken, nothing-loaded, no-source))
     (λ c. search needs)
     (λ c. search needs)
     (λ c. search needs)
@@ -38,5 +42,5 @@ loaded-one-spec =
     let taints = c .before .before .load-taints in
     let e : min (a .n) 8 ≡ a .n = omega arith in
     let exact = c .before .extended .ensures ∙ extended-exact (a .n) (a .extent) (number .result) (start .pre .0) (start .pre .1) (rw e at (number .ensures .1)) in
-    let loaded = loaded-taints (a .taint .now) (a .at) (a .n) (a .extent) (start .pre .0) (rw (e, span-back (a .taint .now) (a .at) (a .n)) at (taints .ensures .0)) (c .extended-taints .ensures) in
-    rw (← span-back (a .memory .now) (a .at) (a .n), ← (rw e at (number .ensures .0)), ← exact, ← loaded)))
+    let loaded = loaded-taints (a .taint .now) (a .at) (a .n) _ (rw (e, span-back (a .taint .now) (a .at) (a .n)) at (taints .ensures .0)) (c .extended-taints .ensures) (omega (arith, start .pre .0)) in
+    rw (loaded, ← span-back (a .memory .now) (a .at) (a .n), ← (rw e at (number .ensures .0)), ← exact) refl))
