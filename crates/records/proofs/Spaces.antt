@@ -1,6 +1,6 @@
 -- Which words touch memory: every word of the set does. Assumes nothing.
 use Prim.Native.Nat.{ℕ, _+_, _*_, _/_, _%_, _^_, _<_}
-use mathlib.Core.Path.{_≡_, refl, ap}
+use mathlib.Core.Path.{_≡_, refl}
 use mathlib.Core.Bool.{Bool, true, false, _&&_, _||_}
 use native.Mathlib.Omega.{arith}
 use mathlib.Core.List.{[], _∷_}
@@ -19,19 +19,17 @@ two-tests true true = refl
 two-tests true false = refl
 two-tests false b = refl
 
-three-tests : (a b c : Bool) → ((a || b) || c) ≡ (a || (b || (c || false)))
-three-tests true b c = refl
-three-tests false true c = refl
-three-tests false false true = refl
-three-tests false false false = refl
+pub or-assoc : (a b c : Bool) → ((a || b) || c) ≡ (a || (b || c))
+or-assoc true b c = refl
+or-assoc false b c = refl
+
+pub or-false : (a : Bool) → (a || false) ≡ a
+or-false true = refl
+or-false false = refl
 
 pub load-or-store : (w : ℕ) → (eqb (w / 2 ^ 27 % 2) 1 && eqb (w / 2 ^ 25 % 2) 0) ≡ loadOrStore w
 unfolding loadOrStore part
 load-or-store w = two-tests (eqb (w / 2 ^ 27 % 2) 1) (eqb (w / 2 ^ 25 % 2) 0)
-
-pub sets-block : (w : ℕ) → (eqb (w / 2 ^ 8 % 2 ^ 24) 0xd50b74 && ((eqb (w / 2 ^ 5 % 8) 1 || eqb (w / 2 ^ 5 % 8) 3) || eqb (w / 2 ^ 5 % 8) 4)) ≡ setsBlock w
-unfolding setsBlock part
-sets-block w = ap (λ (b : Bool). eqb (w / 2 ^ 8 % 2 ^ 24) 0xd50b74 && b) (three-tests (eqb (w / 2 ^ 5 % 8) 1) (eqb (w / 2 ^ 5 % 8) 3) (eqb (w / 2 ^ 5 % 8) 4))
 
 pub touches : {a b z : Bool} (w : ℕ) → (a || b) ≡ z → a ≡ loadOrStore w → b ≡ setsBlock w → touchesMemory w ≡ z
 unfolding touchesMemory
