@@ -71,7 +71,7 @@ open-fails r address size e l = rw (e, ne-eqb 0 size (omega arith)) (pick-by (λ
 status-same : (t : Transfer) (address : ℕ) (r s : Monitor) → 0 < t .bytes → EqualMonitors r s → statusOf t address r ≡ statusOf t address s
 unfolding statusOf
 status-same t address r s l (inl e) = rw e
-status-same t address r s l (inr (p, q)) = rw (open-fails r address (t .bytes) p l, open-fails s address (t .bytes) q l)
+status-same t address r s l (inr h) = rw (open-fails r address (t .bytes) (omega (arith, h .0)) l, open-fails s address (t .bytes) (omega (arith, h .0, h .1)) l)
 
 after-same : (t : Transfer) (address : ℕ) (r s : Monitor) → EqualMonitors r s → EqualMonitors (monitorAfter t address r) (monitorAfter t address s)
 unfolding monitorAfter
