@@ -61,10 +61,10 @@ carried R e f h = rw (e, f) h
 step-gives : (c : StepCall) → StepGives c (performed (stepStart c) (stepOf (c .window) (c .word) (stepStart c)))
 step-gives c =
     record {
-      answer = ap (λ (l : Lent). l .reply .answer) (c .allowed);
-      code = ap (λ (l : Lent). l .reply .code) (c .allowed);
-      address = ap (λ (l : Lent). l .reply .address) (c .allowed);
-      status = ap (λ (l : Lent). l .reply .status) (c .allowed);
+      answer = omega (arith, ap (λ (l : Lent). l .reply .answer) (c .allowed));
+      code = omega (arith, ap (λ (l : Lent). l .reply .code) (c .allowed));
+      address = omega (arith, ap (λ (l : Lent). l .reply .address) (c .allowed));
+      status = omega (arith, ap (λ (l : Lent). l .reply .status) (c .allowed));
       values = ap (λ (l : Lent). l .machine .values) (c .allowed);
       marks = ap (λ (l : Lent). l .machine .taints .registers) (c .allowed);
       pc = ap (λ (l : Lent). l .machine .pc) (c .allowed);
