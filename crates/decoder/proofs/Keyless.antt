@@ -1,13 +1,13 @@
 -- Words whose keys are those of no row. Assumes nothing.
-use Prim.Native.Nat.{ℕ}
+use Prim.Native.Nat.{ℕ, _+_, _*_}
 use mathlib.Core.Path.{_≡_}
 use native.Mathlib.Omega.{arith}
 use Rattle.bits.specs.Fields.{field}
 use Rattle.instruction.specs.declared.row.Row.{Row}
-use Rattle.instruction.proofs.Rows.{form, Keys}
+use Rattle.instruction.proofs.Rows.{group, form, Keys}
 
 module _ (w : ℕ) where
-  pub no-group : ¬ (field 29 25 w ≡ 0b00100) → ¬ (field 29 25 w ≡ 0b01100) → ¬ (field 29 25 w ≡ 0b10100) → ¬ (field 29 25 w ≡ 0b11100) → (l : Row) → Keys w l → ⊥
+  pub no-group : ¬ (group w ≡ 0b001_0) → ¬ (group w ≡ 0b011_0) → ¬ (group w ≡ 0b101_0) → ¬ (group w ≡ 0b111_0) → (l : Row) → Keys w l → ⊥
   no-group e a b d Row.NoRow k = k
   no-group e a b d Row.LiteralRow k = a (k .0)
   no-group e a b d Row.PairRow k = b k
@@ -21,11 +21,11 @@ module _ (w : ℕ) where
   no-group e a b d Row.StoreExclusiveRow k = e (k .0)
   no-group e a b d Row.AcquireReleaseRow k = e (k .0)
 
-  pub no-ordered : field 29 25 w ≡ 0b01100 → ¬ (field 24 24 w ≡ 0) → ¬ (form w ≡ 0b000) → (l : Row) → Keys w l → ⊥
+  pub no-ordered : group w ≡ 0b011_0 → ¬ (field 24 24 w ≡ 0) → ¬ (field 26 26 w * 8 + field 21 21 w * 4 + field 11 10 w ≡ 0b0_000) → (l : Row) → Keys w l → ⊥
   no-ordered g b f Row.NoRow k = k
   no-ordered g b f Row.LiteralRow k = b (k .1)
   no-ordered g b f Row.PairRow k = omega arith
-  no-ordered g b f Row.OrderedRow k = f (k .2)
+  no-ordered g b f Row.OrderedRow k = f (omega (arith, k))
   no-ordered g b f Row.UnscaledRow k = omega arith
   no-ordered g b f Row.PostRow k = omega arith
   no-ordered g b f Row.PreRow k = omega arith
@@ -35,7 +35,7 @@ module _ (w : ℕ) where
   no-ordered g b f Row.StoreExclusiveRow k = omega arith
   no-ordered g b f Row.AcquireReleaseRow k = omega arith
 
-  pub no-sized : field 29 25 w ≡ 0b11100 → ¬ (field 24 24 w ≡ 1) → ¬ (form w ≡ 0b000) → ¬ (form w ≡ 0b001) → ¬ (form w ≡ 0b011)
+  pub no-sized : group w ≡ 0b111_0 → ¬ (field 24 24 w ≡ 1) → ¬ (form w ≡ 0b000) → ¬ (form w ≡ 0b001) → ¬ (form w ≡ 0b011)
       → ¬ (form w ≡ 0b110) → (l : Row) → Keys w l → ⊥
   no-sized g b f0 f1 f3 f6 Row.NoRow k = k
   no-sized g b f0 f1 f3 f6 Row.LiteralRow k = omega arith
@@ -50,9 +50,9 @@ module _ (w : ℕ) where
   no-sized g b f0 f1 f3 f6 Row.StoreExclusiveRow k = omega arith
   no-sized g b f0 f1 f3 f6 Row.AcquireReleaseRow k = omega arith
 
-  pub no-exclusive : field 29 25 w ≡ 0b00100
-      → (field 24 24 w ≡ 0 → field 21 21 w ≡ 0 → field 23 23 w ≡ 0 → ⊥)
-      → (field 24 24 w ≡ 0 → field 21 21 w ≡ 0 → field 23 23 w ≡ 1 → field 15 15 w ≡ 1 → ⊥)
+  pub no-exclusive : group w ≡ 0b001_0
+      → (field 24 24 w ≡ 0 → field 26 26 w ≡ 0 → field 21 21 w ≡ 0 → field 23 23 w ≡ 0 → ⊥)
+      → (field 24 24 w ≡ 0 → field 26 26 w ≡ 0 → field 21 21 w ≡ 0 → field 23 23 w ≡ 1 → field 15 15 w ≡ 1 → ⊥)
       → (l : Row) → Keys w l → ⊥
   no-exclusive g x a Row.NoRow k = k
   no-exclusive g x a Row.LiteralRow k = omega arith
@@ -63,6 +63,6 @@ module _ (w : ℕ) where
   no-exclusive g x a Row.PreRow k = omega arith
   no-exclusive g x a Row.RegisterRow k = omega arith
   no-exclusive g x a Row.UnsignedRow k = omega arith
-  no-exclusive g x a Row.LoadExclusiveRow k = x (k .1) (k .2) (k .3)
-  no-exclusive g x a Row.StoreExclusiveRow k = x (k .1) (k .2) (k .3)
-  no-exclusive g x a Row.AcquireReleaseRow k = a (k .1) (k .2) (k .3) (k .4)
+  no-exclusive g x a Row.LoadExclusiveRow k = x (k .1) (k .2) (k .3) (k .4)
+  no-exclusive g x a Row.StoreExclusiveRow k = x (k .1) (k .2) (k .3) (k .4)
+  no-exclusive g x a Row.AcquireReleaseRow k = a (k .1) (k .2) (k .3) (k .4) (k .5)

@@ -9,7 +9,7 @@ use mir.Syntax.{w64}
 use mir.Val.{SFits, toZ, ofZ}
 use mir.Facts.{toZ-pos, toZ-ofZ}
 
-pub small : {a b : ℕ} → a ≤ 524288 → b ≤ 8 → a * b ≤ 4194304
+pub small : {a b : ℕ} → a ≤ 524288 → b ≤ 16 → a * b ≤ 8388608
 small {a} {b} h k = omega (arith, mul-le-mul h k)
 
 neg-mag : (m : ℕ) → m < 2 ^ 63 → mag (negℤ (pos m)) < 2 ^ 63

@@ -15,7 +15,7 @@ use instruction::StoreExclusiveOperands;
 ghost use mathlib.Core.Path.{_≡_};
 ghost use Prim.Native.Nat.{_*_, _<_, _≤_};
 ghost use Rattle.bits.specs.Signed.{signedOf};
-ghost use Rattle.instruction.specs.Operands.{sizedIn, literalIn, pairOpIn, pairIn, signedIn, indexIn, unsignedIn, exclusiveOpIn, storeExclusiveOpIn, exclusiveIn, storeExclusiveIn};
+ghost use Rattle.instruction.specs.Operands.{sizedIn, literalOpIn, literalIn, pairOpIn, pairIn, signedIn, indexIn, unsignedIn, exclusiveOpIn, storeExclusiveOpIn, exclusiveIn, storeExclusiveIn};
 
 pub fn literal(op: LiteralOp, word: u32) -> Family
     ensures { λ r. ⌜ r ≡ Family.Literal op (literalIn word) ⌝ }
@@ -80,13 +80,23 @@ pub fn store_exclusive(op: StoreExclusiveOp, word: u32) -> Family
 pub fn sized_op_in(word: u32) -> SizedOp
     ensures { λ r. ⌜ r ≡ sizedIn word ⌝ }
 {
-    instruction::sized_at(word / 0x4000_0000 % 4 * 4 + word / 0x40_0000 % 4)
+    instruction::sized_at(
+        word / 0x400_0000 % 2 * 16 + word / 0x4000_0000 % 4 * 4 + word / 0x40_0000 % 4,
+    )
+}
+
+pub fn literal_op_in(word: u32) -> LiteralOp
+    ensures { λ r. ⌜ r ≡ literalOpIn word ⌝ }
+{
+    instruction::literal_at(word / 0x400_0000 % 2 * 4 + word / 0x4000_0000 % 4)
 }
 
 pub fn pair_op_in(word: u32) -> PairOp
     ensures { λ r. ⌜ r ≡ pairOpIn word ⌝ }
 {
-    instruction::pair_at(word / 0x4000_0000 % 4 * 2 + word / 0x40_0000 % 2)
+    instruction::pair_at(
+        word / 0x400_0000 % 2 * 8 + word / 0x4000_0000 % 4 * 2 + word / 0x40_0000 % 2,
+    )
 }
 
 pub fn exclusive_op_in(word: u32) -> ExclusiveOp
@@ -107,7 +117,7 @@ pub fn store_exclusive_op_in(word: u32) -> StoreExclusiveOp
 
 // The number that a field in two's complement holds, times scale. Half is how many values each sign has.
 fn signed(bits: u32, half: u32, scale: u32) -> i64
-    requires { ⌜ (bits < 2 * half) × (half ≤ 262144) × (scale ≤ 8) ⌝ }
+    requires { ⌜ (bits < 2 * half) × (half ≤ 262144) × (scale ≤ 16) ⌝ }
     ensures { λ r. ⌜ r ≡ signedOf half scale bits ⌝ }
 {
     if bits < half {

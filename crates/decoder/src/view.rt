@@ -20,8 +20,8 @@ pub fn examine(word: u32) -> Decoded
     match row {
         Row::NoRow => refused(Answer::NotInSet),
         Row::LiteralRow => {
-            let op = instruction::literal_at(word / 0x4000_0000 % 4);
-            viewed(false, false, family::literal(op, word))
+            let family = family::literal(family::literal_op_in(word), word);
+            viewed(undefined::in_literal(word), false, family)
         }
         Row::PairRow => {
             let family = family::pair(family::pair_op_in(word), word);
@@ -38,12 +38,12 @@ pub fn examine(word: u32) -> Decoded
         }
         Row::PostRow => {
             let family = family::post_index(family::sized_op_in(word), word);
-            let base = unpredictable::base_is(word / 1 % 32, word);
+            let base = unpredictable::over_base(word / 1 % 32, word);
             viewed(undefined::without_prefetch(word), base, family)
         }
         Row::PreRow => {
             let family = family::pre_index(family::sized_op_in(word), word);
-            let base = unpredictable::base_is(word / 1 % 32, word);
+            let base = unpredictable::over_base(word / 1 % 32, word);
             viewed(undefined::without_prefetch(word), base, family)
         }
         Row::RegisterRow => {

@@ -1,11 +1,11 @@
 -- From a word to its instruction and back to the word. Assumes nothing.
 use Prim.Native.Nat.{ℕ, _+_, _*_, _/_, _%_, _^_, _<_}
-use mathlib.Core.Path.{_≡_, refl, sym}
+use mathlib.Core.Path.{_≡_, refl, sym, _∙_}
 use mathlib.Core.Bool.{Bool, true, false, _&&_, _||_, not}
 use mathlib.Core.List.{[], _∷_}
 use native.Mathlib.Omega.{arith}
 use lib.Dec.{eqb}
-use borrow.Author.Tests.{lt-ltb, eqb-true, eqb-false}
+use borrow.Author.Tests.{lt-ltb, eq-eqb, eqb-true, eqb-false}
 use Rattle.bits.specs.declared.Field.{Field}
 use Rattle.bits.specs.Fields.{part, field, bits}
 use Rattle.bits.proofs.Choices.{neither}
@@ -13,66 +13,84 @@ use Rattle.bits.proofs.Parts.{part-lt, top, split, Has}
 use Rattle.bits.proofs.Offsets.{bits-back, plain-back}
 use Rattle.instruction.specs.declared.row.Row.{Row}
 use Rattle.instruction.specs.declared.family.Family.{Family}
-use Rattle.instruction.specs.Undefined.{sizeOpc, undefinedSize, undefinedPair, undefinedSecond, undefinedUnused}
-use Rattle.instruction.specs.Operands.{sizedIn, literalIn, pairOpIn, pairIn, signedIn, indexIn, unsignedIn, exclusiveBits, exclusiveOpIn, storeExclusiveOpIn, exclusiveIn, storeExclusiveIn}
+use Rattle.instruction.specs.Undefined.{sizeOpc, literalBits, undefinedSize, undefinedLiteral, undefinedPair, undefinedSecond, undefinedUnused}
+use Rattle.instruction.specs.Operands.{sizedIn, literalOpIn, literalIn, pairBits, pairOpIn, pairIn, signedIn, indexIn, unsignedIn, exclusiveBits, exclusiveOpIn, storeExclusiveOpIn, exclusiveIn, storeExclusiveIn}
 use Rattle.instruction.specs.Table.{columnsOf}
-use Rattle.instruction.specs.Operations.{sizeOf, opcOf, sizedAt, literalAt, pairOpc, pairLoad, pairAt, sizeAt}
-use Rattle.encoder.specs.Encoding.{literalWord, pairWord, signedWord, indexWord, unsignedWord, exclusiveWord, wordOf}
+use Rattle.instruction.specs.Operations.{vectorOf, sizeOf, opcOf, sizedAt, literalVector, literalOpc, literalAt, pairVector, pairOpc, pairLoad, pairAt, sizeAt}
+use Rattle.encoder.specs.Encoding.{literalWord, pairWord, signedWord, orderedWord, indexWord, unsignedWord, exclusiveWord, wordOf}
 use Rattle.instruction.proofs.Rows.{prefetch-no, option-no, second-no, unused-no}
-use Rattle.instruction.proofs.Codes.{sized, paired, sized-code, literal-code, pair-code, mode-code, exclusive-code, store-exclusive-code, scale-code}
+use Rattle.instruction.proofs.Codes.{sized, lettered, paired, sized-code, literal-code, pair-code, mode-code, exclusive-code, store-exclusive-code, scale-code}
 use Rattle.encoder.proofs.Words.{word-is}
 
 -- ---- the codes of a word that is not undefined
 
 record Sizes (w : ℕ) : Type 0 where
+  vector : vectorOf (sizedIn w) ≡ part 26 1 w
   size : sizeOf (sizedIn w) ≡ part 30 2 w
   opc : opcOf (sizedIn w) ≡ part 22 2 w
 
 sizes : (w : ℕ) → undefinedSize w ≡ false → Sizes w
 unfolding undefinedSize sizedIn
 sizes w u =
-    let n = neither (eqb (sizeOpc w) 0b10_11) (eqb (sizeOpc w) 0b11_11) u in
+    let v = part-lt 26 1 w in
     let a = part-lt 30 2 w in
     let b = part-lt 22 2 w in
-    let c = sized-code (sizeOpc w) (omega arith) (eqb-false _ _ (n .0)) (eqb-false _ _ (n .1)) in
+    let c = sized-code (sizeOpc w) (omega arith) u in
     let s = sized (sizedAt (sizeOpc w)) in
     omega arith
 
+record Literals (w : ℕ) : Type 0 where
+  vector : literalVector (literalOpIn w) ≡ part 26 1 w
+  opc : literalOpc (literalOpIn w) ≡ part 30 2 w
+
+literals : (w : ℕ) → undefinedLiteral w ≡ false → Literals w
+unfolding undefinedLiteral literalOpIn
+literals w u =
+    let v = part-lt 26 1 w in
+    let a = part-lt 30 2 w in
+    let c = literal-code (literalBits w) (omega arith) u in
+    let s = lettered (literalAt (literalBits w)) in
+    omega arith
+
 record Pairs (w : ℕ) : Type 0 where
+  vector : pairVector (pairOpIn w) ≡ part 26 1 w
   opc : pairOpc (pairOpIn w) ≡ part 30 2 w
   load : pairLoad (pairOpIn w) ≡ part 22 1 w
 
-pair-defined : (opc load mode : ℕ) → (eqb opc 0b11 || (eqb opc 0b01 && not (eqb load 1 && not (eqb mode 0b00)))) ≡ false
-    → ¬ (opc ≡ 3) × (opc ≡ 1 → load ≡ 1)
-pair-defined opc load mode u =
-    let n = neither (eqb opc 0b11) (eqb opc 0b01 && not (eqb load 1 && not (eqb mode 0b00))) u in
-    (eqb-false _ _ (n .0), λ e. loaded (eqb load 1) refl (rw e at (n .1)))
+pair-defined : (vector opc load mode : ℕ)
+    → (eqb opc 0b11 || ((eqb vector 0 && eqb opc 0b01) && not (eqb load 1 && not (eqb mode 0b00)))) ≡ false
+    → ¬ (opc ≡ 3) × (vector ≡ 0 → opc ≡ 1 → load ≡ 1)
+pair-defined vector opc load mode u =
+    let n = neither (eqb opc 0b11) ((eqb vector 0 && eqb opc 0b01) && not (eqb load 1 && not (eqb mode 0b00))) u in
+    (eqb-false _ _ (n .0), λ v e. loaded (eqb load 1) refl (rw (v, e) at (n .1)))
   where
-    loaded : (l : Bool) → eqb load 1 ≡ l → (eqb 1 1 && not (eqb load 1 && not (eqb mode 0b00))) ≡ false → load ≡ 1
+    loaded : (l : Bool) → eqb load 1 ≡ l → ((eqb 0 0 && eqb 1 1) && not (eqb load 1 && not (eqb mode 0b00))) ≡ false → load ≡ 1
     loaded true e h = eqb-true _ _ e
     loaded false e h = let z : true ≡ false = rw e at h in cc
 
 pairs : (w : ℕ) → undefinedPair w ≡ false → Pairs w
 unfolding undefinedPair pairOpIn
 pairs w u =
-    let n = pair-defined (part 30 2 w) (part 22 1 w) (part 23 2 w) u in
+    let n = pair-defined (part 26 1 w) (part 30 2 w) (part 22 1 w) (part 23 2 w) u in
+    let v = part-lt 26 1 w in
     let a = part-lt 30 2 w in
     let b = part-lt 22 1 w in
-    let k : ¬ (part 30 2 w * 2 + part 22 1 w ≡ 2) = λ e. (let q = n .1 (omega arith) in omega arith) in
-    let c = pair-code (part 30 2 w * 2 + part 22 1 w) (omega (arith, n .0)) k in
-    let s = paired (pairAt (part 30 2 w * 2 + part 22 1 w)) in
+    let k : ¬ (pairBits w ≡ 2) = λ e. (let q = n .1 (omega arith) (omega arith) in omega arith) in
+    let three : ¬ (pairBits w / 2 % 4 ≡ 3) = λ e. n .0 (omega arith) in
+    let c = pair-code (pairBits w) (omega arith) k three in
+    let s = paired (pairAt (pairBits w)) in
     omega arith
 
 -- ---- the word of each family
 
 module _ (w : ℕ) (h : w < 2 ^ 32) where
-  literal-there : Has w (columnsOf Row.LiteralRow .fixed) → literalWord (literalAt (field 31 30 w)) (literalIn w) ≡ Field.Holds w
+  literal-there : Has w (columnsOf Row.LiteralRow .fixed) → undefinedLiteral w ≡ false → literalWord (literalOpIn w) (literalIn w) ≡ Field.Holds w
   unfolding literalWord literalIn
-  literal-there g =
-      let c = literal-code (part 30 2 w) (part-lt 30 2 w) in
+  literal-there g u =
+      let p = literals w u in
       rw (bits-back 262144 {scale = 4} (omega arith) (part 5 19 w) (part-lt 5 19 w))
-      (sym (word-is _ _ (simp (c, lt-ltb _ _ (part-lt 30 2 w), lt-ltb _ _ (part-lt 0 5 w), lt-ltb _ _ (part-lt 5 19 w)))
-      (omega (arith, split (5 ∷ 19 ∷ 2 ∷ 1 ∷ 3 ∷ 2 ∷ []) w, top w 32 h))))
+      (sym (word-is _ _ (simp (p .opc, p .vector, lt-ltb _ _ (part-lt 30 2 w), lt-ltb _ _ (part-lt 26 1 w), lt-ltb _ _ (part-lt 0 5 w), lt-ltb _ _ (part-lt 5 19 w)))
+      (omega (arith, p .opc, p .vector, split (5 ∷ 19 ∷ 2 ∷ 1 ∷ 3 ∷ 2 ∷ []) w, top w 32 h))))
 
   pair-there : Has w (columnsOf Row.PairRow .fixed) → undefinedPair w ≡ false → pairWord (pairOpIn w) (pairIn (pairOpIn w) w) ≡ Field.Holds w
   unfolding pairWord pairIn
@@ -83,9 +101,11 @@ module _ (w : ℕ) (h : w < 2 ^ 32) where
       (sym (word-is _ _
       (simp (
         p .opc,
+        p .vector,
         p .load,
         m,
         lt-ltb _ _ (part-lt 30 2 w),
+        lt-ltb _ _ (part-lt 26 1 w),
         lt-ltb _ _ (part-lt 23 2 w),
         lt-ltb _ _ (part-lt 22 1 w),
         lt-ltb _ _ (part-lt 5 5 w),
@@ -96,7 +116,7 @@ module _ (w : ℕ) (h : w < 2 ^ 32) where
       (omega (arith, split (5 ∷ 5 ∷ 5 ∷ 7 ∷ 1 ∷ 2 ∷ 1 ∷ 1 ∷ 3 ∷ 2 ∷ []) w, top w 32 h))))
 
   -- the four families with imm9, over what tells them apart: bits 29..27, 25..24 and 11..10
-  signed-there : (a b d : ℕ) {f : ℕ} → Has w (bits 26 26 0 ∷ bits 29 27 a ∷ bits 25 24 b ∷ bits 21 21 0 ∷ bits 11 10 d ∷ [])
+  signed-there : (a b d : ℕ) {f : ℕ} → Has w (bits 29 27 a ∷ bits 25 24 b ∷ bits 21 21 0 ∷ bits 11 10 d ∷ [])
       → f ≡ a * 2 ^ 27 + b * 2 ^ 24 + d * 2 ^ 10 → undefinedSize w ≡ false → signedWord f (sizedIn w) (signedIn w) ≡ Field.Holds w
   unfolding signedWord signedIn
   signed-there a b d g e u =
@@ -105,14 +125,23 @@ module _ (w : ℕ) (h : w < 2 ^ 32) where
       (sym (word-is _ _
       (simp (
         s .size,
+        s .vector,
         s .opc,
         lt-ltb _ _ (part-lt 30 2 w),
+        lt-ltb _ _ (part-lt 26 1 w),
         lt-ltb _ _ (part-lt 22 2 w),
         lt-ltb _ _ (part-lt 5 5 w),
         lt-ltb _ _ (part-lt 0 5 w),
         lt-ltb _ _ (part-lt 12 9 w),
       ))
-      (rw (s .size, s .opc) (omega (arith, split (5 ∷ 5 ∷ 2 ∷ 9 ∷ 1 ∷ 2 ∷ 2 ∷ 1 ∷ 3 ∷ 2 ∷ []) w, top w 32 h)))))
+      (rw (s .size, s .vector, s .opc) (omega (arith, split (5 ∷ 5 ∷ 2 ∷ 9 ∷ 1 ∷ 2 ∷ 2 ∷ 1 ∷ 3 ∷ 2 ∷ []) w, top w 32 h)))))
+
+  -- and bit 26 = 0
+  ordered-there : Has w (columnsOf Row.OrderedRow .fixed) → undefinedSize w ≡ false → orderedWord (sizedIn w) (signedIn w) ≡ Field.Holds w
+  unfolding orderedWord
+  ordered-there g u =
+      rw (eq-eqb (vectorOf (sizedIn w)) 0 (sizes w u .vector ∙ g .1 .0))
+      (signed-there 3 1 0 (g .0, (g .1 .1 .0, (g .1 .1 .1 .0, (g .1 .1 .1 .1 .0, tt)))) refl u)
 
   index-there : Has w (columnsOf Row.RegisterRow .fixed) → undefinedSize w ≡ false → indexWord (sizedIn w) (indexIn w) ≡ Field.Holds w
   unfolding indexWord indexIn
@@ -121,8 +150,10 @@ module _ (w : ℕ) (h : w < 2 ^ 32) where
       sym (word-is _ _
       (simp (
         s .size,
+        s .vector,
         s .opc,
         lt-ltb _ _ (part-lt 30 2 w),
+        lt-ltb _ _ (part-lt 26 1 w),
         lt-ltb _ _ (part-lt 22 2 w),
         lt-ltb _ _ (part-lt 5 5 w),
         lt-ltb _ _ (part-lt 0 5 w),
@@ -140,8 +171,10 @@ module _ (w : ℕ) (h : w < 2 ^ 32) where
       (sym (word-is _ _
       (simp (
         s .size,
+        s .vector,
         s .opc,
         lt-ltb _ _ (part-lt 30 2 w),
+        lt-ltb _ _ (part-lt 26 1 w),
         lt-ltb _ _ (part-lt 22 2 w),
         lt-ltb _ _ (part-lt 5 5 w),
         lt-ltb _ _ (part-lt 0 5 w),
@@ -150,7 +183,7 @@ module _ (w : ℕ) (h : w < 2 ^ 32) where
       (omega (arith, split (5 ∷ 5 ∷ 12 ∷ 2 ∷ 2 ∷ 1 ∷ 3 ∷ 2 ∷ []) w, top w 32 h))))
 
   -- what the three rows of the ninth family share, over their operation and status
-  exclusive-there : Has w (bits 26 26 0 ∷ bits 29 27 0b001 ∷ bits 25 24 0b00 ∷ bits 21 21 0 ∷ bits 14 10 31 ∷ []) → (code status : ℕ)
+  exclusive-there : Has w (bits 29 27 0b001 ∷ bits 26 26 0 ∷ bits 25 24 0b00 ∷ bits 21 21 0 ∷ bits 14 10 31 ∷ []) → (code status : ℕ)
       → code ≡ exclusiveBits w → status ≡ field 20 16 w → exclusiveWord code (sizeAt (field 31 30 w)) status (field 4 0 w) (field 9 5 w) ≡ Field.Holds w
   unfolding exclusiveWord
   exclusive-there g code status c s =
@@ -206,9 +239,9 @@ module _ (w : ℕ) (h : w < 2 ^ 32) where
 
   pub there : (r : Row) → Has w (columnsOf r .fixed) → columnsOf r .undefined w ≡ false → wordOf (columnsOf r .family w) ≡ Field.Holds w
   there Row.NoRow g u = absurd (omega arith)
-  there Row.LiteralRow g u = literal-there g
+  there Row.LiteralRow g u = literal-there g u
   there Row.PairRow g u = pair-there g u
-  there Row.OrderedRow g u = signed-there 3 1 0 g refl (prefetch-no w u .0)
+  there Row.OrderedRow g u = ordered-there g (prefetch-no w u .0)
   there Row.UnscaledRow g u = signed-there 7 0 0 g refl u
   there Row.PostRow g u = signed-there 7 0 1 g refl (prefetch-no w u .0)
   there Row.PreRow g u = signed-there 7 0 3 g refl (prefetch-no w u .0)

@@ -46,7 +46,7 @@ module _ (f : ℕ) (op : SizedOp) (base target : ℕ) (own : List Bits) where
   unfolding sizedWord wordWith
   sized-is {w} t e =
       let s = sized op in
-      simp (lt-ltb _ _ (s .size), lt-ltb _ _ (s .opc), t, and-true)
+      simp (lt-ltb _ _ (s .size), lt-ltb _ _ (s .vector), lt-ltb _ _ (s .opc), t, and-true)
       (ap (λ (n : ℕ). pick (ltb base 32 && ltb target 32) (Field.Holds n) Field.Unfit) (omega arith))
 
   pub sized-not : fit own ≡ false → Field.Unfit ≡ wordWith f (sizedFields op base target own)

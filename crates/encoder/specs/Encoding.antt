@@ -1,6 +1,7 @@
--- The word of an instruction, and what encoding answers: 01, "What a word says", answer 11; 02, CR 3.
+-- The word of an instruction, and what encoding answers: 01, "What a word says", answer 11; 02, CR 3 and CR 12.
 use Prim.Native.Nat.{ℕ, _+_, _/_, _%_}
 use mathlib.Core.List.{List, [], _∷_}
+use lib.Dec.{eqb}
 use Rattle.bits.specs.Choice.{pick}
 use Rattle.bits.specs.Fields.{Bits, bits, fit, placed}
 use Rattle.bits.specs.Signed.{bitsOf, plainBitsOf}
@@ -19,7 +20,7 @@ use Rattle.instruction.specs.declared.family.PairOperands.{PairOperands}
 use Rattle.instruction.specs.declared.family.OffsetOperands.{OffsetOperands}
 use Rattle.instruction.specs.declared.family.IndexOperands.{IndexOperands}
 use Rattle.instruction.specs.Table.{columnsOf, allocated}
-use Rattle.instruction.specs.Operations.{sizeOf, opcOf, sizedBytes, literalOpc, pairOpc, pairLoad, modeCode, pairBytes, exclusiveCode, storeExclusiveCode, accessScale}
+use Rattle.instruction.specs.Operations.{vectorOf, sizeOf, opcOf, sizedBytes, literalVector, literalOpc, pairVector, pairOpc, pairLoad, modeCode, pairBytes, exclusiveCode, storeExclusiveCode, accessScale}
 
 -- the fixed bits of a row
 abbrev pub fixed : Row → ℕ
@@ -36,7 +37,7 @@ withBits Field.Unfit f = Field.Unfit
 
 -- imm19
 abbrev pub literalFields : LiteralOp → ℕ → ℕ → List Bits
-literalFields op target imm19 = bits 31 30 (literalOpc op) ∷ bits 4 0 target ∷ bits 23 5 imm19 ∷ []
+literalFields op target imm19 = bits 31 30 (literalOpc op) ∷ bits 26 26 (literalVector op) ∷ bits 4 0 target ∷ bits 23 5 imm19 ∷ []
 
 unfoldable pub literalWord : LiteralOp → LiteralOperands → Field
 literalWord op o = withBits (bitsOf 262144 4 (o .offset)) (λ b. wordWith (fixed Row.LiteralRow) (literalFields op (o .target) b))
@@ -44,8 +45,8 @@ literalWord op o = withBits (bitsOf 262144 4 (o .offset)) (λ b. wordWith (fixed
 -- mode, L, imm7 and Rt2
 abbrev pub pairFields : PairOp → PairOperands → ℕ → List Bits
 pairFields op o imm7 =
-    bits 31 30 (pairOpc op) ∷ bits 24 23 (modeCode (o .mode)) ∷ bits 22 22 (pairLoad op) ∷ bits 9 5 (o .base) ∷ bits 4 0 (o .first)
-    ∷ bits 14 10 (o .second) ∷ bits 21 15 imm7 ∷ []
+    bits 31 30 (pairOpc op) ∷ bits 26 26 (pairVector op) ∷ bits 24 23 (modeCode (o .mode)) ∷ bits 22 22 (pairLoad op) ∷ bits 9 5 (o .base)
+    ∷ bits 4 0 (o .first) ∷ bits 14 10 (o .second) ∷ bits 21 15 imm7 ∷ []
 
 unfoldable pub pairWord : PairOp → PairOperands → Field
 pairWord op o = withBits (bitsOf 64 (pairBytes op) (o .offset)) (λ b. wordWith (fixed Row.PairRow) (pairFields op o b))
@@ -53,12 +54,16 @@ pairWord op o = withBits (bitsOf 64 (pairBytes op) (o .offset)) (λ b. wordWith 
 -- the families with a size, and their own fields
 abbrev pub sizedFields : SizedOp → ℕ → ℕ → List Bits → List Bits
 sizedFields op base target own =
-    bits 31 30 (sizeOf op) ∷ bits 23 22 (opcOf op) ∷ bits 9 5 base ∷ bits 4 0 target ∷ own
+    bits 31 30 (sizeOf op) ∷ bits 26 26 (vectorOf op) ∷ bits 23 22 (opcOf op) ∷ bits 9 5 base ∷ bits 4 0 target ∷ own
 
 -- imm9, in four families
 unfoldable pub signedWord : ℕ → SizedOp → OffsetOperands → Field
 signedWord f op o =
     withBits (bitsOf 256 1 (o .offset)) (λ b. wordWith f (sizedFields op (o .base) (o .target) (bits 20 12 b ∷ [])))
+
+-- ordered with bit 26 = 1 stays outside
+unfoldable pub orderedWord : SizedOp → OffsetOperands → Field
+orderedWord op o = pick (eqb (vectorOf op) 0) (signedWord (fixed Row.OrderedRow) op o) Field.Unfit
 
 -- Rm, option and S
 abbrev pub indexFields : IndexOperands → List Bits
@@ -88,7 +93,7 @@ abbrev pub wordOf : Family → Field
 wordOf Family.Empty = Field.Unfit
 wordOf (Family.Literal op o) = literalWord op o
 wordOf (Family.Pair op o) = pairWord op o
-wordOf (Family.Ordered op o) = signedWord (fixed Row.OrderedRow) op o
+wordOf (Family.Ordered op o) = orderedWord op o
 wordOf (Family.Unscaled op o) = signedWord (fixed Row.UnscaledRow) op o
 wordOf (Family.PostIndex op o) = signedWord (fixed Row.PostRow) op o
 wordOf (Family.PreIndex op o) = signedWord (fixed Row.PreRow) op o

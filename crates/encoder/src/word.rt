@@ -14,7 +14,7 @@ use instruction::Row;
 use instruction::SizedOp;
 ghost use mathlib.Core.Path.{_≡_};
 ghost use Prim.Native.Nat.{_<_, _≤_};
-ghost use Rattle.encoder.specs.Encoding.{fixed, wordWith, literalFields, literalWord, pairFields, pairWord, signedWord, indexWord, unsignedWord, exclusiveWord, wordOf};
+ghost use Rattle.encoder.specs.Encoding.{fixed, wordWith, literalFields, literalWord, pairFields, pairWord, signedWord, orderedWord, indexWord, unsignedWord, exclusiveWord, wordOf};
 ghost use Rattle.encoder.specs.route.Sized.{sizedWord};
 
 pub fn word_of(family: Family) -> Field
@@ -24,7 +24,7 @@ pub fn word_of(family: Family) -> Field
         Family::Empty => Field::Unfit,
         Family::Literal(op, o) => literal_word(op, o),
         Family::Pair(op, o) => pair_word(op, o),
-        Family::Ordered(op, o) => signed_word(0x1900_0000, op, o),
+        Family::Ordered(op, o) => ordered_word(op, o),
         Family::Unscaled(op, o) => signed_word(0x3800_0000, op, o),
         Family::PostIndex(op, o) => signed_word(0x3800_0400, op, o),
         Family::PreIndex(op, o) => signed_word(0x3800_0c00, op, o),
@@ -60,7 +60,9 @@ fn literal_sum(op: LiteralOp, target: u32, imm19: u32) -> Field
     if 32 <= target {
         return Field::Unfit;
     }
-    Field::Holds(0x1800_0000 + instruction::literal_opc(op) * 0x4000_0000 + target + imm19 * 32)
+    let code = instruction::literal_opc(op) * 0x4000_0000
+        + instruction::literal_vector(op) * 0x400_0000;
+    Field::Holds(0x1800_0000 + code + target + imm19 * 32)
 }
 
 fn pair_word(op: PairOp, o: PairOperands) -> Field
@@ -92,6 +94,7 @@ fn pair_sum(op: PairOp, o: PairOperands, imm7: u32) -> Field
     }
     let registers = base * 32 + first + second * 0x400;
     let code = instruction::pair_opc(op) * 0x4000_0000
+        + instruction::pair_vector(op) * 0x400_0000
         + instruction::mode_code(mode) * 0x80_0000
         + instruction::pair_load(op) * 0x40_0000;
     Field::Holds(0x2800_0000 + code + registers + imm7 * 0x8000)
@@ -109,8 +112,20 @@ fn sized_word(op: SizedOp, base: u32, target: u32, own: u32) -> Field
         return Field::Unfit;
     }
     let size = instruction::size_field(op);
+    let vector = instruction::vector_field(op);
     let opc = instruction::opc_field(op);
-    Field::Holds(size * 0x4000_0000 + opc * 0x40_0000 + base * 32 + target + own)
+    let code = size * 0x4000_0000 + vector * 0x400_0000 + opc * 0x40_0000;
+    Field::Holds(code + base * 32 + target + own)
+}
+
+// The ordered family has no vector forms.
+fn ordered_word(op: SizedOp, o: OffsetOperands) -> Field
+    ensures { λ r. ⌜ r ≡ orderedWord op o ⌝ }
+{
+    if instruction::vector_field(op) == 0 {
+        return signed_word(0x1900_0000, op, o);
+    }
+    Field::Unfit
 }
 
 fn signed_word(row: u32, op: SizedOp, o: OffsetOperands) -> Field

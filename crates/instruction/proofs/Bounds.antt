@@ -13,7 +13,7 @@ use Rattle.instruction.specs.route.Bounds.{LiteralBounds, PairBounds, Of
 use Rattle.instruction.proofs.Codes.{sized, paired}
 
 -- the bound of imm9 is within that of imm12
-pub wider : {o : OffsetOperands} → OffsetBounds 256 o → OffsetBounds 32760 o
+pub wider : {o : OffsetOperands} → OffsetBounds 256 o → OffsetBounds 65520 o
 wider b = record { target = b .target; base = b .base; offset = omega (arith, b .offset) }
 
 module _ (w : ℕ) where
@@ -26,7 +26,7 @@ module _ (w : ℕ) where
   pair-bounds =
       let op = pairOpIn w in
       let most = signed-most 64 (pairBytes op) (field 21 15 w) (part-lt 15 7 w) in
-      let eight : 64 * pairBytes op ≤ 64 * 8 = mul-le-mul-left 64 (paired op .most) in
+      let sixteen : 64 * pairBytes op ≤ 64 * 16 = mul-le-mul-left 64 (paired op .most) in
       record { first = part-lt 0 5 w; second = part-lt 10 5 w; base = part-lt 5 5 w; offset = omega arith }
 
   pub signed-bounds : OffsetBounds 256 (signedIn w)
@@ -37,11 +37,11 @@ module _ (w : ℕ) where
   unfolding indexIn
   index-bounds = record { target = part-lt 0 5 w; base = part-lt 5 5 w; index = part-lt 16 5 w; scaled = part-lt 12 1 w }
 
-  pub unsigned-bounds : (op : SizedOp) → OffsetBounds 32760 (unsignedIn op w)
+  pub unsigned-bounds : (op : SizedOp) → OffsetBounds 65520 (unsignedIn op w)
   unfolding unsignedIn
   unsigned-bounds op =
       let below : field 21 10 w ≤ 4095 = omega (arith, part-lt 10 12 w) in
-      let most : field 21 10 w * sizedBytes op ≤ 4095 * 8 = mul-le-mul below (sized op .most) in
+      let most : field 21 10 w * sizedBytes op ≤ 4095 * 16 = mul-le-mul below (sized op .most) in
       record { target = part-lt 0 5 w; base = part-lt 5 5 w; offset = omega arith }
 
   pub exclusive-bounds : ExclusiveBounds (exclusiveIn w)

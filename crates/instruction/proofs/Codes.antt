@@ -1,19 +1,20 @@
 -- The codes of operations: how large they are, and how they lead back to the operations. Assumes nothing.
-use Prim.Native.Nat.{ℕ, _+_, _*_, _≤_, _<_}
-use mathlib.Core.Path.{_≡_, refl}
-use mathlib.Core.Bool.{Bool, true, _||_, or-false}
+use Prim.Native.Nat.{ℕ, _+_, _*_, _/_, _%_, _≤_, _<_}
+use mathlib.Core.Path.{_≡_, refl, sym, ap, _∙_}
+use mathlib.Core.Bool.{Bool, true, false, _||_, or-false}
 use native.Mathlib.Nat.{one-le-pow, pow-le-pow-right}
 use native.Mathlib.Omega.{arith}
 use lib.Dec.{eqb, ltb}
 use borrow.Author.Tests.{eqb-true, ne-eqb, ltb-true, le-ltb}
-use Rattle.bits.specs.Choice.{byCode}
+use Rattle.bits.specs.Choice.{byCode, any}
 use Rattle.bits.proofs.Choices.{pick-by, tested, every, each}
 use Rattle.instruction.specs.Types.{SizedOp, PairOp, LiteralOp, PairMode, AccessSize, ExclusiveOp, StoreExclusiveOp}
-use Rattle.instruction.specs.Operations.{sizedCode, sizeOf, opcOf, scaleOf, sizedBytes, sizedOps, sizedAt, literalOpc, literalOps, literalAt, pairCode, pairOpc, pairLoad, pairBytes, pairOps, pairAt, modeCode, modes, modeAt, exclusiveCode, exclusiveOps, exclusiveAt, storeExclusiveCode, storeExclusiveAt, accessScale, accessSizes, sizeAt}
+use Rattle.instruction.specs.Operations.{sizedCode, vectorOf, sizeOf, opcOf, scaleOf, sizedBytes, sizedOps, sizedAt, literalCode, literalVector, literalOpc, literalOps, literalAt, pairCode, pairVector, pairOpc, pairLoad, pairBytes, pairOps, pairAt, modeCode, modes, modeAt, exclusiveCode, exclusiveOps, exclusiveAt, storeExclusiveCode, storeExclusiveAt, accessScale, accessSizes, sizeAt}
+use Rattle.instruction.specs.Undefined.{undefinedCodes}
 
 -- ---- from an operation to its code and back: each is found by its code, so a test that is computed for all shows a fact of each
 
-pub sized-at : (op : SizedOp) → sizedAt (sizeOf op * 4 + opcOf op) ≡ op
+pub sized-at : (op : SizedOp) → sizedAt (vectorOf op * 16 + sizeOf op * 4 + opcOf op) ≡ op
 unfolding sizedAt
 sized-at SizedOp.StoreByte = refl
 sized-at SizedOp.LoadByte = refl
@@ -29,21 +30,40 @@ sized-at SizedOp.LoadSignedWord64 = refl
 sized-at SizedOp.StoreDouble = refl
 sized-at SizedOp.LoadDouble = refl
 sized-at SizedOp.Prefetch = refl
+sized-at SizedOp.StoreVectorByte = refl
+sized-at SizedOp.LoadVectorByte = refl
+sized-at SizedOp.StoreVectorQuad = refl
+sized-at SizedOp.LoadVectorQuad = refl
+sized-at SizedOp.StoreVectorHalf = refl
+sized-at SizedOp.LoadVectorHalf = refl
+sized-at SizedOp.StoreVectorWord = refl
+sized-at SizedOp.LoadVectorWord = refl
+sized-at SizedOp.StoreVectorDouble = refl
+sized-at SizedOp.LoadVectorDouble = refl
 
-pub literal-at : (op : LiteralOp) → literalAt (literalOpc op) ≡ op
+pub literal-at : (op : LiteralOp) → literalAt (literalVector op * 4 + literalOpc op) ≡ op
 unfolding literalAt
 literal-at LiteralOp.LiteralWord = refl
 literal-at LiteralOp.LiteralDouble = refl
 literal-at LiteralOp.LiteralSignedWord = refl
 literal-at LiteralOp.LiteralPrefetch = refl
+literal-at LiteralOp.LiteralVectorWord = refl
+literal-at LiteralOp.LiteralVectorDouble = refl
+literal-at LiteralOp.LiteralVectorQuad = refl
 
-pub pair-at : (op : PairOp) → pairAt (pairOpc op * 2 + pairLoad op) ≡ op
+pub pair-at : (op : PairOp) → pairAt (pairVector op * 8 + pairOpc op * 2 + pairLoad op) ≡ op
 unfolding pairAt
 pair-at PairOp.StoreWords = refl
 pair-at PairOp.LoadWords = refl
 pair-at PairOp.LoadSignedWords = refl
 pair-at PairOp.StoreDoubles = refl
 pair-at PairOp.LoadDoubles = refl
+pair-at PairOp.StoreVectorWords = refl
+pair-at PairOp.LoadVectorWords = refl
+pair-at PairOp.StoreVectorDoubles = refl
+pair-at PairOp.LoadVectorDoubles = refl
+pair-at PairOp.StoreVectorQuads = refl
+pair-at PairOp.LoadVectorQuads = refl
 
 pub mode-at : (m : PairMode) → modeAt (modeCode m) ≡ m
 unfolding modeAt
@@ -75,51 +95,85 @@ size-at AccessSize.Double = refl
 
 pub each-sized : (p : SizedOp → Bool) → every p SizedOp.Prefetch (byCode sizedCode sizedOps) ≡ true → (op : SizedOp) → p op ≡ true
 unfolding sizedAt
-each-sized p h op = each SizedOp.Prefetch (byCode sizedCode sizedOps) (λ x. sizeOf x * 4 + opcOf x) sized-at p h op
+each-sized p h op = each SizedOp.Prefetch (byCode sizedCode sizedOps) (λ x. vectorOf x * 16 + sizeOf x * 4 + opcOf x) sized-at p h op
 
-code-below : (op : SizedOp) → sizedCode op < 16
-code-below op = ltb-true (sizedCode op) 16 (each-sized (λ x. ltb (sizedCode x) 16) refl op)
+pub code-below : (op : SizedOp) → sizedCode op < 32
+code-below op = ltb-true (sizedCode op) 32 (each-sized (λ x. ltb (sizedCode x) 32) refl op)
+
+-- by its whole code
+pub sized-whole : (op : SizedOp) → sizedAt (sizedCode op) ≡ op
+sized-whole op =
+    let e : sizedCode op ≡ vectorOf op * 16 + sizeOf op * 4 + opcOf op = omega (arith, code-below op) in
+    ap sizedAt e ∙ sized-at op
 
 pub record Sized (op : SizedOp) : Type 0 where
+  pub vector : vectorOf op < 2
   pub size : sizeOf op < 4
   pub opc : opcOf op < 4
+  pub scale : scaleOf op < 5
   pub some : 0 < sizedBytes op
-  pub most : sizedBytes op ≤ 8
+  pub most : sizedBytes op ≤ 16
 
 pub sized : (op : SizedOp) → Sized op
 sized op =
-    let size : sizeOf op < 4 = omega (arith, code-below op) in
+    let size : sizeOf op < 4 = omega arith in
+    let scale : scaleOf op < 5 = pick-by (λ n. n < 5) (eqb (sizedCode op / 2) 0b1_00_1) (λ e. omega arith) (λ e. omega arith) in
     record {
+      vector = omega (arith, code-below op);
       size = size;
       opc = omega arith;
+      scale = scale;
       some = one-le-pow (scaleOf op) 2 (omega arith);
-      most = pow-le-pow-right {n = 2} (omega arith) {i = scaleOf op} {j = 3} (omega arith);
+      most = pow-le-pow-right {n = 2} (omega arith) {i = scaleOf op} {j = 4} (omega (arith, scale));
     }
 
-pub literal-below : (op : LiteralOp) → literalOpc op < 4
+literal-code-below : (op : LiteralOp) → literalCode op < 8
 unfolding literalAt
-literal-below op =
-    ltb-true (literalOpc op) 4
-    (each LiteralOp.LiteralPrefetch (byCode literalOpc literalOps) literalOpc literal-at (λ x. ltb (literalOpc x) 4) refl op)
+literal-code-below op =
+    ltb-true (literalCode op) 8
+    (each LiteralOp.LiteralPrefetch (byCode literalCode literalOps) (λ x. literalVector x * 4 + literalOpc x) literal-at (λ x. ltb (literalCode x) 8) refl op)
 
-pair-below : (op : PairOp) → pairCode op < 6
+pub literal-whole : (op : LiteralOp) → literalAt (literalCode op) ≡ op
+literal-whole op =
+    let e : literalCode op ≡ literalVector op * 4 + literalOpc op = omega (arith, literal-code-below op) in
+    ap literalAt e ∙ literal-at op
+
+pub record Lettered (op : LiteralOp) : Type 0 where
+  pub vector : literalVector op < 2
+  pub opc : literalOpc op < 4
+
+pub lettered : (op : LiteralOp) → Lettered op
+lettered op = record { vector = omega (arith, literal-code-below op); opc = omega arith }
+
+-- a test that is computed for each pair
+pub each-pair : (p : PairOp → Bool) → every p PairOp.LoadDoubles (byCode pairCode pairOps) ≡ true → (op : PairOp) → p op ≡ true
 unfolding pairAt
-pair-below op =
-    ltb-true (pairCode op) 6 (each PairOp.LoadDoubles (byCode pairCode pairOps) (λ x. pairOpc x * 2 + pairLoad x) pair-at (λ x. ltb (pairCode x) 6) refl op)
+each-pair p h op =
+    each PairOp.LoadDoubles (byCode pairCode pairOps) (λ x. pairVector x * 8 + pairOpc x * 2 + pairLoad x) pair-at p h op
+
+pub pair-below : (op : PairOp) → pairCode op < 16
+pair-below op = ltb-true (pairCode op) 16 (each-pair (λ x. ltb (pairCode x) 16) refl op)
+
+pub pair-whole : (op : PairOp) → pairAt (pairCode op) ≡ op
+pair-whole op =
+    let e : pairCode op ≡ pairVector op * 8 + pairOpc op * 2 + pairLoad op = omega (arith, pair-below op) in
+    ap pairAt e ∙ pair-at op
 
 pub record Paired (op : PairOp) : Type 0 where
+  pub vector : pairVector op < 2
   pub opc : pairOpc op < 4
   pub load : pairLoad op < 2
   pub some : 0 < pairBytes op
-  pub most : pairBytes op ≤ 8
+  pub most : pairBytes op ≤ 16
 
 pub paired : (op : PairOp) → Paired op
 paired op =
     record {
-      opc = omega (arith, pair-below op);
+      vector = omega (arith, pair-below op);
+      opc = omega arith;
       load = omega arith;
-      some = pick-by (λ n. 0 < n) (eqb (pairOpc op) 0b10) (λ e. omega arith) (λ e. omega arith);
-      most = pick-by (λ n. n ≤ 8) (eqb (pairOpc op) 0b10) (λ e. omega arith) (λ e. omega arith);
+      some = ltb-true 0 (pairBytes op) (each-pair (λ x. ltb 0 (pairBytes x)) refl op);
+      most = omega (arith, ltb-true (pairBytes op) 17 (each-pair (λ x. ltb (pairBytes x) 17) refl op));
     }
 
 pub mode-below : (mode : PairMode) → modeCode mode < 4
@@ -145,26 +199,32 @@ scale-below size =
 
 -- ---- from a code to its operation and back
 
-sizedTest : ℕ → Bool
-sizedTest k = eqb (sizeOf (sizedAt k) * 4 + opcOf (sizedAt k)) k || (eqb k 0b10_11 || eqb k 0b11_11)
+one-of : (a b : Bool) → (a || b) ≡ true → b ≡ false → a ≡ true
+one-of true b h e = refl
+one-of false b h e = sym e ∙ h
 
-pub sized-code : (k : ℕ) → k < 16 → ¬ (k ≡ 0b10_11) → ¬ (k ≡ 0b11_11) → sizeOf (sizedAt k) * 4 + opcOf (sizedAt k) ≡ k
+sizedTest : ℕ → Bool
+sizedTest k = eqb (vectorOf (sizedAt k) * 16 + sizeOf (sizedAt k) * 4 + opcOf (sizedAt k)) k || any (eqb k) undefinedCodes
+
+pub sized-code : (k : ℕ) → k < 32 → any (eqb k) undefinedCodes ≡ false → vectorOf (sizedAt k) * 16 + sizeOf (sizedAt k) * 4 + opcOf (sizedAt k) ≡ k
 unfolding sizedTest sizedAt
-sized-code k h a b = eqb-true _ _ (simp (ne-eqb k 0b10_11 a, ne-eqb k 0b11_11 b, or-false) at (tested 16 sizedTest refl k h))
+sized-code k h a = eqb-true _ _ (one-of _ (any (eqb k) undefinedCodes) (tested 32 sizedTest refl k h) a)
 
 literalTest : ℕ → Bool
-literalTest k = eqb (literalOpc (literalAt k)) k
+literalTest k = eqb (literalVector (literalAt k) * 4 + literalOpc (literalAt k)) k || eqb k 0b1_11
 
-pub literal-code : (k : ℕ) → k < 4 → literalOpc (literalAt k) ≡ k
+pub literal-code : (k : ℕ) → k < 8 → eqb k 0b1_11 ≡ false → literalVector (literalAt k) * 4 + literalOpc (literalAt k) ≡ k
 unfolding literalTest literalAt
-literal-code k h = eqb-true _ _ (tested 4 literalTest refl k h)
+literal-code k h a = eqb-true _ _ (one-of _ (eqb k 0b1_11) (tested 8 literalTest refl k h) a)
 
 pairTest : ℕ → Bool
-pairTest k = eqb (pairOpc (pairAt k) * 2 + pairLoad (pairAt k)) k || eqb k 0b01_0
+pairTest k = eqb (pairVector (pairAt k) * 8 + pairOpc (pairAt k) * 2 + pairLoad (pairAt k)) k || (eqb k 0b0_01_0 || eqb (k / 2 % 4) 0b11)
 
-pub pair-code : (k : ℕ) → k < 6 → ¬ (k ≡ 0b01_0) → pairOpc (pairAt k) * 2 + pairLoad (pairAt k) ≡ k
+pub pair-code : (k : ℕ) → k < 16 → ¬ (k ≡ 0b0_01_0) → ¬ (k / 2 % 4 ≡ 0b11)
+    → pairVector (pairAt k) * 8 + pairOpc (pairAt k) * 2 + pairLoad (pairAt k) ≡ k
 unfolding pairTest pairAt
-pair-code k h a = eqb-true _ _ (simp (ne-eqb k 0b01_0 a, or-false) at (tested 6 pairTest refl k h))
+pair-code k h a b =
+    eqb-true _ _ (one-of _ (eqb k 0b0_01_0 || eqb (k / 2 % 4) 0b11) (tested 16 pairTest refl k h) (rw (ne-eqb k 0b0_01_0 a) (ne-eqb (k / 2 % 4) 0b11 b)))
 
 modeTest : ℕ → Bool
 modeTest k = eqb (modeCode (modeAt k)) k

@@ -8,9 +8,9 @@ use Rattle.bits.specs.Fields.{part}
 use Rattle.bits.specs.Signed.{signedOf}
 use Rattle.instruction.specs.Types.{Family, SizedOp, PairOp, LiteralOp, PairMode, AccessSize, ExclusiveOp, StoreExclusiveOp}
 use Rattle.instruction.specs.Operations.{sizedAt, literalAt, pairAt, modeAt, exclusiveAt, storeExclusiveAt, sizeAt}
-use Rattle.instruction.specs.Undefined.{undefinedSize, undefinedPrefetch, undefinedOption, undefinedPair, undefinedSecond, undefinedUnused}
-use Rattle.instruction.specs.Unpredictable.{baseIs, unpredictablePair, unpredictableStatus}
-use Rattle.instruction.specs.Operands.{sizedIn, literalIn, pairOpIn, pairIn, signedIn, indexIn, unsignedIn, exclusiveOpIn, storeExclusiveOpIn, exclusiveIn, storeExclusiveIn}
+use Rattle.instruction.specs.Undefined.{undefinedSize, undefinedPrefetch, undefinedOption, undefinedLiteral, undefinedPair, undefinedSecond, undefinedUnused}
+use Rattle.instruction.specs.Unpredictable.{baseIs, overBase, unpredictablePair, unpredictableStatus}
+use Rattle.instruction.specs.Operands.{sizedIn, literalOpIn, literalIn, pairOpIn, pairIn, signedIn, indexIn, unsignedIn, exclusiveOpIn, storeExclusiveOpIn, exclusiveIn, storeExclusiveIn}
 use Rattle.instruction.specs.Table.{inSet, rowOf, undefined, unpredictable, instructionOf}
 
 abbrev Decodes : List (ℕ × Family) → Type 0
@@ -34,12 +34,16 @@ examples =
     ∷ (0xc8dffc20, Family.Exclusive ExclusiveOp.LoadAcquire (record { size = AccessSize.Double; target = 0; base = 1 }))
     ∷ (0xc8027c20, Family.StoreExclusive StoreExclusiveOp.StorePlainExclusive (record { size = AccessSize.Double; status = 2; target = 0; base = 1 }))
     ∷ (0x4802fc20, Family.StoreExclusive StoreExclusiveOp.StoreReleaseExclusive (record { size = AccessSize.Half; status = 2; target = 0; base = 1 }))
+    ∷ (0x3ce27820, Family.Register SizedOp.LoadVectorQuad (record { target = 0; base = 1; index = 2; option = 3; scaled = 1 }))
+    ∷ (0x6dbf27e8, Family.Pair PairOp.StoreVectorDoubles (record { first = 8; second = 9; base = 31; mode = PairMode.Pre; offset = negsuc 15 }))
+    ∷ (0x1cffffe3, Family.Literal LiteralOp.LiteralVectorWord (record { target = 3; offset = negsuc 3 }))
+    ∷ (0x3dfffc3f, Family.Unsigned SizedOp.LoadVectorQuad (record { target = 31; base = 1; offset = pos 65520 }))
     ∷ []
 
 pub starred-instructions : Decodes examples
-unfolding instructionOf rowOf part signedOf sizedAt literalAt pairAt modeAt sizedIn literalIn pairOpIn pairIn signedIn indexIn unsignedIn
+unfolding instructionOf rowOf part signedOf sizedAt literalAt pairAt modeAt sizedIn literalOpIn literalIn pairOpIn pairIn signedIn indexIn unsignedIn
     exclusiveAt storeExclusiveAt sizeAt exclusiveOpIn storeExclusiveOpIn exclusiveIn storeExclusiveIn
-starred-instructions = (refl, (refl, (refl, (refl, (refl, (refl, (refl, (refl, (refl, (refl, (refl, (refl, (refl, (refl, (refl, tt)))))))))))))))
+starred-instructions = (refl, (refl, (refl, (refl, (refl, (refl, (refl, (refl, (refl, (refl, (refl, (refl, (refl, (refl, (refl, (refl, (refl, (refl, (refl, tt)))))))))))))))))))
 
 -- whether a word is of the set, undefined and unpredictable
 abbrev Sorted : List (ℕ × Bool × Bool × Bool) → Type 0
@@ -66,10 +70,17 @@ answered =
     ∷ (0xc8017c20, true, false, true)
     ∷ (0xc81f7fe0, true, false, false)
     ∷ (0xc8027c21, true, false, false)
+    ∷ (0x1d400020, false, false, false)
+    ∷ (0x7c800020, true, true, false)
+    ∷ (0xdc000000, true, true, false)
+    ∷ (0xec000000, true, true, false)
+    ∷ (0x6cc00421, true, false, true)
+    ∷ (0x6cc00821, true, false, false)
+    ∷ (0xfc408421, true, false, false)
     ∷ []
 
 pub starred-answers : Sorted answered
-unfolding rowOf inSet part undefined undefinedSize undefinedPrefetch undefinedOption undefinedPair unpredictable baseIs unpredictablePair
+unfolding rowOf inSet part undefined undefinedSize undefinedPrefetch undefinedOption undefinedLiteral undefinedPair unpredictable baseIs overBase unpredictablePair
     undefinedSecond undefinedUnused unpredictableStatus
 starred-answers =
-    (refl, refl, refl, (refl, refl, refl, (refl, refl, refl, (refl, refl, refl, (refl, refl, refl, (refl, refl, refl, (refl, refl, refl, (refl, refl, refl, (refl, refl, refl, (refl, refl, refl, (refl, refl, refl, (refl, refl, refl, (refl, refl, refl, (refl, refl, refl, (refl, refl, refl, (refl, refl, refl, tt))))))))))))))))
+    (refl, refl, refl, (refl, refl, refl, (refl, refl, refl, (refl, refl, refl, (refl, refl, refl, (refl, refl, refl, (refl, refl, refl, (refl, refl, refl, (refl, refl, refl, (refl, refl, refl, (refl, refl, refl, (refl, refl, refl, (refl, refl, refl, (refl, refl, refl, (refl, refl, refl, (refl, refl, refl, (refl, refl, refl, (refl, refl, refl, (refl, refl, refl, (refl, refl, refl, (refl, refl, refl, (refl, refl, refl, (refl, refl, refl, tt)))))))))))))))))))))))

@@ -27,14 +27,14 @@ no-row w = go (matches w Row.NoRow) refl
 pub row-is : (w : ℕ) (r : Row) → Has w (columnsOf r .fixed) → rowOf w ≡ r
 unfolding rowOf
 row-is w Row.NoRow h = absurd (omega arith)
-row-is w Row.LiteralRow h = simp (h .0, h .1 .0, h .1 .1 .0)
-row-is w Row.PairRow h = simp (h .0, h .1 .0, h .1 .1 .0)
+row-is w Row.LiteralRow h = simp (h .0, h .1 .0)
+row-is w Row.PairRow h = simp (h .0, h .1 .0)
 row-is w Row.OrderedRow h = simp (h .0, h .1 .0, h .1 .1 .0, h .1 .1 .1 .0, h .1 .1 .1 .1 .0)
-row-is w Row.UnscaledRow h = simp (h .0, h .1 .0, h .1 .1 .0, h .1 .1 .1 .0, h .1 .1 .1 .1 .0)
-row-is w Row.PostRow h = simp (h .0, h .1 .0, h .1 .1 .0, h .1 .1 .1 .0, h .1 .1 .1 .1 .0)
-row-is w Row.PreRow h = simp (h .0, h .1 .0, h .1 .1 .0, h .1 .1 .1 .0, h .1 .1 .1 .1 .0)
-row-is w Row.RegisterRow h = simp (h .0, h .1 .0, h .1 .1 .0, h .1 .1 .1 .0, h .1 .1 .1 .1 .0)
-row-is w Row.UnsignedRow h = simp (h .0, h .1 .0, h .1 .1 .0)
+row-is w Row.UnscaledRow h = simp (h .0, h .1 .0, h .1 .1 .0, h .1 .1 .1 .0)
+row-is w Row.PostRow h = simp (h .0, h .1 .0, h .1 .1 .0, h .1 .1 .1 .0)
+row-is w Row.PreRow h = simp (h .0, h .1 .0, h .1 .1 .0, h .1 .1 .1 .0)
+row-is w Row.RegisterRow h = simp (h .0, h .1 .0, h .1 .1 .0, h .1 .1 .1 .0)
+row-is w Row.UnsignedRow h = simp (h .0, h .1 .0)
 row-is w Row.LoadExclusiveRow h = simp (h .0, h .1 .0, h .1 .1 .0, h .1 .1 .1 .0, h .1 .1 .1 .1 .0, h .1 .1 .1 .1 .1 .0)
 row-is w Row.StoreExclusiveRow h = simp (h .0, h .1 .0, h .1 .1 .0, h .1 .1 .1 .0, h .1 .1 .1 .1 .0, h .1 .1 .1 .1 .1 .0)
 row-is w Row.AcquireReleaseRow h = simp (h .0, h .1 .0, h .1 .1 .0, h .1 .1 .1 .0, h .1 .1 .1 .1 .0, h .1 .1 .1 .1 .1 .0)
@@ -93,9 +93,9 @@ rowed w e =
     }
 
 -- what isn't undefined where more is than its size
-pub prefetch-no : (w : ℕ) → undefinedPrefetch w ≡ false → (undefinedSize w ≡ false) × (eqb (sizeOpc w) 0b11_10 ≡ false)
+pub prefetch-no : (w : ℕ) → undefinedPrefetch w ≡ false → (undefinedSize w ≡ false) × (eqb (sizeOpc w) 0b0_11_10 ≡ false)
 unfolding undefinedPrefetch
-prefetch-no w u = neither (undefinedSize w) (eqb (sizeOpc w) 0b11_10) u
+prefetch-no w u = neither (undefinedSize w) (eqb (sizeOpc w) 0b0_11_10) u
 
 pub option-no : (w : ℕ) → undefinedOption w ≡ false → (undefinedSize w ≡ false) × (eqb (field 14 14 w) 0 ≡ false)
 unfolding undefinedOption
@@ -112,32 +112,35 @@ unused-no w u =
     let n = neither (undefinedSecond w) (not (eqb (field 20 16 w) 31)) u in
     (second-no w (n .0), eqb-true _ _ (not-false _ (n .1)))
 
--- ---- the keys of a row: bits 29..25, bit 24, and bits 21 and 11..10 as one number; for the ninth family bits 23, 22, 21 and 15
+-- ---- the keys of a row: bits 29..27 and 25, bit 24, and bits 21 and 11..10 as one number; for the ninth family bits 23, 22, 21 and
+-- 15; and bit 26, where it is 0 alone
+
+abbrev pub group : ℕ → ℕ
+group w = field 29 27 w * 2 + field 25 25 w
 
 abbrev pub form : ℕ → ℕ
 form w = field 21 21 w * 4 + field 11 10 w
 
 abbrev pub Keys : ℕ → Row → Type 0
 Keys w Row.NoRow = ⊥
-Keys w Row.LiteralRow = (field 29 25 w ≡ 0b01100) × (field 24 24 w ≡ 0)
-Keys w Row.PairRow = field 29 25 w ≡ 0b10100
-Keys w Row.OrderedRow = (field 29 25 w ≡ 0b01100) × (field 24 24 w ≡ 1) × (form w ≡ 0b000)
-Keys w Row.UnscaledRow = (field 29 25 w ≡ 0b11100) × (field 24 24 w ≡ 0) × (form w ≡ 0b000)
-Keys w Row.PostRow = (field 29 25 w ≡ 0b11100) × (field 24 24 w ≡ 0) × (form w ≡ 0b001)
-Keys w Row.PreRow = (field 29 25 w ≡ 0b11100) × (field 24 24 w ≡ 0) × (form w ≡ 0b011)
-Keys w Row.RegisterRow = (field 29 25 w ≡ 0b11100) × (field 24 24 w ≡ 0) × (form w ≡ 0b110)
-Keys w Row.UnsignedRow = (field 29 25 w ≡ 0b11100) × (field 24 24 w ≡ 1)
+Keys w Row.LiteralRow = (group w ≡ 0b011_0) × (field 24 24 w ≡ 0)
+Keys w Row.PairRow = group w ≡ 0b101_0
+Keys w Row.OrderedRow = (group w ≡ 0b011_0) × (field 24 24 w ≡ 1) × (field 26 26 w ≡ 0) × (form w ≡ 0b000)
+Keys w Row.UnscaledRow = (group w ≡ 0b111_0) × (field 24 24 w ≡ 0) × (form w ≡ 0b000)
+Keys w Row.PostRow = (group w ≡ 0b111_0) × (field 24 24 w ≡ 0) × (form w ≡ 0b001)
+Keys w Row.PreRow = (group w ≡ 0b111_0) × (field 24 24 w ≡ 0) × (form w ≡ 0b011)
+Keys w Row.RegisterRow = (group w ≡ 0b111_0) × (field 24 24 w ≡ 0) × (form w ≡ 0b110)
+Keys w Row.UnsignedRow = (group w ≡ 0b111_0) × (field 24 24 w ≡ 1)
 Keys w Row.LoadExclusiveRow =
-    (field 29 25 w ≡ 0b00100) × (field 24 24 w ≡ 0) × (field 21 21 w ≡ 0) × (field 23 23 w ≡ 0) × (field 22 22 w ≡ 1)
+    (group w ≡ 0b001_0) × (field 24 24 w ≡ 0) × (field 26 26 w ≡ 0) × (field 21 21 w ≡ 0) × (field 23 23 w ≡ 0) × (field 22 22 w ≡ 1)
 Keys w Row.StoreExclusiveRow =
-    (field 29 25 w ≡ 0b00100) × (field 24 24 w ≡ 0) × (field 21 21 w ≡ 0) × (field 23 23 w ≡ 0) × (field 22 22 w ≡ 0)
+    (group w ≡ 0b001_0) × (field 24 24 w ≡ 0) × (field 26 26 w ≡ 0) × (field 21 21 w ≡ 0) × (field 23 23 w ≡ 0) × (field 22 22 w ≡ 0)
 Keys w Row.AcquireReleaseRow =
-    (field 29 25 w ≡ 0b00100) × (field 24 24 w ≡ 0) × (field 21 21 w ≡ 0) × (field 23 23 w ≡ 1) × (field 15 15 w ≡ 1)
+    (group w ≡ 0b001_0) × (field 24 24 w ≡ 0) × (field 26 26 w ≡ 0) × (field 21 21 w ≡ 0) × (field 23 23 w ≡ 1) × (field 15 15 w ≡ 1)
 
 module _ (w : ℕ) where
   -- how the keys and the columns of the table cut the same bits
   record Cuts : Type 0 where
-    group : part 25 5 w ≡ part 25 1 w + (part 26 1 w + part 27 3 w * 2) * 2
     pair : part 24 2 w ≡ part 24 1 w + part 25 1 w * 2
     below-27 : part 27 3 w < 8
     below-26 : part 26 1 w < 2
@@ -148,7 +151,6 @@ module _ (w : ℕ) where
   cuts : Cuts
   cuts =
       record {
-        group = omega (arith, cut (5 ∷ []) 25 w, cut (1 ∷ 1 ∷ 3 ∷ []) 25 w);
         pair = omega (arith, cut (2 ∷ []) 24 w, cut (1 ∷ 1 ∷ []) 24 w);
         below-27 = part-lt 27 3 w;
         below-26 = part-lt 26 1 w;

@@ -1,23 +1,29 @@
--- The operation and the operands of a word: 01, "What a word says" and the column "Fields" of its table; 02, CR 3.
+-- The operation and the operands of a word: 01, "What a word says" and the column "Fields" of its table; 02, CR 3 and CR 12.
 use Prim.Native.Nat.{ℕ, _+_, _*_}
 use lib.IntN.{pos}
 use Rattle.bits.specs.Fields.{field}
 use Rattle.bits.specs.Signed.{signedOf}
-use Rattle.instruction.specs.Types.{LiteralOperands, PairOperands, OffsetOperands, IndexOperands, ExclusiveOperands, StoreExclusiveOperands, SizedOp, PairOp, ExclusiveOp, StoreExclusiveOp}
-use Rattle.instruction.specs.Undefined.{sizeOpc}
-use Rattle.instruction.specs.Operations.{sizedAt, pairAt, modeAt, exclusiveAt, storeExclusiveAt, sizeAt, sizedBytes, pairBytes}
+use Rattle.instruction.specs.Types.{LiteralOperands, PairOperands, OffsetOperands, IndexOperands, ExclusiveOperands, StoreExclusiveOperands, SizedOp, LiteralOp, PairOp, ExclusiveOp, StoreExclusiveOp}
+use Rattle.instruction.specs.Undefined.{sizeOpc, literalBits}
+use Rattle.instruction.specs.Operations.{sizedAt, literalAt, pairAt, modeAt, exclusiveAt, storeExclusiveAt, sizeAt, sizedBytes, pairBytes}
 
 -- Rt is bits 4..0 and Rn bits 9..5
 unfoldable pub sizedIn : ℕ → SizedOp
 sizedIn w = sizedAt (sizeOpc w)
 
+unfoldable pub literalOpIn : ℕ → LiteralOp
+literalOpIn w = literalAt (literalBits w)
+
 -- imm19, times 4
 unfoldable pub literalIn : ℕ → LiteralOperands
 literalIn w = record { target = field 4 0 w; offset = signedOf 262144 4 (field 23 5 w) }
 
--- opc and L
+-- bit 26, opc and L
+abbrev pub pairBits : ℕ → ℕ
+pairBits w = field 26 26 w * 8 + field 31 30 w * 2 + field 22 22 w
+
 unfoldable pub pairOpIn : ℕ → PairOp
-pairOpIn w = pairAt (field 31 30 w * 2 + field 22 22 w)
+pairOpIn w = pairAt (pairBits w)
 
 -- Rt2, mode, and imm7 times the bytes of one register's access
 unfoldable pub pairIn : PairOp → ℕ → PairOperands
@@ -45,7 +51,7 @@ indexIn w =
       scaled = field 12 12 w;
     }
 
--- imm12 without sign, times 2 ^ size
+-- imm12 without sign, times 2 ^ scale
 unfoldable pub unsignedIn : SizedOp → ℕ → OffsetOperands
 unsignedIn op w = record { target = field 4 0 w; base = field 9 5 w; offset = pos (field 21 10 w * sizedBytes op) }
 

@@ -6,9 +6,8 @@ use mathlib.Core.List.{List, [], _∷_}
 use Rattle.bits.specs.Choice.{pick, any}
 use Rattle.bits.specs.Fields.{Bits, bits, field, has}
 use Rattle.instruction.specs.Types.{Row, Family, Instruction}
-use Rattle.instruction.specs.Operations.{literalAt}
-use Rattle.instruction.specs.Operands.{sizedIn, literalIn, pairOpIn, pairIn, signedIn, indexIn, unsignedIn, exclusiveOpIn, storeExclusiveOpIn, exclusiveIn, storeExclusiveIn}
-use Rattle.instruction.specs.Undefined.{undefinedSize, undefinedPrefetch, undefinedOption, undefinedPair, undefinedSecond, undefinedUnused}
+use Rattle.instruction.specs.Operands.{sizedIn, literalOpIn, literalIn, pairOpIn, pairIn, signedIn, indexIn, unsignedIn, exclusiveOpIn, storeExclusiveOpIn, exclusiveIn, storeExclusiveIn}
+use Rattle.instruction.specs.Undefined.{undefinedSize, undefinedPrefetch, undefinedOption, undefinedLiteral, undefinedPair, undefinedSecond, undefinedUnused}
 use Rattle.instruction.specs.Unpredictable.{unpredictableBase, unpredictablePair, unpredictableStatus}
 
 -- the bits that a word of the row has, when it is undefined and when unpredictable, and the family that it stands for
@@ -18,23 +17,24 @@ pub record Columns : Type 0 where
   pub unpredictable : ℕ → Bool
   pub family : ℕ → Family
 
--- "Only words with bit 26 = 0 (general registers)", and the columns "Bits 29..27", "25..24" and "Others"
+-- the columns "Bits 29..27", "25..24" and "Others". "Only words with bit 26 = 0 (general registers)" holds of the ordered and the
+-- ninth family; 02, CR 12, adds to the others the words with bit 26 = 1
 abbrev pub columns : List Bits → (ℕ → Bool) → (ℕ → Bool) → (ℕ → Family) → Columns
-columns others undefined unpredictable family =
-    record { fixed = bits 26 26 0 ∷ others; undefined = undefined; unpredictable = unpredictable; family = family }
+columns fixed undefined unpredictable family =
+    record { fixed = fixed; undefined = undefined; unpredictable = unpredictable; family = family }
 
 abbrev pub never : ℕ → Bool
 never w = false
 
 -- NoRow asks that bit 26 be 0 and 1, so no word matches it
 abbrev pub columnsOf : Row → Columns
-columnsOf Row.NoRow = columns (bits 26 26 1 ∷ []) never never (λ w. Family.Empty)
+columnsOf Row.NoRow = columns (bits 26 26 0 ∷ bits 26 26 1 ∷ []) never never (λ w. Family.Empty)
 columnsOf Row.LiteralRow =
-    columns (bits 29 27 0b011 ∷ bits 25 24 0b00 ∷ []) never never (λ w. Family.Literal (literalAt (field 31 30 w)) (literalIn w))
+    columns (bits 29 27 0b011 ∷ bits 25 24 0b00 ∷ []) undefinedLiteral never (λ w. Family.Literal (literalOpIn w) (literalIn w))
 columnsOf Row.PairRow =
     columns (bits 29 27 0b101 ∷ bits 25 25 0 ∷ []) undefinedPair unpredictablePair (λ w. Family.Pair (pairOpIn w) (pairIn (pairOpIn w) w))
 columnsOf Row.OrderedRow =
-    columns (bits 29 27 0b011 ∷ bits 25 24 0b01 ∷ bits 21 21 0 ∷ bits 11 10 0b00 ∷ [])
+    columns (bits 29 27 0b011 ∷ bits 26 26 0 ∷ bits 25 24 0b01 ∷ bits 21 21 0 ∷ bits 11 10 0b00 ∷ [])
     undefinedPrefetch never (λ w. Family.Ordered (sizedIn w) (signedIn w))
 columnsOf Row.UnscaledRow =
     columns (bits 29 27 0b111 ∷ bits 25 24 0b00 ∷ bits 21 21 0 ∷ bits 11 10 0b00 ∷ [])
@@ -51,13 +51,13 @@ columnsOf Row.RegisterRow =
 columnsOf Row.UnsignedRow =
     columns (bits 29 27 0b111 ∷ bits 25 24 0b01 ∷ []) undefinedSize never (λ w. Family.Unsigned (sizedIn w) (unsignedIn (sizedIn w) w))
 columnsOf Row.LoadExclusiveRow =
-    columns (bits 29 27 0b001 ∷ bits 25 24 0b00 ∷ bits 23 23 0 ∷ bits 22 22 1 ∷ bits 21 21 0 ∷ [])
+    columns (bits 29 27 0b001 ∷ bits 26 26 0 ∷ bits 25 24 0b00 ∷ bits 23 23 0 ∷ bits 22 22 1 ∷ bits 21 21 0 ∷ [])
     undefinedUnused never (λ w. Family.Exclusive (exclusiveOpIn w) (exclusiveIn w))
 columnsOf Row.StoreExclusiveRow =
-    columns (bits 29 27 0b001 ∷ bits 25 24 0b00 ∷ bits 23 23 0 ∷ bits 22 22 0 ∷ bits 21 21 0 ∷ [])
+    columns (bits 29 27 0b001 ∷ bits 26 26 0 ∷ bits 25 24 0b00 ∷ bits 23 23 0 ∷ bits 22 22 0 ∷ bits 21 21 0 ∷ [])
     undefinedSecond unpredictableStatus (λ w. Family.StoreExclusive (storeExclusiveOpIn w) (storeExclusiveIn w))
 columnsOf Row.AcquireReleaseRow =
-    columns (bits 29 27 0b001 ∷ bits 25 24 0b00 ∷ bits 23 23 1 ∷ bits 21 21 0 ∷ bits 15 15 1 ∷ [])
+    columns (bits 29 27 0b001 ∷ bits 26 26 0 ∷ bits 25 24 0b00 ∷ bits 23 23 1 ∷ bits 21 21 0 ∷ bits 15 15 1 ∷ [])
     undefinedUnused never (λ w. Family.Exclusive (exclusiveOpIn w) (exclusiveIn w))
 
 abbrev pub rows : List Row

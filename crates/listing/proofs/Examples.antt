@@ -5,7 +5,7 @@ use lib.ListN.{length}
 use Rattle.bits.specs.Fields.{part}
 use Rattle.bits.specs.Signed.{signedOf}
 use Rattle.instruction.specs.Undefined.{undefinedSize, undefinedPrefetch, undefinedOption}
-use Rattle.instruction.specs.Unpredictable.{baseIs}
+use Rattle.instruction.specs.Unpredictable.{baseIs, overBase}
 use Rattle.instruction.specs.Operands.{sizedIn, signedIn, indexIn}
 use Rattle.instruction.specs.Table.{inSet, rowOf, undefined, allocated, unpredictable, instructionOf}
 use Rattle.instruction.specs.Operations.{sizedAt}
@@ -18,7 +18,7 @@ use Rattle.listing.specs.Listing.{hexDigit, hex4, hex8, contentText, ans
 use Rattle.listing.specs.Examples.{exampleBytes, exampleLines}
 
 pub listing-example : listingOf exampleBytes ≡ exampleLines
-unfolding lineText hexDigit hex4 hex8 contentText answerText shortText wordOf wordText textOf registerText baseText offsetTail postTail frontText sizedText dec signedDec instructionOf rowOf part signedOf sizedAt sizedIn signedIn classOf inSet allocated undefined undefinedSize undefinedPrefetch unpredictable baseIs
+unfolding lineText hexDigit hex4 hex8 contentText answerText shortText wordOf wordText textOf registerText baseText offsetTail postTail frontText sizedText dec signedDec instructionOf rowOf part signedOf sizedAt sizedIn signedIn classOf inSet allocated undefined undefinedSize undefinedPrefetch unpredictable baseIs overBase
 listing-example = refl
 
 -- prfm pldl1keep, [x10, w10, uxtw #3]

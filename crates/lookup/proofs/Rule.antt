@@ -12,7 +12,7 @@ use Rattle.bits.specs.Fields.{part}
 use Rattle.bits.proofs.Choices.{both, tested}
 use Rattle.instruction.specs.declared.row.Row.{Row}
 use Rattle.instruction.specs.Table.{rows}
-use Rattle.instruction.specs.Undefined.{undefinedSize, undefinedPair}
+use Rattle.instruction.specs.Undefined.{undefinedSize, undefinedLiteral, undefinedPair}
 use Rattle.lookup.specs.Entries.{allows, familiesIn, codeIn, names, operationCode, entryOf, tabulate, entries}
 
 -- ---- a test of every row, and what it shows of one
@@ -69,7 +69,7 @@ rule : ℕ → Bool
 rule ten = all (λ r. named ten r && coded ten r) rows
 
 ruled : (ten : ℕ) → ten < 1024 → rule ten ≡ true
-unfolding rule entryOf part undefinedSize undefinedPair
+unfolding rule entryOf part undefinedSize undefinedLiteral undefinedPair
 ruled ten h = tested 1024 rule refl ten h
 
 module _ (ten : ℕ) (h : ten < 1024) (r : Row) (n : ¬ (r ≡ Row.NoRow)) where

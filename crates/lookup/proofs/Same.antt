@@ -1,23 +1,23 @@
 -- The two decoders say the same of every word: what the ten bits and the bits below decide together. Assumes nothing.
 use Prim.Native.Nat.{ℕ, _+_, _-_, _*_, _/_, _%_, _^_, _≤_, _<_}
 use mathlib.Core.Path.{_≡_, refl, sym, ap, _∙_}
-use mathlib.Core.Bool.{Bool, true, false, _&&_, _||_, and-assoc}
+use mathlib.Core.Bool.{Bool, true, false, _&&_, _||_, and-assoc, false≢true}
 use mathlib.Core.List.{List, [], _∷_}
 use native.Mathlib.Nat.{mod-lt, add-mul-div-right, div-eq-of-lt, add-comm, zero-add}
 use native.Mathlib.Omega.{arith}
-use lib.Dec.{eqb, leb, ltb}
+use lib.Dec.{eqb, leb}
 use lib.Pow.{shr-shr, mod-pow-add, mod-mod-pow, pow-pos}
-use borrow.Author.Tests.{leb-true, eqb-false, ne-eqb}
-use Rattle.bits.specs.Choice.{pick}
+use borrow.Author.Tests.{leb-true, ne-eqb}
+use Rattle.bits.specs.Choice.{pick, any}
 use Rattle.bits.specs.Fields.{Bits, part, field, has}
-use Rattle.bits.proofs.Choices.{both, neither, tested}
+use Rattle.bits.proofs.Choices.{both}
 use Rattle.bits.proofs.Parts.{part-lt, cut}
 use Rattle.instruction.specs.declared.answer.Decoded.{Decoded}
 use Rattle.instruction.specs.declared.family.Family.{Family}
 use Rattle.instruction.specs.declared.row.Row.{Row}
-use Rattle.instruction.specs.Undefined.{sizeOpc, undefinedSize, undefinedPrefetch, undefinedOption, undefinedPair, undefinedSecond, undefinedUnused}
+use Rattle.instruction.specs.Undefined.{sizeOpc, literalBits, undefinedCodes, undefinedSize, undefinedPrefetch, undefinedOption, undefinedLiteral, undefinedPair, undefinedSecond, undefinedUnused}
 use Rattle.instruction.specs.Operations.{literalAt, sizedAt, pairAt, exclusiveAt, storeExclusiveAt}
-use Rattle.instruction.specs.Operands.{sizedIn, literalIn, pairOpIn, pairIn, signedIn, indexIn, unsignedIn, exclusiveBits, exclusiveOpIn, storeExclusiveOpIn, exclusiveIn, storeExclusiveIn}
+use Rattle.instruction.specs.Operands.{sizedIn, literalOpIn, literalIn, pairBits, pairOpIn, pairIn, signedIn, indexIn, unsignedIn, exclusiveBits, exclusiveOpIn, storeExclusiveOpIn, exclusiveIn, storeExclusiveIn}
 use Rattle.instruction.specs.Unpredictable.{unpredictableBase, unpredictablePair, unpredictableStatus}
 use Rattle.instruction.specs.Table.{columnsOf, rows, matches, firstRow, rowOf}
 use Rattle.instruction.proofs.Rows.{set-matches, of-set}
@@ -25,7 +25,7 @@ use Rattle.decoder.specs.Decoding.{decodeOf}
 use Rattle.decoder.proofs.Arms.{Examined, outside, viewed-is, decoded-is}
 use Rattle.lookup.specs.Entries.{upper, lower, allows, familiesIn, codeIn, names, operationCode, entryOf, entries}
 use Rattle.lookup.specs.Lookup.{rowIn, seen, withBit15, examineAs, examineBy, examineIn, decodeIn}
-use Rattle.lookup.proofs.Rule.{alike, alike-true, names-allowed, code-allowed, entry-is}
+use Rattle.lookup.proofs.Rule.{names-allowed, code-allowed, entry-is}
 
 -- ---- a part of bits 31..22 is a part of the ten bits
 
@@ -124,21 +124,21 @@ unfolding part
 moved-up ten h = omega arith
 
 -- it looks at these fields alone
-module _ (v w : ℕ) (top : part 30 2 v ≡ part 30 2 w) (opc : part 22 2 v ≡ part 22 2 w) (load : part 22 1 v ≡ part 22 1 w) (mode : part 23 2 v ≡ part 23 2 w) where
+module _ (v w : ℕ) (vector : part 26 1 v ≡ part 26 1 w) (top : part 30 2 v ≡ part 30 2 w) (opc : part 22 2 v ≡ part 22 2 w) (load : part 22 1 v ≡ part 22 1 w) (mode : part 23 2 v ≡ part 23 2 w) where
   code-by : (r : Row) → operationCode r v ≡ operationCode r w
-  unfolding undefinedSize undefinedPair
+  unfolding undefinedSize undefinedLiteral undefinedPair
   code-by Row.NoRow = refl
-  code-by Row.LiteralRow = top
-  code-by Row.PairRow = rw (top, load, mode)
-  code-by Row.OrderedRow = rw (top, opc)
-  code-by Row.UnscaledRow = rw (top, opc)
-  code-by Row.PostRow = rw (top, opc)
-  code-by Row.PreRow = rw (top, opc)
-  code-by Row.RegisterRow = rw (top, opc)
-  code-by Row.UnsignedRow = rw (top, opc)
-  code-by Row.LoadExclusiveRow = rw (top, opc)
-  code-by Row.StoreExclusiveRow = rw (top, opc)
-  code-by Row.AcquireReleaseRow = rw (top, opc)
+  code-by Row.LiteralRow = rw (vector, top)
+  code-by Row.PairRow = rw (vector, top, load, mode)
+  code-by Row.OrderedRow = rw (vector, top, opc)
+  code-by Row.UnscaledRow = rw (vector, top, opc)
+  code-by Row.PostRow = rw (vector, top, opc)
+  code-by Row.PreRow = rw (vector, top, opc)
+  code-by Row.RegisterRow = rw (vector, top, opc)
+  code-by Row.UnsignedRow = rw (vector, top, opc)
+  code-by Row.LoadExclusiveRow = rw (vector, top, opc)
+  code-by Row.StoreExclusiveRow = rw (vector, top, opc)
+  code-by Row.AcquireReleaseRow = rw (vector, top, opc)
 
 module _ (w : ℕ) where
   field-same : (low n : ℕ) → 22 ≤ low → low + n ≤ 32 → part low n (part 22 10 w * 2 ^ 22) ≡ part low n w
@@ -147,7 +147,7 @@ module _ (w : ℕ) where
 
   code-over : (r : Row) → operationCode r (part 22 10 w * 2 ^ 22) ≡ operationCode r w
   code-over r =
-      code-by (part 22 10 w * 2 ^ 22) w (field-same 30 2 (omega arith) (omega arith)) (field-same 22 2 (omega arith) (omega arith))
+      code-by (part 22 10 w * 2 ^ 22) w (field-same 26 1 (omega arith) (omega arith)) (field-same 30 2 (omega arith) (omega arith)) (field-same 22 2 (omega arith) (omega arith))
       (field-same 22 1 (omega arith) (omega arith)) (field-same 23 2 (omega arith) (omega arith)) r
 
   pub code-same : (r : Row) → ¬ (r ≡ Row.NoRow) → matches w r ≡ true → codeIn (entryOf (part 22 10 w)) ≡ operationCode r w
@@ -157,27 +157,25 @@ module _ (w : ℕ) where
 
 -- a family g that goes by an operation code, undefined as u or the code tells
 module _ (g : ℕ → Family) (v : Bool) (c n : ℕ) where
-  plain-at : (u : Bool) → c ≡ pick u 15 n → (u ≡ false → ¬ (n ≡ 15)) → seen (eqb c 15) v (g c) ≡ seen u v (g n)
+  plain-at : (u : Bool) → c ≡ pick u 31 n → (u ≡ false → ¬ (n ≡ 31)) → seen (eqb c 31) v (g c) ≡ seen u v (g n)
   plain-at true e d = rw e
-  plain-at false e d = rw (e, ne-eqb n 15 (d refl))
+  plain-at false e d = rw (e, ne-eqb n 31 (d refl))
 
-  option-at : (u z : Bool) → c ≡ pick u 15 n → (u ≡ false → ¬ (n ≡ 15)) → seen (eqb c 15 || z) v (g c) ≡ seen (u || z) v (g n)
+  option-at : (u z : Bool) → c ≡ pick u 31 n → (u ≡ false → ¬ (n ≡ 31)) → seen (eqb c 31 || z) v (g c) ≡ seen (u || z) v (g n)
   option-at true z e d = rw e
-  option-at false z e d = rw (e, ne-eqb n 15 (d refl))
+  option-at false z e d = rw (e, ne-eqb n 31 (d refl))
 
-  above-13 : n < 15 → ltb 13 n ≡ eqb n 14
-  above-13 h = alike-true (ltb 13 n) (eqb n 14) (tested 15 (λ k. alike (ltb 13 k) (eqb k 14)) refl n h)
-
-  prefetch-at : (u : Bool) → c ≡ pick u 15 n → (u ≡ false → n < 15) → seen (ltb 13 c) v (g c) ≡ seen (u || eqb n 14) v (g n)
+  prefetch-at : (u : Bool) → c ≡ pick u 31 n → (u ≡ false → ¬ (n ≡ 31)) → seen (eqb c 31 || eqb c 14) v (g c) ≡ seen (u || eqb n 14) v (g n)
   prefetch-at true e d = rw e
-  prefetch-at false e d = rw (e, above-13 (d refl))
+  prefetch-at false e d = rw (e, ne-eqb n 31 (d refl))
 
-defined : (w : ℕ) → undefinedSize w ≡ false → ¬ (sizeOpc w ≡ 15)
+-- 31 is undefined
+defined-code : (k : ℕ) → any (eqb k) undefinedCodes ≡ false → ¬ (k ≡ 31)
+defined-code k u e = let z : true ≡ false = rw e at u in false≢true (sym z)
+
+defined : (w : ℕ) → undefinedSize w ≡ false → ¬ (sizeOpc w ≡ 31)
 unfolding undefinedSize
-defined w u = eqb-false (sizeOpc w) 15 (neither (eqb (sizeOpc w) 0b10_11) (eqb (sizeOpc w) 0b11_11) u .1)
-
-defined-below : (w : ℕ) → undefinedSize w ≡ false → sizeOpc w < 15
-defined-below w u = let d = defined w u in omega (arith, part-lt 30 2 w, part-lt 22 2 w, d)
+defined w u = defined-code (sizeOpc w) u
 
 -- bit 23 and L of an operation code are those of the word
 bits-of : (w c : ℕ) → c ≡ sizeOpc w → withBit15 c w ≡ exclusiveBits w
@@ -189,17 +187,18 @@ abbrev plain : Row → ℕ → Decoded
 plain r w = seen (columnsOf r .undefined w) (columnsOf r .unpredictable w) (columnsOf r .family w)
 
 by-code : (w c : ℕ) (r : Row) → ¬ (r ≡ Row.NoRow) → c ≡ operationCode r w → examineAs r c w ≡ plain r w
-unfolding undefinedPrefetch undefinedOption sizedIn pairOpIn exclusiveOpIn storeExclusiveOpIn
+unfolding undefinedPrefetch undefinedOption sizedIn literalOpIn pairOpIn exclusiveOpIn storeExclusiveOpIn
 by-code w c Row.NoRow n h = absurd (n refl)
-by-code w c Row.LiteralRow n h = ap (λ (k : ℕ). seen false false (Family.Literal (literalAt k) (literalIn w))) h
+by-code w c Row.LiteralRow n h =
+    plain-at (λ k. Family.Literal (literalAt k) (literalIn w)) false c (literalBits w) (undefinedLiteral w) h (λ u e. omega (arith, part-lt 26 1 w, part-lt 30 2 w, e))
 by-code w c Row.PairRow n h =
-    plain-at (λ k. Family.Pair (pairAt k) (pairIn (pairAt k) w)) (unpredictablePair w) c (field 31 30 w * 2 + field 22 22 w) (undefinedPair w) h
-    (λ u e. omega (arith, part-lt 30 2 w, part-lt 22 1 w, e))
-by-code w c Row.OrderedRow n h = prefetch-at (λ k. Family.Ordered (sizedAt k) (signedIn w)) false c (sizeOpc w) (undefinedSize w) h (defined-below w)
+    plain-at (λ k. Family.Pair (pairAt k) (pairIn (pairAt k) w)) (unpredictablePair w) c (pairBits w) (undefinedPair w) h
+    (λ u e. omega (arith, part-lt 26 1 w, part-lt 30 2 w, part-lt 22 1 w, e))
+by-code w c Row.OrderedRow n h = prefetch-at (λ k. Family.Ordered (sizedAt k) (signedIn w)) false c (sizeOpc w) (undefinedSize w) h (defined w)
 by-code w c Row.UnscaledRow n h = plain-at (λ k. Family.Unscaled (sizedAt k) (signedIn w)) false c (sizeOpc w) (undefinedSize w) h (defined w)
 by-code w c Row.PostRow n h =
-    prefetch-at (λ k. Family.PostIndex (sizedAt k) (signedIn w)) (unpredictableBase w) c (sizeOpc w) (undefinedSize w) h (defined-below w)
-by-code w c Row.PreRow n h = prefetch-at (λ k. Family.PreIndex (sizedAt k) (signedIn w)) (unpredictableBase w) c (sizeOpc w) (undefinedSize w) h (defined-below w)
+    prefetch-at (λ k. Family.PostIndex (sizedAt k) (signedIn w)) (unpredictableBase w) c (sizeOpc w) (undefinedSize w) h (defined w)
+by-code w c Row.PreRow n h = prefetch-at (λ k. Family.PreIndex (sizedAt k) (signedIn w)) (unpredictableBase w) c (sizeOpc w) (undefinedSize w) h (defined w)
 by-code w c Row.RegisterRow n h =
     option-at (λ k. Family.Register (sizedAt k) (indexIn w)) false c (sizeOpc w) (undefinedSize w) (eqb (field 14 14 w) 0) h (defined w)
 by-code w c Row.UnsignedRow n h = plain-at (λ k. Family.Unsigned (sizedAt k) (unsignedIn (sizedAt k) w)) false c (sizeOpc w) (undefinedSize w) h (defined w)

@@ -8,7 +8,8 @@ use Rattle.bits.specs.Choice.{pick}
 use Rattle.bits.specs.Fields.{Bits, field, has}
 use Rattle.instruction.specs.declared.row.Row.{Row}
 use Rattle.instruction.specs.Table.{columnsOf, rows, matches, firstRow}
-use Rattle.instruction.specs.Undefined.{sizeOpc, undefinedSize, undefinedPair}
+use Rattle.instruction.specs.Undefined.{sizeOpc, literalBits, undefinedSize, undefinedLiteral, undefinedPair}
+use Rattle.instruction.specs.Operands.{pairBits}
 
 -- of the bits that a row asks for, those among bits 31..22, counted from 22, and those below
 abbrev pub upper : List Bits → List Bits
@@ -38,35 +39,35 @@ familyCode Row.LoadExclusiveRow = 6
 familyCode Row.StoreExclusiveRow = 7
 familyCode Row.AcquireReleaseRow = 8
 
--- the operation code of a word of a row: what its operation goes by, or 15 where the ten bits make it undefined; in the ninth
+-- the operation code of a word of a row: what its operation goes by, or 31 where the ten bits make it undefined; in the ninth
 -- family, of which they leave nothing undefined, its size, bit 23 and L
 abbrev pub operationCode : Row → ℕ → ℕ
 operationCode Row.NoRow w = 0
-operationCode Row.LiteralRow w = field 31 30 w
-operationCode Row.PairRow w = pick (undefinedPair w) 15 (field 31 30 w * 2 + field 22 22 w)
-operationCode Row.OrderedRow w = pick (undefinedSize w) 15 (sizeOpc w)
-operationCode Row.UnscaledRow w = pick (undefinedSize w) 15 (sizeOpc w)
-operationCode Row.PostRow w = pick (undefinedSize w) 15 (sizeOpc w)
-operationCode Row.PreRow w = pick (undefinedSize w) 15 (sizeOpc w)
-operationCode Row.RegisterRow w = pick (undefinedSize w) 15 (sizeOpc w)
-operationCode Row.UnsignedRow w = pick (undefinedSize w) 15 (sizeOpc w)
+operationCode Row.LiteralRow w = pick (undefinedLiteral w) 31 (literalBits w)
+operationCode Row.PairRow w = pick (undefinedPair w) 31 (pairBits w)
+operationCode Row.OrderedRow w = pick (undefinedSize w) 31 (sizeOpc w)
+operationCode Row.UnscaledRow w = pick (undefinedSize w) 31 (sizeOpc w)
+operationCode Row.PostRow w = pick (undefinedSize w) 31 (sizeOpc w)
+operationCode Row.PreRow w = pick (undefinedSize w) 31 (sizeOpc w)
+operationCode Row.RegisterRow w = pick (undefinedSize w) 31 (sizeOpc w)
+operationCode Row.UnsignedRow w = pick (undefinedSize w) 31 (sizeOpc w)
 operationCode Row.LoadExclusiveRow w = sizeOpc w
 operationCode Row.StoreExclusiveRow w = sizeOpc w
 operationCode Row.AcquireReleaseRow w = sizeOpc w
 
--- an entry: 16 times the family code, and the operation code
+-- an entry: 32 times the family code, and the operation code
 abbrev pub entryFor : Row → ℕ → ℕ
-entryFor r ten = familyCode r * 16 + operationCode r (ten * 2 ^ 22)
+entryFor r ten = familyCode r * 32 + operationCode r (ten * 2 ^ 22)
 
 unfoldable pub entryOf : ℕ → ℕ
 entryOf ten = entryFor (firstRow (allows ten) rows) ten
 
 -- the two codes of an entry, and the rows that a family code names
 abbrev pub familiesIn : ℕ → ℕ
-familiesIn entry = entry / 16
+familiesIn entry = entry / 32
 
 abbrev pub codeIn : ℕ → ℕ
-codeIn entry = entry % 16
+codeIn entry = entry % 32
 
 abbrev pub names : ℕ → Row → Bool
 names families r = eqb families (familyCode r)

@@ -2,7 +2,7 @@
 use Prim.Native.Nat.{ℕ, _+_, _*_, _%_}
 use mathlib.Core.Bool.{Bool, false, _&&_, _||_}
 use mathlib.Core.List.{List}
-use lib.Dec.{ltb, eqb}
+use lib.Dec.{eqb}
 use lib.ListN.{getD}
 use Rattle.bits.specs.Choice.{pick}
 use Rattle.bits.specs.Fields.{field, has}
@@ -33,14 +33,14 @@ withBit15 c w = c % 4 * 2 + field 15 15 w
 -- what a row and an operation code say of a word. In ordered, post and pre the prefetch, code 14, is undefined too
 abbrev pub examineAs : Row → ℕ → ℕ → Decoded
 examineAs Row.NoRow c w = record { answer = Answer.NotInSet; instruction = empty }
-examineAs Row.LiteralRow c w = seen false false (Family.Literal (literalAt c) (literalIn w))
-examineAs Row.PairRow c w = seen (eqb c 15) (unpredictablePair w) (Family.Pair (pairAt c) (pairIn (pairAt c) w))
-examineAs Row.OrderedRow c w = seen (ltb 13 c) false (Family.Ordered (sizedAt c) (signedIn w))
-examineAs Row.UnscaledRow c w = seen (eqb c 15) false (Family.Unscaled (sizedAt c) (signedIn w))
-examineAs Row.PostRow c w = seen (ltb 13 c) (unpredictableBase w) (Family.PostIndex (sizedAt c) (signedIn w))
-examineAs Row.PreRow c w = seen (ltb 13 c) (unpredictableBase w) (Family.PreIndex (sizedAt c) (signedIn w))
-examineAs Row.RegisterRow c w = seen (eqb c 15 || eqb (field 14 14 w) 0) false (Family.Register (sizedAt c) (indexIn w))
-examineAs Row.UnsignedRow c w = seen (eqb c 15) false (Family.Unsigned (sizedAt c) (unsignedIn (sizedAt c) w))
+examineAs Row.LiteralRow c w = seen (eqb c 31) false (Family.Literal (literalAt c) (literalIn w))
+examineAs Row.PairRow c w = seen (eqb c 31) (unpredictablePair w) (Family.Pair (pairAt c) (pairIn (pairAt c) w))
+examineAs Row.OrderedRow c w = seen (eqb c 31 || eqb c 14) false (Family.Ordered (sizedAt c) (signedIn w))
+examineAs Row.UnscaledRow c w = seen (eqb c 31) false (Family.Unscaled (sizedAt c) (signedIn w))
+examineAs Row.PostRow c w = seen (eqb c 31 || eqb c 14) (unpredictableBase w) (Family.PostIndex (sizedAt c) (signedIn w))
+examineAs Row.PreRow c w = seen (eqb c 31 || eqb c 14) (unpredictableBase w) (Family.PreIndex (sizedAt c) (signedIn w))
+examineAs Row.RegisterRow c w = seen (eqb c 31 || eqb (field 14 14 w) 0) false (Family.Register (sizedAt c) (indexIn w))
+examineAs Row.UnsignedRow c w = seen (eqb c 31) false (Family.Unsigned (sizedAt c) (unsignedIn (sizedAt c) w))
 examineAs Row.LoadExclusiveRow c w = seen (undefinedUnused w) false (Family.Exclusive (exclusiveAt (withBit15 c w)) (exclusiveIn w))
 examineAs Row.StoreExclusiveRow c w =
     seen (undefinedSecond w) (unpredictableStatus w) (Family.StoreExclusive (storeExclusiveAt (withBit15 c w)) (storeExclusiveIn w))

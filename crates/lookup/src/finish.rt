@@ -13,34 +13,45 @@ ghost use Rattle.lookup.specs.Lookup.{rowIn, examineAs, examineBy};
 pub fn finish(entry: u32, word: u32) -> Decoded
     ensures { λ r. ⌜ r ≡ examineBy entry word ⌝ }
 {
-    let code = entry % 16;
+    let code = entry % 32;
     let op = instruction::sized_at(code);
-    let row = row_in(entry / 16, word);
+    let row = row_in(entry / 32, word);
     match row {
         Row::NoRow => view::refused(Answer::NotInSet),
         Row::LiteralRow => {
             let family = family::literal(instruction::literal_at(code), word);
-            view::viewed(false, false, family)
+            view::viewed(code == 31, false, family)
         }
         Row::PairRow => {
             let family = family::pair(instruction::pair_at(code), word);
-            view::viewed(code == 15, unpredictable::in_pair(word), family)
+            view::viewed(code == 31, unpredictable::in_pair(word), family)
         }
-        Row::OrderedRow => view::viewed(13 < code, false, family::ordered(op, word)),
-        Row::UnscaledRow => view::viewed(code == 15, false, family::unscaled(op, word)),
+        Row::OrderedRow => {
+            let undefined = (code == 31) | (code == 14);
+            view::viewed(undefined, false, family::ordered(op, word))
+        }
+        Row::UnscaledRow => view::viewed(code == 31, false, family::unscaled(op, word)),
         Row::PostRow => {
-            let base = unpredictable::base_is(word / 1 % 32, word);
-            view::viewed(13 < code, base, family::post_index(op, word))
+            let base = unpredictable::over_base(word / 1 % 32, word);
+            view::viewed(
+                (code == 31) | (code == 14),
+                base,
+                family::post_index(op, word),
+            )
         }
         Row::PreRow => {
-            let base = unpredictable::base_is(word / 1 % 32, word);
-            view::viewed(13 < code, base, family::pre_index(op, word))
+            let base = unpredictable::over_base(word / 1 % 32, word);
+            view::viewed(
+                (code == 31) | (code == 14),
+                base,
+                family::pre_index(op, word),
+            )
         }
         Row::RegisterRow => {
-            let undefined = (code == 15) | (word / 0x4000 % 2 == 0);
+            let undefined = (code == 31) | (word / 0x4000 % 2 == 0);
             view::viewed(undefined, false, family::register(op, word))
         }
-        Row::UnsignedRow => view::viewed(code == 15, false, family::unsigned(op, word)),
+        Row::UnsignedRow => view::viewed(code == 31, false, family::unsigned(op, word)),
         Row::LoadExclusiveRow => exclusive(code, word),
         Row::StoreExclusiveRow => store_exclusive(code, word),
         Row::AcquireReleaseRow => exclusive(code, word),

@@ -10,7 +10,7 @@ ghost use Rattle.decoder.specs.Decoding.{decodeOf};
 ghost use Rattle.lookup.specs.Lookup.{examineIn, decodeIn};
 
 // What the entry of a word in a lent table gives, with answer 4.
-pub fn examine_in(lent: &[u8; 1024], word: u32) -> Decoded
+pub fn examine_in(lent: &[u16; 1024], word: u32) -> Decoded
     ensures { λ r. ⌜ r ≡ examineIn (now (lent .entry)) word ⌝ }
 {
     let at = (word / 0x40_0000 % 1024) as usize;
@@ -18,7 +18,7 @@ pub fn examine_in(lent: &[u8; 1024], word: u32) -> Decoded
 }
 
 // What the entry of a word in a lent table gives: an instruction, or answer 2 or 3 and the empty instruction.
-pub fn decode_in(lent: &[u8; 1024], word: u32) -> Decoded
+pub fn decode_in(lent: &[u16; 1024], word: u32) -> Decoded
     ensures { λ r. ⌜ r ≡ decodeIn (now (lent .entry)) word ⌝ }
 {
     decoder::decoded(examine_in(lent, word))
@@ -31,8 +31,8 @@ pub fn decode_by_table(word: u32) -> Decoded
     decode_in(&table(), word)
 }
 
-fn wide(byte: u8) -> u32
-    ensures { λ r. ⌜ r ≡ byte ⌝ }
+fn wide(entry: u16) -> u32
+    ensures { λ r. ⌜ r ≡ entry ⌝ }
 {
-    byte as u32
+    entry as u32
 }

@@ -1,2 +1,3 @@
 pub mod Told
 pub mod Numbered
+pub mod Registers

@@ -10,8 +10,8 @@ use lib.ListN.{length}
 use Rattle.bits.specs.Bytes.{bytesOf}
 use Rattle.bits.proofs.Choices.{both}
 use Rattle.bits.proofs.Bytes.{length-bytes}
-use Rattle.instruction.specs.Operations.{sizeOf, opcOf, pairOpc, pairLoad, exclusiveCode, storeExclusiveCode, accessScale}
-use Rattle.instruction.proofs.Codes.{sized, sized-at, paired, pair-at, exclusive-at, exclusive-below, store-exclusive-at, store-exclusive-below, size-at, scale-below}
+use Rattle.instruction.specs.Operations.{sizedCode, pairCode, exclusiveCode, storeExclusiveCode, accessScale}
+use Rattle.instruction.proofs.Codes.{code-below, sized-whole, pair-below, pair-whole, exclusive-at, exclusive-below, store-exclusive-at, store-exclusive-below, size-at, scale-below}
 use Rattle.instruction.specs.declared.exclusive.ExclusiveOp.{ExclusiveOp}
 use Rattle.mnemonic.specs.Operands.{Operand, letterOf}
 use Rattle.mnemonic.specs.declared.Stem.{Stem}
@@ -29,7 +29,7 @@ stem-at Stem.Plain = refl
 stem-at Stem.Unscale = refl
 stem-at Stem.Order = refl
 
-stem-within : (stem : Stem) → (2 ≤ stemNumber stem) × (stemNumber stem < 5)
+stem-within : (stem : Stem) → (1 ≤ stemNumber stem) × (stemNumber stem < 4)
 stem-within Stem.Plain = (omega arith, omega arith)
 stem-within Stem.Unscale = (omega arith, omega arith)
 stem-within Stem.Order = (omega arith, omega arith)
@@ -41,32 +41,32 @@ exclusive-after ExclusiveOp.StoreRelease = omega arith
 exclusive-after ExclusiveOp.LoadAcquire = omega arith
 
 pub number-below : (x : Name) → numberOf x < nameCount
-number-below (Name.Sized stem op) = omega (arith, stem-within stem, sized op .size, sized op .opc)
-number-below (Name.NoAllocatePair op) = omega (arith, paired op .opc, paired op .load)
-number-below (Name.AllocatePair op) = omega (arith, paired op .opc, paired op .load)
+number-below (Name.Sized stem op) = omega (arith, stem-within stem, code-below op)
+number-below (Name.NoAllocatePair op) = omega (arith, pair-below op)
+number-below (Name.AllocatePair op) = omega (arith, pair-below op)
 number-below (Name.Exclusive op size) = omega (arith, exclusive-below op, scale-below size)
 number-below (Name.StoreExclusive op size) = omega (arith, store-exclusive-below op, scale-below size)
 
 pub name-back : (x : Name) → nameAt (numberOf x) ≡ x
 unfolding nameAt
 name-back (Name.Sized stem op) =
-    let k = sizeOf op * 4 + opcOf op in
-    let n = stemNumber stem * 16 + k in
-    let h : k < 16 = omega (arith, sized op .size, sized op .opc) in
+    let k = sizedCode op in
+    let n = stemNumber stem * 32 + k in
+    let h = code-below op in
     let s = stem-within stem in
-    let d : n / 16 ≡ stemNumber stem = omega arith in
-    let m : n % 16 ≡ k = omega arith in
-    rw (le-ltb n 8 (omega arith), le-ltb n 32 (omega arith), lt-ltb n 80 (omega arith), d, m, stem-at stem, sized-at op)
+    let d : n / 32 ≡ stemNumber stem = omega arith in
+    let m : n % 32 ≡ k = omega arith in
+    rw (le-ltb n 8 (omega arith), le-ltb n 32 (omega arith), lt-ltb n 128 (omega arith), d, m, stem-at stem, sized-whole op)
 name-back (Name.NoAllocatePair op) =
-    let k = pairOpc op * 2 + pairLoad op in
-    let h : k < 8 = omega (arith, paired op .opc, paired op .load) in
-    let m : (80 + k) % 8 ≡ k = omega arith in
-    rw (le-ltb (80 + k) 8 (omega arith), le-ltb (80 + k) 32 (omega arith), le-ltb (80 + k) 80 (omega arith), lt-ltb (80 + k) 88 (omega arith), m, pair-at op)
+    let k = pairCode op in
+    let h = pair-below op in
+    let m : (128 + k) % 16 ≡ k = omega arith in
+    rw (le-ltb (128 + k) 8 (omega arith), le-ltb (128 + k) 32 (omega arith), le-ltb (128 + k) 128 (omega arith), lt-ltb (128 + k) 144 (omega arith), m, pair-whole op)
 name-back (Name.AllocatePair op) =
-    let k = pairOpc op * 2 + pairLoad op in
-    let h : k < 8 = omega (arith, paired op .opc, paired op .load) in
-    let m : (88 + k) % 8 ≡ k = omega arith in
-    rw (le-ltb (88 + k) 8 (omega arith), le-ltb (88 + k) 32 (omega arith), le-ltb (88 + k) 80 (omega arith), le-ltb (88 + k) 88 (omega arith), m, pair-at op)
+    let k = pairCode op in
+    let h = pair-below op in
+    let m : (144 + k) % 16 ≡ k = omega arith in
+    rw (le-ltb (144 + k) 8 (omega arith), le-ltb (144 + k) 32 (omega arith), le-ltb (144 + k) 128 (omega arith), le-ltb (144 + k) 144 (omega arith), m, pair-whole op)
 name-back (Name.Exclusive op size) =
     let n = exclusiveCode op * 4 + accessScale size in
     let s = scale-below size in

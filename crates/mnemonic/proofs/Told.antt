@@ -8,12 +8,12 @@ use lib.Dec.{eqb}
 use borrow.Author.Tests.{eqb-true}
 use Rattle.bits.specs.Bytes.{bytesOf}
 use Rattle.bits.proofs.Choices.{both, upTo, tested}
-use Rattle.instruction.specs.Operations.{sizeOf, opcOf, sizedAt, pairOpc, pairLoad, pairAt, accessScale, sizeAt}
+use Rattle.instruction.specs.Operations.{sizedCode, sizedAt, pairCode, pairAt, accessScale, sizeAt}
 use Rattle.instruction.specs.declared.exclusive.AccessSize.{AccessSize}
 use Rattle.instruction.specs.declared.operation.SizedOp.{SizedOp}
 use Rattle.instruction.specs.declared.operation.PairOp.{PairOp}
 use Rattle.instruction.specs.declared.operation.PairMode.{PairMode}
-use Rattle.instruction.proofs.Codes.{sized, sized-at, paired, pair-at, size-at}
+use Rattle.instruction.proofs.Codes.{code-below, sized-whole, pair-below, pair-whole, size-at}
 use Rattle.mnemonic.specs.Mnemonics.{sizedName, pairName, exclusiveName}
 use Rattle.mnemonic.specs.Operands.{Operand, Narrow, letterOf, sizedOperand, pairOperand, accessOperand}
 use Rattle.mnemonic.specs.declared.Stem.{Stem}
@@ -59,7 +59,7 @@ sizedMade stem e = behindStem (sizedStem stem (e .kind)) (e .letters) (e .shape)
 sizedTest : Stem → ℕ → Bool
 sizedTest stem k = tells (sizedMade stem (sizedEntry (sizedAt k))) (sizedName stem (sizedAt k)) (sizedOperand (sizedAt k))
 
-all-sized : (stem : Stem) → upTo 16 (sizedTest stem) ≡ true
+all-sized : (stem : Stem) → upTo 32 (sizedTest stem) ≡ true
 unfolding sizedTest sizedMade tells same sizedAt bytesOf
 all-sized Stem.Plain = refl
 all-sized Stem.Unscale = refl
@@ -69,13 +69,12 @@ pub sized-is : (stem : Stem) (op : SizedOp) {t : ℕ} {e : Entry} {m : Mnemonic}
     → t ≡ sizedStem stem (e .kind) → m ≡ behindStem t (e .letters) (e .shape) → known m ≡ told (sizedName stem op) (sizedOperand op)
 unfolding sizedTest sizedMade
 sized-is stem op e t m =
-    let k : sizeOf op * 4 + opcOf op < 16 = omega (arith, sized op .size, sized op .opc) in
-    rw (m, t, e) (tells-is _ _ (sizedOperand op) (rw (sized-at op) at (tested 16 (sizedTest stem) (all-sized stem) (sizeOf op * 4 + opcOf op) k)))
+    rw (m, t, e) (tells-is _ _ (sizedOperand op) (rw (sized-whole op) at (tested 32 (sizedTest stem) (all-sized stem) (sizedCode op) (code-below op))))
 
--- by the two fields of a word
-pub sized-by : (stem : Stem) (op : SizedOp) {size opc : ℕ} {k : Known} → size ≡ sizeOf op → opc ≡ opcOf op
-    → k ≡ told (sizedName stem (sizedAt (size * 4 + opc))) (sizedOperand (sizedAt (size * 4 + opc))) → k ≡ told (sizedName stem op) (sizedOperand op)
-sized-by stem op s o e = e ∙ rw (s, o, sized-at op)
+-- by the code
+pub sized-by : (stem : Stem) (op : SizedOp) {code : ℕ} {k : Known} → code ≡ sizedCode op
+    → k ≡ told (sizedName stem (sizedAt code)) (sizedOperand (sizedAt code)) → k ≡ told (sizedName stem op) (sizedOperand op)
+sized-by stem op s e = e ∙ rw (s, sized-whole op)
 
 -- ---- pairs
 
@@ -85,7 +84,7 @@ pairMade mode e = behindStem (pairStem mode (e .kind)) (e .letters) (e .shape)
 pairTest : PairMode → ℕ → Bool
 pairTest mode k = tells (pairMade mode (pairEntry (pairAt k))) (pairName mode (pairAt k)) (pairOperand (pairAt k))
 
-all-pairs : (mode : PairMode) → upTo 8 (pairTest mode) ≡ true
+all-pairs : (mode : PairMode) → upTo 16 (pairTest mode) ≡ true
 unfolding pairTest pairMade tells same pairAt bytesOf
 all-pairs PairMode.NoAllocate = refl
 all-pairs PairMode.Post = refl
@@ -96,12 +95,11 @@ pub pair-is : (mode : PairMode) (op : PairOp) {t : ℕ} {e : Entry} {m : Mnemoni
     → t ≡ pairStem mode (e .kind) → m ≡ behindStem t (e .letters) (e .shape) → known m ≡ told (pairName mode op) (pairOperand op)
 unfolding pairTest pairMade
 pair-is mode op e t m =
-    let k : pairOpc op * 2 + pairLoad op < 8 = omega (arith, paired op .opc, paired op .load) in
-    rw (m, t, e) (tells-is _ _ (pairOperand op) (rw (pair-at op) at (tested 8 (pairTest mode) (all-pairs mode) (pairOpc op * 2 + pairLoad op) k)))
+    rw (m, t, e) (tells-is _ _ (pairOperand op) (rw (pair-whole op) at (tested 16 (pairTest mode) (all-pairs mode) (pairCode op) (pair-below op))))
 
-pub pair-by : (mode : PairMode) (op : PairOp) {opc load : ℕ} {k : Known} → opc ≡ pairOpc op → load ≡ pairLoad op
-    → k ≡ told (pairName mode (pairAt (opc * 2 + load))) (pairOperand (pairAt (opc * 2 + load))) → k ≡ told (pairName mode op) (pairOperand op)
-pair-by mode op s l e = e ∙ rw (s, l, pair-at op)
+pub pair-by : (mode : PairMode) (op : PairOp) {code : ℕ} {k : Known} → code ≡ pairCode op
+    → k ≡ told (pairName mode (pairAt code)) (pairOperand (pairAt code)) → k ≡ told (pairName mode op) (pairOperand op)
+pair-by mode op s e = e ∙ rw (s, pair-whole op)
 
 -- ---- the ninth family
 

@@ -1,10 +1,10 @@
--- Mnemonics: 01, "Lines of text", and 02, CR 3.
+-- Mnemonics: 01, "Lines of text", and 02, CR 3 and CR 12.
 use Prim.Native.Nat.{ℕ}
 use mathlib.Core.Bool.{Bool, false}
 use mathlib.Core.List.{List, [], _∷_, _++_}
 use lib.Dec.{eqb, ltb}
 use Rattle.bits.specs.Choice.{pick, lookup}
-use Rattle.instruction.specs.Operations.{sizedCode, sizeOf, opcOf, pairOpc, pairLoad, modeCode, accessScale}
+use Rattle.instruction.specs.Operations.{sizedCode, vectorOf, sizeOf, opcOf, sizedStores, pairCode, pairLoad, modeCode, accessScale}
 use Rattle.ascii.specs.Ascii.{asc}
 use Rattle.mnemonic.specs.declared.Stem.{Stem}
 use Rattle.instruction.specs.declared.exclusive.AccessSize.{AccessSize}
@@ -21,10 +21,12 @@ sizeLetter size signed = lookup [] ((0b00, asc "b") ∷ (0b01, asc "h") ∷ (0b1
 abbrev pub suffix : ℕ → Bool → List ℕ
 suffix size signed = pick signed (asc "s") [] ++ sizeLetter size signed
 
--- a stem for stores and one for loads, of which opc 10 and 11 are signed; a prefetch has a name of its own
+-- a stem for stores and one for loads, of which opc 10 and 11 are signed; a prefetch has a name of its own; a vector's size is told by
+-- its register
 abbrev pub stemmed : List ℕ → List ℕ → List ℕ → SizedOp → List ℕ
 stemmed store load hint op =
-    pick (eqb (sizedCode op) 0b11_10) hint (pick (eqb (opcOf op) 0b00) store load ++ suffix (sizeOf op) (ltb 0b01 (opcOf op)))
+    pick (eqb (sizedCode op) 0b0_11_10) hint
+    (pick (sizedStores op) store load ++ pick (eqb (vectorOf op) 1) [] (suffix (sizeOf op) (ltb 0b01 (opcOf op))))
 
 -- post, pre, register and unsigned
 abbrev pub plainName : SizedOp → List ℕ
@@ -48,6 +50,9 @@ literalSized LiteralOp.LiteralWord = SizedOp.LoadWord
 literalSized LiteralOp.LiteralDouble = SizedOp.LoadDouble
 literalSized LiteralOp.LiteralSignedWord = SizedOp.LoadSignedWord64
 literalSized LiteralOp.LiteralPrefetch = SizedOp.Prefetch
+literalSized LiteralOp.LiteralVectorWord = SizedOp.LoadVectorWord
+literalSized LiteralOp.LiteralVectorDouble = SizedOp.LoadVectorDouble
+literalSized LiteralOp.LiteralVectorQuad = SizedOp.LoadVectorQuad
 
 abbrev pub literalName : LiteralOp → List ℕ
 literalName op = plainName (literalSized op)
@@ -56,7 +61,7 @@ literalName op = plainName (literalSized op)
 abbrev pub pairName : PairMode → PairOp → List ℕ
 pairName mode op =
     pick (eqb (pairLoad op) 0) (asc "st") (asc "ld") ++ pick (eqb (modeCode mode) 0b00) (asc "n") []
-    ++ asc "p" ++ pick (eqb (pairOpc op) 0b01) (asc "sw") []
+    ++ asc "p" ++ pick (eqb (pairCode op) 0b0_01_1) (asc "sw") []
 
 -- the ninth family, by bit 23, L and bit 15; an l releases and an a acquires
 abbrev pub exclusiveStems : List (ℕ × List ℕ)

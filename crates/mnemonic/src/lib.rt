@@ -1,4 +1,5 @@
-// Mnemonics, and the letter of the first operand behind each: w or x for a register, and # for the hint of a prefetch.
+// Mnemonics, and the letter of the first operand behind each: w or x for a register, b, h, s, d or q for a
+// vector register, and # for the hint of a prefetch.
 mod names;
 mod stems;
 mod table;
@@ -38,10 +39,7 @@ pub enum Stem {
 pub fn sized_name(stem: Stem, op: SizedOp) -> Mnemonic
     ensures { λ r. ⌜ known r ≡ told (sizedName stem op) (sizedOperand op) ⌝ }
 {
-    sized_at(
-        stem,
-        instruction::size_field(op) * 4 + instruction::opc_field(op),
-    )
+    sized_at(stem, instruction::sized_code(op))
 }
 
 fn sized_at(stem: Stem, code: u32) -> Mnemonic
@@ -69,16 +67,16 @@ fn literal_sized(op: LiteralOp) -> SizedOp
         LiteralOp::LiteralDouble => SizedOp::LoadDouble,
         LiteralOp::LiteralSignedWord => SizedOp::LoadSignedWord64,
         LiteralOp::LiteralPrefetch => SizedOp::Prefetch,
+        LiteralOp::LiteralVectorWord => SizedOp::LoadVectorWord,
+        LiteralOp::LiteralVectorDouble => SizedOp::LoadVectorDouble,
+        LiteralOp::LiteralVectorQuad => SizedOp::LoadVectorQuad,
     }
 }
 
 pub fn pair_name(mode: PairMode, op: PairOp) -> Mnemonic
     ensures { λ r. ⌜ known r ≡ told (pairName mode op) (pairOperand op) ⌝ }
 {
-    pair_at(
-        mode,
-        instruction::pair_opc(op) * 2 + instruction::pair_load(op),
-    )
+    pair_at(mode, instruction::pair_code(op))
 }
 
 fn pair_at(mode: PairMode, code: u32) -> Mnemonic
@@ -132,11 +130,11 @@ pub fn mnemonic_at(number: u32) -> Mnemonic
         let op = instruction::exclusive_at(number / 4);
         return exclusive_name(op, instruction::size_at(number % 4));
     }
-    if number < 80 {
-        return sized_at(names::stem_at(number / 16), number % 16);
+    if number < 128 {
+        return sized_at(names::stem_at(number / 32), number % 32);
     }
-    if number < 88 {
-        return pair_at(PairMode::NoAllocate, number % 8);
+    if number < 144 {
+        return pair_at(PairMode::NoAllocate, number % 16);
     }
-    pair_at(PairMode::Offset, number % 8)
+    pair_at(PairMode::Offset, number % 16)
 }

@@ -1,5 +1,5 @@
-// The names by number: 32 of the ninth family by the code of the operation and the size, 16 for each stem by the code of the
-// operation, and 8 for each kind of pair. The rarer ones come first, since a search goes from the end.
+// The names by number: 32 of the ninth family by the code of the operation and the size, 32 for each stem by the code of the
+// operation, and 16 for each kind of pair. The rarer ones come first, since a search goes from the end.
 use crate::Stem;
 use instruction::AccessSize;
 use instruction::ExclusiveOp;
@@ -18,7 +18,7 @@ pub enum Name {
 }
 
 // How many numbers there are (`nameCount`).
-pub const NAMES: u32 = 96;
+pub const NAMES: u32 = 160;
 
 pub fn name_at(number: u32) -> Name
     ensures { λ r. ⌜ r ≡ nameAt number ⌝ }
@@ -35,11 +35,11 @@ pub fn name_at(number: u32) -> Name
             instruction::size_at(number % 4),
         );
     }
-    if number < 80 {
-        return Name::Sized(stem_at(number / 16), instruction::sized_at(number % 16));
+    if number < 128 {
+        return Name::Sized(stem_at(number / 32), instruction::sized_at(number % 32));
     }
-    let op = instruction::pair_at(number % 8);
-    if number < 88 {
+    let op = instruction::pair_at(number % 16);
+    if number < 144 {
         return Name::NoAllocatePair(op);
     }
     Name::AllocatePair(op)
@@ -51,8 +51,8 @@ pub fn stem_at(number: u32) -> Stem
     ensures { λ r. ⌜ r ≡ stemAt number ⌝ }
 {
     match number {
-        2 => Stem::Order,
-        3 => Stem::Unscale,
+        1 => Stem::Order,
+        2 => Stem::Unscale,
         _ => Stem::Plain,
     }
 }

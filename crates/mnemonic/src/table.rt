@@ -14,7 +14,7 @@ pub struct Entry {
     pub shape: u16,
 }
 
-// By size and opc.
+// By bit 26, size and opc.
 pub fn sized_entry(code: u32) -> Entry
     ensures { λ r. ⌜ r ≡ sizedEntry (sizedAt code) ⌝ }
 {
@@ -32,11 +32,21 @@ pub fn sized_entry(code: u32) -> Entry
         0b10_10 => made(LOAD, 0x7773, 0x7802), // sw
         0b11_00 => made(STORE, 0, 0x7800),
         0b11_01 => made(LOAD, 0, 0x7800),
+        0b1_00_00 => made(STORE, 0, 0x6200),
+        0b1_00_01 => made(LOAD, 0, 0x6200),
+        0b1_00_10 => made(STORE, 0, 0x7100),
+        0b1_00_11 => made(LOAD, 0, 0x7100),
+        0b1_01_00 => made(STORE, 0, 0x6800),
+        0b1_01_01 => made(LOAD, 0, 0x6800),
+        0b1_10_00 => made(STORE, 0, 0x7300),
+        0b1_10_01 => made(LOAD, 0, 0x7300),
+        0b1_11_00 => made(STORE, 0, 0x6400),
+        0b1_11_01 => made(LOAD, 0, 0x6400),
         _ => made(HINT, 0, 0x2300),
     }
 }
 
-// By opc and L.
+// By bit 26, opc and L.
 pub fn pair_entry(code: u32) -> Entry
     ensures { λ r. ⌜ r ≡ pairEntry (pairAt code) ⌝ }
 {
@@ -45,6 +55,12 @@ pub fn pair_entry(code: u32) -> Entry
         0b00_1 => made(LOAD, 0x70, 0x7701), // p
         0b01_1 => made(LOAD, 0x77_7370, 0x7803), // psw
         0b10_0 => made(STORE, 0x70, 0x7801), // p
+        0b1_00_0 => made(STORE, 0x70, 0x7301), // p
+        0b1_00_1 => made(LOAD, 0x70, 0x7301), // p
+        0b1_01_0 => made(STORE, 0x70, 0x6401), // p
+        0b1_01_1 => made(LOAD, 0x70, 0x6401), // p
+        0b1_10_0 => made(STORE, 0x70, 0x7101), // p
+        0b1_10_1 => made(LOAD, 0x70, 0x7101), // p
         _ => made(LOAD, 0x70, 0x7801), // p
     }
 }

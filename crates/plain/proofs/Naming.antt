@@ -5,22 +5,14 @@ use mathlib.Core.Bool.{false}
 use native.Mathlib.Omega.{arith}
 use lib.Dec.{ltb}
 use borrow.Author.Tests.{lt-ltb}
-use Rattle.instruction.specs.declared.operation.SizedOp.{SizedOp}
-use Rattle.instruction.specs.declared.operation.PairOp.{PairOp}
 use Rattle.instruction.specs.declared.exclusive.AccessSize.{AccessSize}
 use Rattle.instruction.specs.declared.exclusive.ExclusiveOp.{ExclusiveOp}
 use Rattle.instruction.specs.declared.family.Family.{Family}
 use Rattle.instruction.specs.declared.family.Instruction.{Instruction}
-use Rattle.instruction.specs.Operations.{sizedCode, sizedAt, pairCode, pairAt, accessScale, exclusiveCode, storeExclusiveCode}
-use Rattle.instruction.proofs.Codes.{sized-at, literal-at, pair-at, mode-at, exclusive-at, store-exclusive-at, size-at, exclusive-below, store-exclusive-below}
+use Rattle.instruction.specs.Operations.{accessScale, exclusiveCode, storeExclusiveCode}
+use Rattle.instruction.proofs.Codes.{sized-whole, literal-whole, pair-whole, mode-at, exclusive-at, store-exclusive-at, size-at, exclusive-below, store-exclusive-below}
 use Rattle.plain.specs.Plains.{plainOf, familyPlain}
 use Rattle.plain.specs.route.Named.{familyNamed, instructionNamed}
-
-sized-named : (op : SizedOp) → sizedAt (sizedCode op) ≡ op
-sized-named op = ap sizedAt (omega arith) ∙ sized-at op
-
-pair-named : (op : PairOp) → pairAt (pairCode op) ≡ op
-pair-named op = ap pairAt (omega arith) ∙ pair-at op
 
 -- size and code of the ninth family, from the number that has them side by side
 size-apart : (s : AccessSize) (k : ℕ) → k < 8 → (accessScale s * 8 + k) / 8 ≡ accessScale s
@@ -37,14 +29,14 @@ no-store ExclusiveOp.LoadAcquire = refl
 
 family-back : (f : Family) → familyNamed (familyPlain f) ≡ f
 family-back Family.Empty = refl
-family-back (Family.Literal op o) = rw (literal-at op)
-family-back (Family.Pair op o) = rw (pair-named op, mode-at (o .mode))
-family-back (Family.Ordered op o) = rw (sized-named op)
-family-back (Family.Unscaled op o) = rw (sized-named op)
-family-back (Family.PostIndex op o) = rw (sized-named op)
-family-back (Family.PreIndex op o) = rw (sized-named op)
-family-back (Family.Register op o) = rw (sized-named op)
-family-back (Family.Unsigned op o) = rw (sized-named op)
+family-back (Family.Literal op o) = rw (literal-whole op)
+family-back (Family.Pair op o) = rw (pair-whole op, mode-at (o .mode))
+family-back (Family.Ordered op o) = rw (sized-whole op)
+family-back (Family.Unscaled op o) = rw (sized-whole op)
+family-back (Family.PostIndex op o) = rw (sized-whole op)
+family-back (Family.PreIndex op o) = rw (sized-whole op)
+family-back (Family.Register op o) = rw (sized-whole op)
+family-back (Family.Unsigned op o) = rw (sized-whole op)
 family-back (Family.Exclusive op o) =
     let k = exclusive-below op in
     rw (code-apart (o .size) _ k, size-apart (o .size) _ k, no-store op, exclusive-at op, size-at (o .size))

@@ -14,7 +14,7 @@ use Rattle.instruction.specs.declared.family.LiteralOperands.{LiteralOperands}
 use Rattle.instruction.specs.declared.family.PairOperands.{PairOperands}
 use Rattle.instruction.specs.declared.family.OffsetOperands.{OffsetOperands}
 use Rattle.instruction.specs.declared.family.IndexOperands.{IndexOperands}
-use Rattle.instruction.specs.Operations.{sizedCode, opcOf, sizedBytes, literalOpc, pairCode, pairLoad, pairBytes, modeCode, exclusiveCode, storeExclusiveCode, accessScale, accessBytes}
+use Rattle.instruction.specs.Operations.{sizedCode, sizedStores, sizedBytes, literalCode, pairCode, pairLoad, pairBytes, modeCode, exclusiveCode, storeExclusiveCode, accessScale, accessBytes}
 use Rattle.plain.specs.declared.record.Plain.{Plain}
 
 -- the bytes of an access: none for a prefetch, and both registers of a pair together
@@ -22,11 +22,14 @@ unfoldable pub sizedMoved : SizedOp → ℕ
 sizedMoved op = pick (eqb (sizedCode op) 0b11_10) 0 (sizedBytes op)
 
 unfoldable pub literalMoved : LiteralOp → ℕ
-literalMoved op = lookup 4 ((0b01, 8) ∷ (0b11, 0) ∷ []) (literalOpc op)
+literalMoved op = lookup 4 ((0b01, 8) ∷ (0b11, 0) ∷ (0b1_01, 8) ∷ (0b1_10, 16) ∷ []) (literalCode op)
 
 -- 0 where no byte is moved; else by a number that only a load has: 1 for a load, 2 for a store
 unfoldable pub directionOf : ℕ → ℕ → ℕ
 directionOf bytes load = pick (eqb bytes 0) 0 (pick (eqb load 0) 2 1)
+
+unfoldable pub sizedLoad : SizedOp → ℕ
+sizedLoad op = pick (sizedStores op) 0 1
 
 abbrev pub emptyPlain : Plain
 emptyPlain =
@@ -50,7 +53,7 @@ abbrev pub literalPlain : LiteralOp → LiteralOperands → Plain
 literalPlain op o =
     record {
       family = 1;
-      operation = literalOpc op;
+      operation = literalCode op;
       direction = directionOf (literalMoved op) 1;
       bytes = literalMoved op;
       target = o .target;
@@ -82,13 +85,13 @@ pairPlain op o =
       offset = o .offset;
     }
 
--- opc 00 stores; in five families
+-- in five families
 abbrev pub offsetPlain : ℕ → SizedOp → OffsetOperands → Plain
 offsetPlain family op o =
     record {
       family = family;
       operation = sizedCode op;
-      direction = directionOf (sizedMoved op) (opcOf op);
+      direction = directionOf (sizedMoved op) (sizedLoad op);
       bytes = sizedMoved op;
       target = o .target;
       second = 0;
@@ -106,7 +109,7 @@ indexPlain op o =
     record {
       family = 7;
       operation = sizedCode op;
-      direction = directionOf (sizedMoved op) (opcOf op);
+      direction = directionOf (sizedMoved op) (sizedLoad op);
       bytes = sizedMoved op;
       target = o .target;
       second = 0;

@@ -12,7 +12,7 @@ use instruction::PairOperands;
 use instruction::SizedOp;
 ghost use mathlib.Core.Path.{_≡_};
 ghost use Prim.Native.Nat.{_<_};
-ghost use Rattle.plain.specs.Plains.{plainOf, emptyPlain, literalPlain, pairPlain, offsetPlain, indexPlain, exclusivePlain, sizedMoved, literalMoved, directionOf};
+ghost use Rattle.plain.specs.Plains.{plainOf, emptyPlain, literalPlain, pairPlain, offsetPlain, indexPlain, exclusivePlain, sizedMoved, literalMoved, sizedLoad, directionOf};
 
 pub fn plain_of(i: Instruction) -> Plain
     ensures { λ r. ⌜ r ≡ plainOf i ⌝ }
@@ -66,7 +66,7 @@ fn literal(op: LiteralOp, o: LiteralOperands) -> Plain
     let bytes = literal_moved(op);
     let mut p = blank();
     p.family = 1;
-    p.operation = instruction::literal_opc(op);
+    p.operation = instruction::literal_code(op);
     p.direction = direction(bytes, 1);
     p.bytes = bytes;
     p.target = o.target;
@@ -99,7 +99,7 @@ fn offset(family: u32, op: SizedOp, o: OffsetOperands) -> Plain
     let mut p = blank();
     p.family = family;
     p.operation = instruction::sized_code(op);
-    p.direction = direction(bytes, instruction::opc_field(op));
+    p.direction = direction(bytes, sized_load(op));
     p.bytes = bytes;
     p.target = o.target;
     p.base = o.base;
@@ -114,7 +114,7 @@ fn index(op: SizedOp, o: IndexOperands) -> Plain
     let mut p = blank();
     p.family = 7;
     p.operation = instruction::sized_code(op);
-    p.direction = direction(bytes, instruction::opc_field(op));
+    p.direction = direction(bytes, sized_load(op));
     p.bytes = bytes;
     p.target = o.target;
     p.base = o.base;
@@ -159,7 +159,20 @@ fn literal_moved(op: LiteralOp) -> u32
         LiteralOp::LiteralDouble => 8,
         LiteralOp::LiteralSignedWord => 4,
         LiteralOp::LiteralPrefetch => 0,
+        LiteralOp::LiteralVectorWord => 4,
+        LiteralOp::LiteralVectorDouble => 8,
+        LiteralOp::LiteralVectorQuad => 16,
     }
+}
+
+// 1 for a load, and 0 for a store.
+fn sized_load(op: SizedOp) -> u32
+    ensures { λ r. ⌜ r ≡ sizedLoad op ⌝ }
+{
+    if instruction::sized_stores(op) {
+        return 0;
+    }
+    1
 }
 
 // By a number that only a load has.

@@ -1,10 +1,10 @@
 -- What each return of the builder shows, over plain values. Assumes nothing.
-use Prim.Native.Nat.{ℕ, _+_, _*_}
+use Prim.Native.Nat.{ℕ}
 use mathlib.Core.Path.{_≡_, sym, ap, _∙_}
 use lib.IntN.{ℤ}
 use borrow.Author.Tests.{ne-eqb}
 use Rattle.bits.specs.Choice.{lookup}
-use Rattle.instruction.specs.Operations.{sizeOf, opcOf}
+use Rattle.instruction.specs.Operations.{sizedCode}
 use Rattle.reader.specs.Types.{Scan, Name, Tail, SizedOp, LiteralOp, LiteralWord, PairOp, PairMode, Family, Literal, Pair, AccessSize, LiteralOperands, PairOperands}
 use Rattle.reader.specs.route.Names.{letterFor, nameFor}
 use Rattle.reader.specs.route.Targets.{targetAt}
@@ -15,9 +15,9 @@ use Rattle.reader.specs.route.Build.{keyIn, numIn, registerOf, literalTa
 pub by-case : {A B : Type 0} (f : A → B) {a b : A} {r : B} → a ≡ b → r ≡ f b → r ≡ f a
 by-case f e p = p ∙ ap f (sym e)
 
-pub literal-by : (op : SizedOp) {a b : ℕ} {r : LiteralOp} → a ≡ sizeOf op → b ≡ opcOf op → r ≡ lookup LiteralWord literalTable (a * 4 + b) → r ≡ literalFor op
+pub literal-by : (op : SizedOp) {a : ℕ} {r : LiteralOp} → a ≡ sizedCode op → r ≡ lookup LiteralWord literalTable a → r ≡ literalFor op
 unfolding literalFor
-literal-by op p q e = e ∙ rw (p, q)
+literal-by op p e = e ∙ rw p
 
 module _ (s : Scan) where
   pub literal-is : {t : ℕ} {z : ℤ} → t ≡ targetAt (keyIn s 1) (numIn s 1) → z ≡ offsetAt (keyIn s 2) (numIn s 2) → record { target = t; offset = z } ≡ literalFrom s

@@ -1,17 +1,15 @@
 -- The family of a line comes back, if its operands are in range. Assumes nothing.
 use Prim.Native.Nat.{ℕ, _<_}
-use mathlib.Core.Path.{_≡_, refl, ap, _∙_}
-use mathlib.Core.Bool.{Bool, true, false}
+use mathlib.Core.Path.{_≡_, refl, sym, ap, _∙_}
+use mathlib.Core.Bool.{false≢true}
 use mathlib.Core.List.{List, _++_, foldl}
 use native.Mathlib.Omega.{arith}
-use lib.Dec.{eqb, ltb}
 use lib.IntN.{pos, natAbs}
-use Rattle.bits.specs.Choice.{pick}
-use Rattle.instruction.specs.Operations.{pairOpc, accessScale}
 use Rattle.instruction.specs.route.Bounds.{ExclusiveBounds, StoreExclusiveBounds}
 use Rattle.ascii.specs.Ascii.{asc}
 use Rattle.mnemonic.specs.Mnemonics.{literalSized, pairName}
-use Rattle.mnemonic.specs.Operands.{Narrow, Wide, sizedOperand, pairOperand, accessOperand}
+use Rattle.mnemonic.specs.Operands.{Operand, Narrow, Wide, Hint, VectorB, VectorH, VectorS, VectorD, VectorQ, sizedOperand, pairOperand, accessOperand}
+use Rattle.mnemonic.proofs.Registers.{Registered, pair-registered, access-registered}
 use Rattle.text.specs.Texts.{operandText, baseText, frontText, offsetTail, preTail, postTail, indexTail, literalText, pairText, sizedText, exclusiveText, storeExclusiveText, familyText}
 use Rattle.reader.specs.Types.{Scan, Tail, SizedOp, Prefetch, LiteralOp, PairOp, PairMode, NoAllocate, Post, Offset, Pre, Family, Empty, Literal, Pair, Ordered, Unscaled, PostIndex, PreIndex, Register, Unsigned, Exclusive, StoreExclusive, ExclusiveOp, StoreExclusiveOp, AccessSize, LiteralOperands, PairOperands, OffsetOperands, IndexOperands, ExclusiveOperands, StoreExclusiveOperands}
 use Rattle.reader.specs.route.Scan.{stepOf, scanStart}
@@ -122,12 +120,18 @@ index-comes op o v =
     ap buildOf (single-goes N (o .target) (v .target) (o .base) (v .base) (indexTail op o)) ∙ built-plain op (e .kept) (N .reads (o .target) (v .target)) refl (e .tail)
     ∙ ap (λ (x : IndexOperands). made (Register op x)) (index-from (target-is (sizedOperand op) (o .target) (v .target)) (v .base) (v .index) e)
 
-register-num : (b : Bool) (r : ℕ) → operandNum (pick b Narrow Wide) r ≡ r
-register-num true r = refl
-register-num false r = refl
+register-num : (o : Operand) → Registered o → (r : ℕ) → operandNum o r ≡ r
+register-num Narrow g r = refl
+register-num Wide g r = refl
+register-num Hint g r = absurd (false≢true (sym g))
+register-num VectorB g r = refl
+register-num VectorH g r = refl
+register-num VectorS g r = refl
+register-num VectorD g r = refl
+register-num VectorQ g r = refl
 
 pair-num : (op : PairOp) (r : ℕ) → operandNum (pairOperand op) r ≡ r
-pair-num op r = register-num (eqb (pairOpc op) 0) r
+pair-num op r = register-num (pairOperand op) (pair-registered op) r
 
 module _ (op : PairOp) (o : PairOperands) (v : PairRange o) where
   noallocate-comes : o .mode ≡ NoAllocate → Comes (Pair op o)
@@ -162,7 +166,7 @@ module _ (op : PairOp) (o : PairOperands) (v : PairRange o) where
   by-mode Pre m = rw m (allocate-comes (preTail (o .offset)) (pre-end words (o .offset) (v .offset)))
 
 data-num : (size : AccessSize) (r : ℕ) → operandNum (accessOperand size) r ≡ r
-data-num size r = register-num (ltb (accessScale size) 3) r
+data-num size r = register-num (accessOperand size) (access-registered size) r
 
 exclusive-comes : (op : ExclusiveOp) (o : ExclusiveOperands) → ExclusiveBounds o → Comes (Exclusive op o)
 unfolding scanned exclusiveText offsetTail

@@ -9,16 +9,16 @@ use lib.Dec.{eqb}
 use borrow.Author.Tests.{eqb-true, ne-eqb}
 use Rattle.bits.specs.Fields.{part}
 use Rattle.bits.proofs.Choices.{both, tested}
-use Rattle.instruction.specs.Operations.{sizeOf, opcOf, sizedAt, pairAt, exclusiveAt, storeExclusiveAt, sizeAt}
-use Rattle.instruction.proofs.Codes.{sized-at, exclusive-below, scale-below}
+use Rattle.instruction.specs.Operations.{sizedCode, sizedAt, pairAt, exclusiveAt, storeExclusiveAt, sizeAt}
+use Rattle.instruction.proofs.Codes.{sized-whole, exclusive-below, scale-below}
 use Rattle.ascii.specs.Ascii.{asc, dec}
 use Rattle.text.specs.Hints.{hintText}
 use Rattle.mnemonic.specs.Mnemonics.{literalSized}
-use Rattle.mnemonic.specs.Operands.{Operand, Narrow, Wide, Hint, letterOf, accessOperand}
+use Rattle.mnemonic.specs.Operands.{Operand, Narrow, Wide, Hint, VectorB, VectorH, VectorS, VectorD, VectorQ, letterOf, accessOperand}
 use Rattle.mnemonic.specs.route.Names.{stemAt, nameAt, nameText, nameOperand, numberOf, nameCount}
 use Rattle.mnemonic.proofs.Told.{same, same-is}
 use Rattle.mnemonic.proofs.Numbered.{number-below, name-back, exclusive-after}
-use Rattle.reader.specs.Types.{Scan, Name, Stem, SizedOp, Prefetch, LiteralOp, LiteralWord, LiteralDouble, LiteralSignedWord, LiteralPrefetch, PairOp, ExclusiveOp, StoreExclusiveOp, AccessSize, Byte, Half, Word, Double}
+use Rattle.reader.specs.Types.{Scan, Name, Stem, SizedOp, Prefetch, LiteralOp, LiteralWord, LiteralDouble, LiteralSignedWord, LiteralPrefetch, LiteralVectorWord, LiteralVectorDouble, LiteralVectorQuad, PairOp, ExclusiveOp, StoreExclusiveOp, AccessSize, Byte, Half, Word, Double}
 use Rattle.reader.specs.route.Scan.{packed, plainOf, stepOf, scanStart}
 use Rattle.reader.specs.route.Names.{letterFor, isName, searched, nameFor}
 use Rattle.reader.specs.route.Targets.{lowBits, targetAt}
@@ -36,6 +36,11 @@ unfolding letterFor letterTest hintText part dec
 letter-is Narrow r h = by-test (eqb r 31) (λ e. rw e) (λ e. rw e)
 letter-is Wide r h = by-test (eqb r 31) (λ e. rw e) (λ e. rw e)
 letter-is Hint r h = eqb-true _ _ (tested 32 letterTest refl r h)
+letter-is VectorB r h = refl
+letter-is VectorH r h = refl
+letter-is VectorS r h = refl
+letter-is VectorD r h = refl
+letter-is VectorQ r h = refl
 
 targetTest : ℕ → Bool
 targetTest r = eqb (targetAt (packed (operandKey Hint r) 44) (operandNum Hint r)) r
@@ -46,6 +51,11 @@ unfolding targetAt lowBits targetTest hintText part dec
 target-is Narrow r h = by-test (eqb r 31) (λ e. rw e (mod-eq-of-lt h)) (λ e. rw e (mod-eq-of-lt h))
 target-is Wide r h = by-test (eqb r 31) (λ e. rw e (mod-eq-of-lt h)) (λ e. rw e (mod-eq-of-lt h))
 target-is Hint r h = eqb-true _ _ (tested 32 targetTest refl r h)
+target-is VectorB r h = mod-eq-of-lt h
+target-is VectorH r h = mod-eq-of-lt h
+target-is VectorS r h = mod-eq-of-lt h
+target-is VectorD r h = mod-eq-of-lt h
+target-is VectorQ r h = mod-eq-of-lt h
 
 -- ---- mnemonics
 
@@ -124,7 +134,7 @@ pub ordered-named : (op : SizedOp) → ¬ (op ≡ Prefetch) → Named (nameText 
 unfolding sizedAt
 ordered-named op n =
     name-named (Name.Sized Stem.Order op)
-    ((λ e. let k : sizeOf op * 4 + opcOf op ≡ 14 = omega arith in n (sym (sized-at op) ∙ ap sizedAt k)), (λ e. omega arith), (λ e. omega arith))
+    ((λ e. let k : sizedCode op ≡ 14 = omega arith in n (sym (sized-whole op) ∙ ap sizedAt k)), (λ e. omega arith), (λ e. omega arith))
 
 pub pair-named : (op : PairOp) → Named (nameText (Name.AllocatePair op)) (nameOperand (Name.AllocatePair op)) (Name.AllocatePair op)
 pair-named op = name-named (Name.AllocatePair op) ((λ e. omega arith), (λ e. omega arith), (λ e. omega arith))
@@ -168,3 +178,6 @@ literal-for LiteralWord = refl
 literal-for LiteralDouble = refl
 literal-for LiteralSignedWord = refl
 literal-for LiteralPrefetch = refl
+literal-for LiteralVectorWord = refl
+literal-for LiteralVectorDouble = refl
+literal-for LiteralVectorQuad = refl

@@ -5,10 +5,8 @@ use mathlib.Core.Bool.{false}
 use mathlib.Core.List.{[], _∷_}
 use native.Mathlib.Nat.{pos-of-ne-zero}
 use native.Mathlib.Omega.{arith}
-use lib.Dec.{eqb}
 use borrow.Author.Tests.{eqb-false}
 use Rattle.bits.specs.Fields.{part}
-use Rattle.bits.proofs.Choices.{neither}
 use Rattle.bits.proofs.Parts.{part-lt, cut, Has}
 use Rattle.instruction.specs.declared.row.Row.{Row}
 use Rattle.instruction.specs.declared.row.Row.the-variants.{NoRow, LiteralRow, PairRow, OrderedRow, UnscaledRow, PostRow, PreRow, RegisterRow, UnsignedRow, LoadExclusiveRow, StoreExclusiveRow, AcquireReleaseRow}
@@ -23,16 +21,15 @@ use Rattle.reader.proofs.Families.{OffsetRange, IndexRange, LiteralRang
 
 -- ---- operations
 
-sizedRange : (w : ℕ) → sizeOpc w < 16
-sizedRange w = omega (arith, part-lt 30 2 w, part-lt 22 2 w)
+sizedRange : (w : ℕ) → sizeOpc w < 32
+sizedRange w = omega (arith, part-lt 26 1 w, part-lt 30 2 w, part-lt 22 2 w)
 
 no-prefetch : (w : ℕ) → undefinedPrefetch w ≡ false → ¬ (sizedIn w ≡ Prefetch)
 unfolding undefinedSize sizedIn
 no-prefetch w u e =
     let p = prefetch-no w u in
-    let n = neither (eqb (sizeOpc w) 0b10_11) (eqb (sizeOpc w) 0b11_11) (p .0) in
-    let c = sized-code (sizeOpc w) (sizedRange w) (eqb-false _ _ (n .0)) (eqb-false _ _ (n .1)) in
-    eqb-false (sizeOpc w) 0b11_10 (p .1) (sym (rw e at c))
+    let c = sized-code (sizeOpc w) (sizedRange w) (p .0) in
+    eqb-false (sizeOpc w) 0b0_11_10 (p .1) (sym (rw e at c))
 
 one-of-four : (k a b : ℕ) → k ≡ a + (1 + b * 2) * 2 → a < 2 → b < 2 → ¬ (k ≡ 2) → ¬ (k ≡ 3) → ¬ (k ≡ 6) → k ≡ 7
 one-of-four k a b e h g p q r = omega arith

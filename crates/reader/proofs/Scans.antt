@@ -15,8 +15,8 @@ use Rattle.bits.specs.Fields.{part}
 use Rattle.bits.proofs.Choices.{both, neither, tested}
 use Rattle.ascii.specs.Ascii.{dec, signedDec}
 use Rattle.text.specs.Hints.{hintText}
-use Rattle.text.specs.Texts.{registerText, baseText, operandText}
-use Rattle.mnemonic.specs.Operands.{Operand, Narrow, Wide, Hint}
+use Rattle.text.specs.Texts.{isZero, registerText, baseText, operandText}
+use Rattle.mnemonic.specs.Operands.{Operand, Narrow, Wide, Hint, VectorB, VectorH, VectorS, VectorD, VectorQ}
 use Rattle.ascii.proofs.Decimals.{dec-one, dec-more}
 use Rattle.reader.specs.Types.{Scan}
 use Rattle.reader.specs.route.Scan.{packed, keyed, digited, plainOf, stepOf}
@@ -58,7 +58,7 @@ word s k n = record { keys = set (s .keys) (s .at % 8) k; nums = set (s .nums) (
 
 -- the keys that registers, bases and signed numbers add
 abbrev pub registerKey : ℕ → ℕ → ℕ
-registerKey letter r = pick (eqb r 31) (packed (packed (packed 0 letter) 122) 114) (packed 0 letter)
+registerKey letter r = pick (isZero letter r) (packed (packed (packed 0 letter) 122) 114) (packed 0 letter)
 
 abbrev pub baseKey : ℕ → ℕ → ℕ
 baseKey k r = pick (eqb r 31) (packed (packed k 115) 112) (packed k 120)
@@ -78,11 +78,21 @@ abbrev pub operandKey : Operand → ℕ → ℕ
 operandKey Narrow r = registerKey 119 r
 operandKey Wide r = registerKey 120 r
 operandKey Hint r = foldl keyStep 0 (hintText r)
+operandKey VectorB r = registerKey 98 r
+operandKey VectorH r = registerKey 104 r
+operandKey VectorS r = registerKey 115 r
+operandKey VectorD r = registerKey 100 r
+operandKey VectorQ r = registerKey 113 r
 
 abbrev pub operandNum : Operand → ℕ → ℕ
 operandNum Narrow r = r
 operandNum Wide r = r
 operandNum Hint r = foldl numStep 0 (hintText r)
+operandNum VectorB r = r
+operandNum VectorH r = r
+operandNum VectorS r = r
+operandNum VectorD r = r
+operandNum VectorQ r = r
 
 -- no space and no bracket
 inWord : List ℕ → Bool
@@ -181,15 +191,15 @@ module _ (s : Scan) (hk : s .at % 8 < length (s .keys)) (hn : s .at % 8 < length
       simp (ne-eqb b 32 n, ne-eqb b 91 (λ e. omega arith), ne-eqb b 112 (λ e. omega arith), ne-eqb b 122 (λ e. omega arith), lt-ltb b 48 l)
       (keyed-word k 0 b)
 
-  pub register-scan : (letter r : ℕ) → 112 < letter → letter < 122 → r < 32 → Scans (word s 0 0) (registerText letter r) (word s (registerKey letter r) r)
+  -- w and x
+  pub register-scan : (letter r : ℕ) → 118 < letter → letter < 122 → r < 32 → Scans (word s 0 0) (registerText letter r) (word s (registerKey letter r) r)
   unfolding registerText stepOf
   register-scan letter r l m h =
+      let step = letter-step 0 0 letter (omega arith) m in
       by-same r 31
       (λ e.
-      rw e
-      (first letter (letter-step 0 0 letter l m)
-      (first 122 (letter-31 _ 122) (first 114 (letter-step _ 31 114 (omega arith) (omega arith)) done))))
-      (λ e. simp (ne-eqb r 31 e) (first letter (letter-step 0 0 letter l m) (dec-scan _ r (omega arith))))
+      rw (e, lt-ltb 118 letter l) (first letter step (first 122 (letter-31 _ 122) (first 114 (letter-step _ 31 114 (omega arith) (omega arith)) done))))
+      (λ e. simp (ne-eqb r 31 e, lt-ltb 118 letter l) (first letter step (dec-scan _ r (omega arith))))
 
   pub base-scan : (k r : ℕ) → r < 32 → Scans (word s k 0) (baseText r) (word s (baseKey k r) r)
   unfolding baseText stepOf
@@ -199,9 +209,15 @@ module _ (s : Scan) (hk : s .at % 8 < length (s .keys)) (hn : s .at % 8 < length
       (λ e. simp (ne-eqb r 31 e) (first 120 (letter-step k 0 120 (omega arith) (omega arith)) (dec-scan _ r (omega arith))))
 
   pub operand-scan : (o : Operand) (r : ℕ) → r < 32 → Scans (word s 0 0) (operandText o r) (word s (operandKey o r) (operandNum o r))
+  unfolding registerText plainOf stepOf
   operand-scan Narrow r h = register-scan 119 r (omega arith) (omega arith) h
   operand-scan Wide r h = register-scan 120 r (omega arith) (omega arith) h
   operand-scan Hint r h = piece (hintText r) (bytes-scan 0 0 (hintText r) (in-word r h))
+  operand-scan VectorB r h = first 98 (keyed-word 0 0 98) (dec-scan _ r (omega arith))
+  operand-scan VectorH r h = first 104 (keyed-word 0 0 104) (dec-scan _ r (omega arith))
+  operand-scan VectorS r h = first 115 (keyed-word 0 0 115) (dec-scan _ r (omega arith))
+  operand-scan VectorD r h = first 100 (keyed-word 0 0 100) (dec-scan _ r (omega arith))
+  operand-scan VectorQ r h = first 113 (keyed-word 0 0 113) (dec-scan _ r (omega arith))
 
   -- a number behind its #
   pub signed-scan : (z : ℤ) → natAbs z < 0x20_0000 → Scans (word s (packed 0 35) 0) (signedDec z) (word s (signKey z) (natAbs z))
@@ -209,5 +225,5 @@ module _ (s : Scan) (hk : s .at % 8 < length (s .keys)) (hn : s .at % 8 < length
   signed-scan (pos n) h = dec-scan _ n (omega arith)
   signed-scan (negsuc n) h = first 45 (sign-step _ 45 (λ e. omega arith) (omega arith)) (dec-scan _ (suc n) (omega arith))
 
-  pub amount-scan : (n : ℕ) → n < 4 → Scans (word s (packed 0 35) 0) (dec n) (word s (packed 0 35) n)
+  pub amount-scan : (n : ℕ) → n < 5 → Scans (word s (packed 0 35) 0) (dec n) (word s (packed 0 35) n)
   amount-scan n h = dec-scan _ n (omega arith)

@@ -165,7 +165,7 @@ module _ (w : Words) where
 
   module _ (r : ℕ) (h : r < 32) where
     -- up to the index register
-    index-front : (letter : ℕ) → 112 < letter → letter < 122
+    index-front : (letter : ℕ) → 118 < letter → letter < 122
         → Scans (here w) (asc ", " ++ registerText letter r) (word (behind w (packed (w .key4) 44)) (registerKey letter r) r)
     unfolding plainOf stepOf
     index-front letter a b =
@@ -201,9 +201,9 @@ module _ (w : Words) where
         (record { kept = untouched; tail = wide-indexed r 44 (inl refl); index = refl; extend = refl; scale = refl })
 
     -- with an amount
-    module _ (n : ℕ) (g : n < 4) where
+    module _ (n : ℕ) (g : n < 5) where
       -- a name behind the register, and the amount
-      scaled-front : (letter e : ℕ) (p : List ℕ) → 112 < letter → letter < 122
+      scaled-front : (letter e : ℕ) (p : List ℕ) → 118 < letter → letter < 122
           → foldl stepOf (word (behind w (packed (w .key4) 44)) (registerKey letter r) r) (p ++ asc " #") ≡ word (amount w (packed (registerKey letter r) 44) r e) (packed 0 35) 0
           → Scans (here w) (asc ", " ++ registerText letter r ++ (p ++ (asc " #" ++ dec n))) (word (amount w (packed (registerKey letter r) 44) r e) (packed 0 35) n)
       scaled-front letter e p a b o =
@@ -253,4 +253,4 @@ module _ (w : Words) where
   pub index-end : (op : SizedOp) (o : IndexOperands) → o .index < 32 → (¬ (o .option ≡ 2) → ¬ (o .option ≡ 3) → ¬ (o .option ≡ 6) → o .option ≡ 7) → o .scaled < 2
       → IndexEnd w (o .index) (o .option) (o .scaled) (foldl stepOf (here w) (indexTail op o))
   unfolding indexTail
-  index-end op o h v b = index-any (o .index) h (scaleOf op) (sized op .size) (o .option) (o .scaled) v b
+  index-end op o h v b = index-any (o .index) h (scaleOf op) (sized op .scale) (o .option) (o .scaled) v b

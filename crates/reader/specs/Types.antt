@@ -4,7 +4,7 @@ pub use Rattle.instruction.specs.declared.answer.Answer.the-variants.{Done, NoS
 pub use Rattle.instruction.specs.declared.operation.SizedOp.{SizedOp}
 pub use Rattle.instruction.specs.declared.operation.SizedOp.the-variants.{StoreByte, LoadByte, LoadSignedByte64, LoadSignedByte32, StoreHalf, LoadHalf, LoadSignedHalf64, LoadSignedHalf32, StoreWord, LoadWord, LoadSignedWord64, StoreDouble, LoadDouble, Prefetch}
 pub use Rattle.instruction.specs.declared.operation.LiteralOp.{LiteralOp}
-pub use Rattle.instruction.specs.declared.operation.LiteralOp.the-variants.{LiteralWord, LiteralDouble, LiteralSignedWord, LiteralPrefetch}
+pub use Rattle.instruction.specs.declared.operation.LiteralOp.the-variants.{LiteralWord, LiteralDouble, LiteralSignedWord, LiteralPrefetch, LiteralVectorWord, LiteralVectorDouble, LiteralVectorQuad}
 pub use Rattle.instruction.specs.declared.operation.PairOp.{PairOp}
 pub use Rattle.instruction.specs.declared.operation.PairOp.the-variants.{StoreWords, LoadWords, LoadSignedWords, StoreDoubles, LoadDoubles}
 pub use Rattle.instruction.specs.declared.operation.PairMode.{PairMode}

@@ -35,10 +35,13 @@ fn register(number: u64) -> u32
 fn literal_for(op: SizedOp) -> LiteralOp
     ensures { λ r. ⌜ r ≡ literalFor op ⌝ }
 {
-    match instruction::size_field(op) * 4 + instruction::opc_field(op) {
+    match instruction::sized_code(op) {
         0b10_10 => LiteralOp::LiteralSignedWord,
         0b11_01 => LiteralOp::LiteralDouble,
         0b11_10 => LiteralOp::LiteralPrefetch,
+        0b1_10_01 => LiteralOp::LiteralVectorWord,
+        0b1_11_01 => LiteralOp::LiteralVectorDouble,
+        0b1_00_11 => LiteralOp::LiteralVectorQuad,
         _ => LiteralOp::LiteralWord,
     }
 }

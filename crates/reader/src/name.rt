@@ -21,7 +21,7 @@ pub fn name_for(operand: u64, name: u64) -> Name
     mnemonic::name_at(0)
 }
 
-// The letter of an operand by its key: w, x, or # for all others.
+// The letter of an operand by its key: w, x, b, h, s, d, q, or # for all others.
 pub fn letter_for(operand: u64) -> u16
     ensures { λ r. ⌜ r ≡ letterFor operand ⌝ }
 {
@@ -30,6 +30,11 @@ pub fn letter_for(operand: u64) -> u16
         0x2c72_7a77_0000_0000 => 0x77, // wzr,
         0x2c78_0000_0000_0000 => 0x78, // x,
         0x2c72_7a78_0000_0000 => 0x78, // xzr,
+        0x2c62_0000_0000_0000 => 0x62, // b,
+        0x2c68_0000_0000_0000 => 0x68, // h,
+        0x2c73_0000_0000_0000 => 0x73, // s,
+        0x2c64_0000_0000_0000 => 0x64, // d,
+        0x2c71_0000_0000_0000 => 0x71, // q,
         _ => 0x23,
     }
 }

@@ -12,8 +12,9 @@ use Rattle.bits.specs.Choice.{pick}
 use Rattle.bits.specs.Bytes.{bytesOf}
 use Rattle.ascii.specs.Ascii.{asc, dec, signedDec}
 use Rattle.mnemonic.specs.declared.Mnemonic.{Mnemonic}
-use Rattle.mnemonic.specs.Operands.{Operand, Narrow, Wide, Hint, letterOf}
+use Rattle.mnemonic.specs.Operands.{Operand, Narrow, Wide, Hint, VectorB, VectorH, VectorS, VectorD, VectorQ, letterOf}
 use Rattle.mnemonic.specs.route.Named.{Known, known, told}
+use Rattle.mnemonic.proofs.Registers.{Registered}
 use Rattle.text.specs.declared.piece.Piece.{Piece}
 use Rattle.text.specs.declared.store.Pieces.{Pieces}
 use Rattle.text.specs.Texts.{registerText, operandText, offsetTail, extendName, extendText, amountText, frontText}
@@ -44,6 +45,11 @@ unfolding firstPart restPart
 first-rest Narrow r = append-nil (registerText 119 r ++ asc ", ")
 first-rest Wide r = append-nil (registerText 120 r ++ asc ", ")
 first-rest Hint r = hint-parts r
+first-rest VectorB r = append-nil (registerText 98 r ++ asc ", ")
+first-rest VectorH r = append-nil (registerText 104 r ++ asc ", ")
+first-rest VectorS r = append-nil (registerText 115 r ++ asc ", ")
+first-rest VectorD r = append-nil (registerText 100 r ++ asc ", ")
+first-rest VectorQ r = append-nil (registerText 113 r ++ asc ", ")
 
 -- a mnemonic, and both pieces of the first operand
 pub front-is : (m : Mnemonic) (name : List ℕ) (o : Operand) (r : ℕ) → known m ≡ told name o → frontIn m r ++ restPart (known m .letter) r ≡ frontText name o r
@@ -54,25 +60,29 @@ front-is m name o r e =
     ∙ sym (append-assoc (name ++ asc " ") (operandText o r) (asc ", ")))
 
 -- an operand that is a register
-pub register-is : (b : Bool) (r : ℕ) → registerText (letterOf (pick b Narrow Wide)) r ≡ operandText (pick b Narrow Wide) r
-register-is true r = refl
-register-is false r = refl
+pub register-is : (o : Operand) → Registered o → (r : ℕ) → registerText (letterOf o) r ≡ operandText o r
+register-is Narrow h r = refl
+register-is Wide h r = refl
+register-is Hint h r = absurd (false≢true (sym h))
+register-is VectorB h r = refl
+register-is VectorH h r = refl
+register-is VectorS h r = refl
+register-is VectorD h r = refl
+register-is VectorQ h r = refl
 
-first-is : (b : Bool) (r : ℕ) → firstPart (letterOf (pick b Narrow Wide)) r ≡ operandText (pick b Narrow Wide) r ++ asc ", "
+first-is : (o : Operand) → Registered o → (r : ℕ) → firstPart (letterOf o) r ≡ operandText o r ++ asc ", "
 unfolding firstPart
-first-is true r = refl
-first-is false r = refl
+first-is o h r = rw h (ap (λ (l : List ℕ). l ++ asc ", ") (register-is o h r))
 
--- by a test whether it is a w
-module _ (m : Mnemonic) (name : List ℕ) (b : Bool) (r : ℕ) (e : known m ≡ told name (pick b Narrow Wide)) where
-  pub register-operand : registerText (m .shape / 256) r ≡ operandText (pick b Narrow Wide) r
-  register-operand = rw (ap (λ (k : Known). k .letter) e) (register-is b r)
+module _ (m : Mnemonic) (name : List ℕ) (o : Operand) (g : Registered o) (r : ℕ) (e : known m ≡ told name o) where
+  pub register-operand : registerText (m .shape / 256) r ≡ operandText o r
+  register-operand = rw (ap (λ (k : Known). k .letter) e) (register-is o g r)
 
-  pub register-front : frontIn m r ≡ frontText name (pick b Narrow Wide) r
+  pub register-front : frontIn m r ≡ frontText name o r
   unfolding frontIn frontText
   register-front =
-      rw (ap (λ (k : Known). k .letters) e, ap (λ (k : Known). k .letter) e, first-is b r)
-      (sym (append-assoc (name ++ asc " ") (operandText (pick b Narrow Wide) r) (asc ", ")))
+      rw (ap (λ (k : Known). k .letters) e, ap (λ (k : Known). k .letter) e, first-is o g r)
+      (sym (append-assoc (name ++ asc " ") (operandText o r) (asc ", ")))
 
 pub fits : (m : Mnemonic) (name : List ℕ) (o : Operand) → known m ≡ told name o → known m .fits ≡ true
 fits m name o e = ap (λ (k : Known). k .fits) e
@@ -175,13 +185,14 @@ pub sxtx-shown : (option s : ℕ) → ¬ (option ≡ 0b011) → ¬ (option ≡ 0
 unfolding bytesOf extendPart extendName
 sxtx-shown option s h i j = rw (ne-eqb option 0b011 h, ne-eqb option 0b010 i, ne-eqb option 0b110 j) (constant refl refl refl)
 
-pub amount-shown : (size : ℕ) → size < 4 → Shows (amountPart 1 size) (record { bytes = 0x5d30_2320 + size * 0x1_0000; length = 4 })
+pub amount-shown : (size : ℕ) → size < 5 → Shows (amountPart 1 size) (record { bytes = 0x5d30_2320 + size * 0x1_0000; length = 4 })
 unfolding bytesOf amountPart amountText dec
 amount-shown zero h = constant refl refl refl
 amount-shown (suc zero) h = constant refl refl refl
 amount-shown (suc (suc zero)) h = constant refl refl refl
 amount-shown (suc (suc (suc zero))) h = constant refl refl refl
-amount-shown (suc (suc (suc (suc n)))) h = absurd (omega arith)
+amount-shown (suc (suc (suc (suc zero)))) h = constant refl refl refl
+amount-shown (suc (suc (suc (suc (suc n))))) h = absurd (omega arith)
 
 -- ---- an index
 

@@ -1,8 +1,8 @@
 -- How long texts can be: none of an allocated word has more than `textMost` bytes, and one has as many. A piece that shows a
 -- number is bounded by its digits, and the numbers by their family (`Bounded`). Assumes nothing.
 use Prim.Native.Nat.{ℕ, suc, _+_, _^_, _≤_, _<_}
-use mathlib.Core.Path.{_≡_, refl}
-use mathlib.Core.Bool.{Bool, true, false, _||_}
+use mathlib.Core.Path.{_≡_, refl, sym}
+use mathlib.Core.Bool.{Bool, true, false, _||_, false≢true}
 use mathlib.Core.List.{List, [], _∷_, _++_}
 use native.Mathlib.Omega.{arith}
 use lib.Dec.{eqb, ltb}
@@ -10,6 +10,7 @@ use lib.IntN.{ℤ, pos, negsuc, natAbs}
 use lib.ListN.{length, length-append}
 use Rattle.bits.specs.Choice.{pick, lookup}
 use Rattle.bits.specs.Fields.{part, field}
+use Rattle.bits.proofs.Choices.{pick-by}
 use Rattle.instruction.specs.declared.exclusive.AccessSize.{AccessSize}
 use Rattle.instruction.specs.declared.operation.SizedOp.{SizedOp}
 use Rattle.instruction.specs.declared.operation.PairOp.{PairOp}
@@ -18,7 +19,7 @@ use Rattle.instruction.specs.declared.operation.PairMode.the-variants.{NoAlloca
 use Rattle.instruction.specs.declared.family.Family.{Family}
 use Rattle.instruction.specs.declared.family.Family.the-variants.{Empty, Literal, Pair, Ordered, Unscaled, PostIndex, PreIndex, Register, Unsigned, Exclusive, StoreExclusive}
 use Rattle.instruction.specs.declared.family.IndexOperands.{IndexOperands}
-use Rattle.instruction.specs.Operations.{sizedCode, sizedAt, sizeOf, opcOf, pairOpc, pairLoad, modeCode, exclusiveCode, storeExclusiveCode, accessScale}
+use Rattle.instruction.specs.Operations.{sizedCode, sizedAt, vectorOf, sizeOf, opcOf, scaleOf, sizedStores, pairCode, pairLoad, modeCode, exclusiveCode, storeExclusiveCode, accessScale}
 use Rattle.instruction.specs.Undefined.{undefinedSize, undefinedOption}
 use Rattle.instruction.specs.Operands.{sizedIn, indexIn}
 use Rattle.instruction.specs.Table.{inSet, rowOf, undefined, allocated, instructionOf}
@@ -27,10 +28,11 @@ use Rattle.instruction.specs.route.Bounds.{Bounded}
 use Rattle.instruction.proofs.Codes.{sized}
 use Rattle.decoder.proofs.Decodes.{decoded-bounded}
 use Rattle.ascii.specs.Ascii.{asc, dec, signedDec}
-use Rattle.mnemonic.specs.Operands.{Operand, Narrow, Wide, Hint, sizedOperand, pairOperand, accessOperand}
+use Rattle.mnemonic.specs.Operands.{Operand, Narrow, Wide, Hint, VectorB, VectorH, VectorS, VectorD, VectorQ, vectorOperand, sizedOperand, pairOperand, accessOperand}
+use Rattle.mnemonic.proofs.Registers.{Registered, wide-or-narrow, vector-registered, pair-registered, access-registered}
 use Rattle.mnemonic.specs.Mnemonics.{sizeLetter, suffix, stemmed, plainName, unscaledName, orderedName, literalSized, pairName, exclusiveName}
 use Rattle.text.specs.Hints.{unnamed, hintText}
-use Rattle.text.specs.Texts.{registerText, baseText, operandText, offsetTail, preTail, postTail, pairTail, extendName, amountText, extendText, indexTail, frontText, literalText, pairText, sizedText, exclusiveText, storeExclusiveText, familyText, textOf, textMost}
+use Rattle.text.specs.Texts.{isZero, registerText, baseText, operandText, offsetTail, preTail, postTail, pairTail, extendName, amountText, extendText, indexTail, frontText, literalText, pairText, sizedText, exclusiveText, storeExclusiveText, familyText, textOf, textMost}
 use Rattle.text.specs.Writing.{wordText}
 use Rattle.ascii.proofs.Decimals.{dec-short}
 
@@ -73,7 +75,7 @@ signed k (negsuc n) h = wider (lead 1 (asc "-") (omega arith) (number k h)) (ome
 
 register : (letter : ℕ) {r : ℕ} → r < 32 → Short 3 (registerText letter r)
 unfolding registerText
-register letter {r} h = lead 1 (letter ∷ []) (omega arith) (either (eqb r 31) (within (asc "zr") (omega arith)) (number 1 (omega arith)))
+register letter {r} h = lead 1 (letter ∷ []) (omega arith) (either (isZero letter r) (within (asc "zr") (omega arith)) (number 1 (omega arith)))
 
 base : {r : ℕ} → r < 32 → Short 3 (baseText r)
 unfolding baseText
@@ -87,10 +89,16 @@ hint {r} h =
     (one-of 2 (asc "l1") (asc "l2") (asc "l3") (omega arith) (omega arith) (omega arith) (field 2 1 r)))
     (either (eqb (field 0 0 r) 0) (within (asc "keep") (omega arith)) (within (asc "strm") (omega arith))))
 
--- a register of a pair, or the data of the ninth family
-pair-register : (b : Bool) {r : ℕ} → r < 32 → Short 3 (operandText (pick b Narrow Wide) r)
-pair-register true h = register 119 h
-pair-register false h = register 120 h
+-- any but a hint
+one : (o : Operand) → Registered o → {r : ℕ} → r < 32 → Short 3 (operandText o r)
+one Narrow g h = register 119 h
+one Wide g h = register 120 h
+one Hint g h = absurd (false≢true (sym g))
+one VectorB g h = register 98 h
+one VectorH g h = register 104 h
+one VectorS g h = register 115 h
+one VectorD g h = register 100 h
+one VectorQ g h = register 113 h
 
 -- ---- tails, by the digits of the offset
 
@@ -132,7 +140,7 @@ extend o s h =
 
 index : (op : SizedOp) (o : IndexOperands) → o .index < 32 → Short 15 (indexTail op o)
 unfolding indexTail
-index op o h = trail 1 (asc "]") (omega arith) (joined (lead 2 (asc ", ") (omega arith) (register _ h)) (extend _ _ (omega (arith, sized op .size))))
+index op o h = trail 1 (asc "]") (omega arith) (joined (lead 2 (asc ", ") (omega arith) (register _ h)) (extend _ _ (omega (arith, sized op .scale))))
 
 -- ---- mnemonics
 
@@ -146,17 +154,18 @@ behind : (size : ℕ) (signed : Bool) → Short 2 (suffix size signed)
 behind size signed = joined {m = 1} (either signed (within (asc "s") (omega arith)) (within [] (omega arith))) (letter size signed)
 
 -- a name and the first operand: a hint is longer, and the name of a prefetch shorter
-with-operand : (n : ℕ) (hinted wide : Bool) {name hintName : List ℕ} {r : ℕ} → r < 32 → Short (n + 2) name → Short (n + 1) hintName
-    → Short (n + 11) (pick hinted hintName name ++ asc " " ++ operandText (pick hinted Hint (pick wide Wide Narrow)) r)
-with-operand n true wide h s k = wider (joined (trail 1 (asc " ") (omega arith) k) (hint h)) (omega arith)
-with-operand n false true h s k = wider (joined (trail 1 (asc " ") (omega arith) s) (register 120 h)) (omega arith)
-with-operand n false false h s k = wider (joined (trail 1 (asc " ") (omega arith) s) (register 119 h)) (omega arith)
+with-operand : (n : ℕ) (hinted : Bool) (o : Operand) → Registered o → {name hintName : List ℕ} {r : ℕ} → r < 32 → Short (n + 2) name → Short (n + 1) hintName
+    → Short (n + 11) (pick hinted hintName name ++ asc " " ++ operandText (pick hinted Hint o) r)
+with-operand n true o g h s k = wider (joined (trail 1 (asc " ") (omega arith) k) (hint h)) (omega arith)
+with-operand n false o g h s k = wider (joined (trail 1 (asc " ") (omega arith) s) (one o g h)) (omega arith)
 
 stem : (n : ℕ) {store load hintName : List ℕ} → Short n store → Short n load → Short (n + 1) hintName → (op : SizedOp) {r : ℕ} → r < 32
     → Short (n + 11) (stemmed store load hintName op ++ asc " " ++ operandText (sizedOperand op) r)
 stem n s l k op h =
-    with-operand n (eqb (sizedCode op) 0b11_10) (eqb (sizeOf op) 0b11 || eqb (opcOf op) 0b10) h
-    (joined (either (eqb (opcOf op) 0b00) s l) (behind (sizeOf op) (ltb 0b01 (opcOf op)))) k
+    let wide = eqb (sizeOf op) 0b11 || eqb (opcOf op) 0b10 in
+    with-operand n (eqb (sizedCode op) 0b0_11_10) (pick (eqb (vectorOf op) 1) (vectorOperand (scaleOf op)) (pick wide Wide Narrow))
+    (pick-by Registered (eqb (vectorOf op) 1) (λ e. vector-registered (scaleOf op)) (λ e. wide-or-narrow wide)) h
+    (joined (either (sizedStores op) s l) (either (eqb (vectorOf op) 1) (within [] (omega arith)) (behind (sizeOf op) (ltb 0b01 (opcOf op))))) k
 
 plain : (op : SizedOp) {r : ℕ} → r < 32 → Short 14 (plainName op ++ asc " " ++ operandText (sizedOperand op) r)
 plain op h = stem 3 (within (asc "str") (omega arith)) (within (asc "ldr") (omega arith)) (within (asc "prfm") (omega arith)) op h
@@ -172,7 +181,7 @@ pair m op =
     joined {n = 2} (trail 1 (asc "p") (omega arith)
     (joined {m = 2} {n = 1} (either (eqb (pairLoad op) 0) (within (asc "st") (omega arith)) (within (asc "ld") (omega arith)))
     (either (eqb (modeCode m) 0) (within (asc "n") (omega arith)) (within [] (omega arith)))))
-    (either (eqb (pairOpc op) 1) (within (asc "sw") (omega arith)) (within [] (omega arith)))
+    (either (eqb (pairCode op) 3) (within (asc "sw") (omega arith)) (within [] (omega arith)))
 
 exclusive : (code : ℕ) (size : AccessSize) → Short 6 (exclusiveName code size)
 exclusive code size =
@@ -202,11 +211,11 @@ family Empty b = within [] (omega arith)
 family (Literal op o) b =
     wider (joined (trail 1 (asc "#") (omega arith) (front 14 (plainName (literalSized op)) _ (o .target) (plain (literalSized op) (b .target)))) (signed 6 (o .offset) (omega (arith, b .offset)))) (omega arith)
 family (Pair op o) b =
-    let narrow = eqb (pairOpc op) 0 in
-    let name = joined (trail 1 (asc " ") (omega arith) (pair (o .mode) op)) (pair-register narrow (b .first)) in
+    let register = pair-registered op in
+    let name = joined (trail 1 (asc " ") (omega arith) (pair (o .mode) op)) (one (pairOperand op) register (b .first)) in
     wider
-    (joined (joined (trail 3 (asc ", [") (omega arith) (joined (front 10 (pairName (o .mode) op) (pairOperand op) (o .first) name) (pair-register narrow (b .second)))) (base (b .base)))
-    (pair-tail 2 (o .offset) (omega (arith, b .offset)) (o .mode))) (omega arith)
+    (joined (joined (trail 3 (asc ", [") (omega arith) (joined (front 10 (pairName (o .mode) op) (pairOperand op) (o .first) name) (one (pairOperand op) register (b .second)))) (base (b .base)))
+    (pair-tail 3 (o .offset) (omega (arith, b .offset)) (o .mode))) (omega arith)
 family (Ordered op o) b = line 17 9 (orderedName op) op (o .target) (b .base) (ordered op (b .target)) (offset 2 (o .offset) (omega (arith, b .offset))) (omega arith)
 family (Unscaled op o) b = line 15 9 (unscaledName op) op (o .target) (b .base) (unscaled op (b .target)) (offset 2 (o .offset) (omega (arith, b .offset))) (omega arith)
 family (PostIndex op o) b = line 14 9 (plainName op) op (o .target) (b .base) (plain op (b .target)) (post 2 (o .offset) (omega (arith, b .offset))) (omega arith)
@@ -214,13 +223,13 @@ family (PreIndex op o) b = line 14 9 (plainName op) op (o .target) (b .base) (pl
 family (Register op o) b = line 14 15 (plainName op) op (o .target) (b .base) (plain op (b .target)) (index op o (b .index)) (omega arith)
 family (Unsigned op o) b = line 14 11 (plainName op) op (o .target) (b .base) (plain op (b .target)) (offset 4 (o .offset) (omega (arith, b .offset))) (omega arith)
 family (Exclusive op o) b =
-    let name = joined (trail 1 (asc " ") (omega arith) (exclusive (exclusiveCode op) (o .size))) (pair-register (ltb (accessScale (o .size)) 3) (b .target)) in
+    let name = joined (trail 1 (asc " ") (omega arith) (exclusive (exclusiveCode op) (o .size))) (one (accessOperand (o .size)) (access-registered (o .size)) (b .target)) in
     wider (trail 1 (asc "]") (omega arith) (joined (trail 1 (asc "[") (omega arith) (front 10 (exclusiveName (exclusiveCode op) (o .size)) (accessOperand (o .size)) (o .target) name)) (base (b .base)))) (omega arith)
 family (StoreExclusive op o) b =
     let name = joined (trail 1 (asc " ") (omega arith) (exclusive (storeExclusiveCode op) (o .size))) (register 119 (b .status)) in
     wider
     (trail 1 (asc "]") (omega arith)
-    (joined (trail 3 (asc ", [") (omega arith) (joined (front 10 (exclusiveName (storeExclusiveCode op) (o .size)) Narrow (o .status) name) (pair-register (ltb (accessScale (o .size)) 3) (b .target)))) (base (b .base))))
+    (joined (trail 3 (asc ", [") (omega arith) (joined (front 10 (exclusiveName (storeExclusiveCode op) (o .size)) Narrow (o .status) name) (one (accessOperand (o .size)) (access-registered (o .size)) (b .target)))) (base (b .base))))
     (omega arith)
 
 allocated-bounded : (w : ℕ) → allocated w ≡ true → Bounded (instructionOf w .family)

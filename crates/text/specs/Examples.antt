@@ -37,6 +37,17 @@ examples =
     ∷ line 0xc8027c20 "stxr w2, x0, [x1]"
     ∷ line 0x4802fc20 "stlxrh w2, w0, [x1]"
     ∷ line 0x881f7fe0 "stxr wzr, w0, [sp]"
+    ∷ line 0x3ce27820 "ldr q0, [x1, x2, lsl #4]"
+    ∷ line 0x6dbf27e8 "stp d8, d9, [sp, #-16]!"
+    ∷ line 0x1cffffe3 "ldr s3, #-4"
+    ∷ line 0x7c5fe041 "ldur h1, [x2, #-2]"
+    ∷ line 0x3c3f7bff "str b31, [sp, xzr, lsl #0]"
+    ∷ line 0x2c7f7fff "ldnp s31, s31, [sp, #-8]"
+    ∷ line 0x3d80003f "str q31, [x1]"
+    ∷ answer 0x7c800020 3
+    ∷ answer 0x2c7f7fff 4
+    ∷ answer 0x1d000000 2
+    ∷ answer 0xfc408421 0
     ∷ answer 0xb8c00020 3
     ∷ answer 0x38e00862 3
     ∷ answer 0xa9400020 4

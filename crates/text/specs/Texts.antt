@@ -1,12 +1,13 @@
--- The line of text of an instruction: 01, "Lines of text", and 02, CR 3.
+-- The line of text of an instruction: 01, "Lines of text", and 02, CR 3 and CR 12.
 use Prim.Native.Nat.{ℕ, _+_, _%_}
+use mathlib.Core.Bool.{Bool, _&&_}
 use mathlib.Core.List.{List, [], _∷_, _++_}
-use lib.Dec.{eqb}
+use lib.Dec.{eqb, ltb}
 use lib.IntN.{ℤ, natAbs}
 use Rattle.bits.specs.Choice.{pick}
 use Rattle.ascii.specs.Ascii.{asc, dec, signedDec}
 use Rattle.text.specs.Hints.{hintText}
-use Rattle.mnemonic.specs.Operands.{Operand, Narrow, Wide, Hint, sizedOperand, literalOperand, pairOperand, accessOperand}
+use Rattle.mnemonic.specs.Operands.{Operand, Narrow, Wide, Hint, VectorB, VectorH, VectorS, VectorD, VectorQ, sizedOperand, literalOperand, pairOperand, accessOperand}
 use Rattle.mnemonic.specs.Mnemonics.{plainName, unscaledName, orderedName, literalName, pairName, exclusiveName}
 use Rattle.instruction.specs.declared.exclusive.ExclusiveOp.{ExclusiveOp}
 use Rattle.instruction.specs.declared.exclusive.StoreExclusiveOp.{StoreExclusiveOp}
@@ -27,9 +28,13 @@ use Rattle.instruction.specs.Operations.{scaleOf, exclusiveCode, storeExclusive
 
 -- ---- registers
 
--- w or x, and a number; 31 is the zero register
+-- 31 is the zero register with a w or an x, which come behind a vector's letters; of a vector "31 is a register like any other"
+abbrev pub isZero : ℕ → ℕ → Bool
+isZero letter r = ltb 118 letter && eqb r 31
+
+-- a letter, and a number or zr
 unfoldable pub registerText : ℕ → ℕ → List ℕ
-registerText letter r = (letter ∷ []) ++ pick (eqb r 31) (asc "zr") (dec r)
+registerText letter r = (letter ∷ []) ++ pick (isZero letter r) (asc "zr") (dec r)
 
 -- 31 is the stack pointer
 unfoldable pub baseText : ℕ → List ℕ
@@ -39,6 +44,11 @@ abbrev pub operandText : Operand → ℕ → List ℕ
 operandText Narrow r = registerText 119 r
 operandText Wide r = registerText 120 r
 operandText Hint r = hintText r
+operandText VectorB r = registerText 98 r
+operandText VectorH r = registerText 104 r
+operandText VectorS r = registerText 115 r
+operandText VectorD r = registerText 100 r
+operandText VectorQ r = registerText 113 r
 
 -- ---- what stands behind the base
 

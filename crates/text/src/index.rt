@@ -17,7 +17,7 @@ ghost use Rattle.text.specs.route.Pieces.{Shows};
 ghost use Rattle.text.specs.route.Lines.{Made, restPart, frontIn, extendPart, amountPart};
 
 pub fn indexed(m: Mnemonic, o: IndexOperands, size: u32) -> Pieces
-    requires { ⌜ (known m .fits ≡ true) × (o .target < 32) × (o .base < 32) × (o .index < 32) × (size < 4) ⌝ }
+    requires { ⌜ (known m .fits ≡ true) × (o .target < 32) × (o .base < 32) × (o .index < 32) × (size < 5) ⌝ }
     ensures { λ r. ⌜ Made (frontIn m (o .target) ++ restPart (known m .letter) (o .target) ++ asc "[" ++ baseText (o .base) ++ (asc ", " ++ registerText (119 + o .option % 2) (o .index) ++ extendText (o .option) (o .scaled) size ++ asc "]")) r ⌝ }
 {
     let bracket = Piece {
@@ -76,7 +76,7 @@ fn shift(scaled: u32) -> Piece
 
 // The amount of a shift, and the bracket.
 fn amount(scaled: u32, size: u32) -> Piece
-    requires { ⌜ size < 4 ⌝ }
+    requires { ⌜ size < 5 ⌝ }
     ensures { λ r. ⌜ Shows (amountPart scaled size) r ⌝ }
 {
     if scaled == 1 {

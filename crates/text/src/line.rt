@@ -98,7 +98,7 @@ fn in_mode(mode: PairMode, m: Mnemonic, first: u32, second: Piece, base: u32, of
 }
 
 fn offset(stem: Stem, op: SizedOp, o: OffsetOperands) -> Pieces
-    requires { ⌜ OffsetBounds 32760 o ⌝ }
+    requires { ⌜ OffsetBounds 65520 o ⌝ }
     ensures { λ r. ⌜ Made (sizedText (sizedName stem op) op (o .target) (o .base) (offsetTail (o .offset))) r ⌝ }
 {
     let m = mnemonic::sized_name(stem, op);

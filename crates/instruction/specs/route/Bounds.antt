@@ -8,14 +8,14 @@ pub record LiteralBounds (o : LiteralOperands) : Type 0 where
   pub target : o .target < 32
   pub offset : natAbs (o .offset) ≤ 1048576
 
--- imm7, times 4 or 8
+-- imm7, times 4, 8 or 16
 pub record PairBounds (o : PairOperands) : Type 0 where
   pub first : o .first < 32
   pub second : o .second < 32
   pub base : o .base < 32
-  pub offset : natAbs (o .offset) ≤ 512
+  pub offset : natAbs (o .offset) ≤ 1024
 
--- imm9, with most 256; or imm12, times up to 8, with most 32760
+-- imm9, with most 256; or imm12, times up to 16, with most 65520
 pub record OffsetBounds (most : ℕ) (o : OffsetOperands) : Type 0 where
   pub target : o .target < 32
   pub base : o .base < 32
@@ -45,6 +45,6 @@ Bounded (Family.Unscaled op o) = OffsetBounds 256 o
 Bounded (Family.PostIndex op o) = OffsetBounds 256 o
 Bounded (Family.PreIndex op o) = OffsetBounds 256 o
 Bounded (Family.Register op o) = IndexBounds o
-Bounded (Family.Unsigned op o) = OffsetBounds 32760 o
+Bounded (Family.Unsigned op o) = OffsetBounds 65520 o
 Bounded (Family.Exclusive op o) = ExclusiveBounds o
 Bounded (Family.StoreExclusive op o) = StoreExclusiveBounds o

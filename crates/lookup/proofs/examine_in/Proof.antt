@@ -14,6 +14,7 @@ examine-in-spec =
     (tie.spec
     (λ c. search needs)
     (λ c. search needs)
+    (λ c. search needs)
     (λ c κs. search needs)
     (λ c κs. search needs)
     (λ c. c .finish .ensures ∙ ap (λ (e : ℕ). examineBy e (c .before .before .before .args .word)) (c .before .wide .ensures)))

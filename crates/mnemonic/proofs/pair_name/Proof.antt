@@ -9,10 +9,5 @@ pair-name-spec =
     tie.close
     (tie.spec
     (λ c κs. search needs)
-    (λ c. search needs)
     (λ c κs. search needs)
-    (λ c. search needs)
-    (λ c κs. search needs)
-    (λ c.
-    let entry = c .before .before .before .args in
-    pair-by (entry .mode) (entry .op) (c .before .before .pair-opc .ensures .0) (c .before .pair-load .ensures .0) (c .pair-at .ensures)))
+    (λ c. pair-by (c .before .before .args .mode) (c .before .before .args .op) (c .before .pair-code .ensures .0) (c .pair-at .ensures)))

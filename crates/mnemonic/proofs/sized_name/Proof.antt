@@ -9,10 +9,5 @@ sized-name-spec =
     tie.close
     (tie.spec
     (λ c κs. search needs)
-    (λ c. search needs)
     (λ c κs. search needs)
-    (λ c. search needs)
-    (λ c κs. search needs)
-    (λ c.
-    let entry = c .before .before .before .args in
-    sized-by (entry .stem) (entry .op) (c .before .before .size-field .ensures .0) (c .before .opc-field .ensures .0) (c .sized-at .ensures)))
+    (λ c. sized-by (c .before .before .args .stem) (c .before .before .args .op) (c .before .sized-code .ensures .0) (c .sized-at .ensures)))

@@ -3,7 +3,7 @@ use Prim.Native.Nat.{ℕ, _+_, _*_, _/_, _%_}
 use mathlib.Core.List.{List, [], _∷_}
 use lib.Dec.{ltb}
 use Rattle.bits.specs.Choice.{pick, lookup}
-use Rattle.instruction.specs.Operations.{sizeOf, opcOf, sizedAt, pairAt, pairOpc, pairLoad, exclusiveCode, exclusiveAt, storeExclusiveCode, storeExclusiveAt, accessScale, sizeAt}
+use Rattle.instruction.specs.Operations.{sizedCode, sizedAt, pairCode, pairAt, exclusiveCode, exclusiveAt, storeExclusiveCode, storeExclusiveAt, accessScale, sizeAt}
 use Rattle.instruction.specs.declared.operation.PairMode.{PairMode}
 use Rattle.mnemonic.specs.Mnemonics.{sizedName, pairName, exclusiveName}
 use Rattle.mnemonic.specs.Operands.{Operand, Narrow, sizedOperand, pairOperand, accessOperand}
@@ -11,7 +11,7 @@ use Rattle.mnemonic.specs.declared.Stem.{Stem}
 use Rattle.mnemonic.specs.declared.names.Name.{Name}
 
 abbrev pub stemTable : List (ℕ × Stem)
-stemTable = (2, Stem.Order) ∷ (3, Stem.Unscale) ∷ []
+stemTable = (1, Stem.Order) ∷ (2, Stem.Unscale) ∷ []
 
 unfoldable pub stemAt : ℕ → Stem
 stemAt n = lookup Stem.Plain stemTable n
@@ -20,8 +20,8 @@ unfoldable pub nameAt : ℕ → Name
 nameAt n =
     pick (ltb n 8) (Name.StoreExclusive (storeExclusiveAt (n / 4)) (sizeAt (n % 4)))
     (pick (ltb n 32) (Name.Exclusive (exclusiveAt (n / 4)) (sizeAt (n % 4)))
-    (pick (ltb n 80) (Name.Sized (stemAt (n / 16)) (sizedAt (n % 16)))
-    (pick (ltb n 88) (Name.NoAllocatePair (pairAt (n % 8))) (Name.AllocatePair (pairAt (n % 8))))))
+    (pick (ltb n 128) (Name.Sized (stemAt (n / 32)) (sizedAt (n % 32)))
+    (pick (ltb n 144) (Name.NoAllocatePair (pairAt (n % 16))) (Name.AllocatePair (pairAt (n % 16))))))
 
 abbrev pub nameText : Name → List ℕ
 nameText (Name.Sized stem op) = sizedName stem op
@@ -40,17 +40,17 @@ nameOperand (Name.StoreExclusive op size) = Narrow
 
 -- the number of a name
 abbrev pub stemNumber : Stem → ℕ
-stemNumber Stem.Order = 2
-stemNumber Stem.Unscale = 3
-stemNumber Stem.Plain = 4
+stemNumber Stem.Order = 1
+stemNumber Stem.Unscale = 2
+stemNumber Stem.Plain = 3
 
 abbrev pub numberOf : Name → ℕ
-numberOf (Name.Sized stem op) = stemNumber stem * 16 + (sizeOf op * 4 + opcOf op)
-numberOf (Name.NoAllocatePair op) = 80 + (pairOpc op * 2 + pairLoad op)
-numberOf (Name.AllocatePair op) = 88 + (pairOpc op * 2 + pairLoad op)
+numberOf (Name.Sized stem op) = stemNumber stem * 32 + sizedCode op
+numberOf (Name.NoAllocatePair op) = 128 + pairCode op
+numberOf (Name.AllocatePair op) = 144 + pairCode op
 numberOf (Name.Exclusive op size) = exclusiveCode op * 4 + accessScale size
 numberOf (Name.StoreExclusive op size) = storeExclusiveCode op * 4 + accessScale size
 
 -- how many numbers there are
 abbrev pub nameCount : ℕ
-nameCount = 96
+nameCount = 160

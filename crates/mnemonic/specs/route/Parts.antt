@@ -4,7 +4,7 @@ use mathlib.Core.List.{List, [], _∷_, _++_}
 use lib.Dec.{eqb, ltb}
 use lib.ListN.{length}
 use Rattle.bits.specs.Choice.{pick, lookup}
-use Rattle.instruction.specs.Operations.{sizedCode, sizeOf, opcOf, pairOpc, pairLoad}
+use Rattle.instruction.specs.Operations.{sizedCode, vectorOf, sizeOf, opcOf, sizedStores, pairCode, pairLoad}
 use Rattle.instruction.specs.declared.operation.SizedOp.{SizedOp}
 use Rattle.instruction.specs.declared.operation.PairOp.{PairOp}
 use Rattle.instruction.specs.declared.operation.PairMode.{PairMode}
@@ -58,12 +58,12 @@ entryOf kind letters shape = record { kind = kind; letters = letters; shape = sh
 
 abbrev pub sizedEntry : SizedOp → Entry
 sizedEntry op =
-    let behind = pick (eqb (sizedCode op) 0b11_10) [] (suffix (sizeOf op) (ltb 0b01 (opcOf op))) in
-    entryOf (pick (eqb (sizedCode op) 0b11_10) 2 (pick (eqb (opcOf op) 0b00) 0 1)) (packed behind) (shapeIn behind (sizedOperand op))
+    let behind = pick (eqb (sizedCode op) 0b0_11_10) [] (pick (eqb (vectorOf op) 1) [] (suffix (sizeOf op) (ltb 0b01 (opcOf op)))) in
+    entryOf (pick (eqb (sizedCode op) 0b0_11_10) 2 (pick (sizedStores op) 0 1)) (packed behind) (shapeIn behind (sizedOperand op))
 
 abbrev pub pairEntry : PairOp → Entry
 pairEntry op =
-    let behind = asc "p" ++ pick (eqb (pairOpc op) 0b01) (asc "sw") [] in
+    let behind = asc "p" ++ pick (eqb (pairCode op) 0b0_01_1) (asc "sw") [] in
     entryOf (pairLoad op) (packed behind) (shapeIn behind (pairOperand op))
 
 -- letters behind a stem

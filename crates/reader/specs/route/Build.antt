@@ -1,15 +1,15 @@
 -- The one instruction whose line a scanned text can be. It is a guess: whether the text is its line is seen by writing it.
-use Prim.Native.Nat.{ℕ, _+_, _*_, _%_}
+use Prim.Native.Nat.{ℕ, _%_}
 use mathlib.Core.Bool.{_&&_}
 use mathlib.Core.List.{List, [], _∷_}
 use lib.Dec.{eqb}
 use lib.ListN.{getD}
 use Rattle.bits.specs.Choice.{pick, lookup}
-use Rattle.instruction.specs.Operations.{sizeOf, opcOf, accessScale}
+use Rattle.instruction.specs.Operations.{sizedCode, accessScale}
 use Rattle.reader.specs.route.Names.{letterFor, nameFor}
 use Rattle.reader.specs.route.Targets.{targetAt}
 use Rattle.reader.specs.route.Tails.{tailAt, offsetAt, optionAt, scaledAt}
-use Rattle.reader.specs.Types.{Scan, Name, Stem, Tail, AtOffset, Before, After, Indexed, SizedOp, LiteralOp, LiteralWord, LiteralDouble, LiteralSignedWord, LiteralPrefetch, PairMode, NoAllocate, Post, Offset, Pre, Family, Literal, Pair, Ordered, Unscaled, PostIndex, PreIndex, Register, Unsigned, Exclusive, StoreExclusive, AccessSize, Word, Instruction, LiteralOperands, PairOperands, OffsetOperands, IndexOperands, ExclusiveOperands, StoreExclusiveOperands}
+use Rattle.reader.specs.Types.{Scan, Name, Stem, Tail, AtOffset, Before, After, Indexed, SizedOp, LiteralOp, LiteralWord, LiteralDouble, LiteralSignedWord, LiteralPrefetch, LiteralVectorWord, LiteralVectorDouble, LiteralVectorQuad, PairMode, NoAllocate, Post, Offset, Pre, Family, Literal, Pair, Ordered, Unscaled, PostIndex, PreIndex, Register, Unsigned, Exclusive, StoreExclusive, AccessSize, Word, Instruction, LiteralOperands, PairOperands, OffsetOperands, IndexOperands, ExclusiveOperands, StoreExclusiveOperands}
 
 -- the key and the number of a word
 abbrev pub keyIn : Scan → ℕ → ℕ
@@ -23,10 +23,12 @@ registerOf n = n % 32
 
 -- the load from a literal that has the name of a load with a size; the other names have none
 abbrev pub literalTable : List (ℕ × LiteralOp)
-literalTable = (0b10_10, LiteralSignedWord) ∷ (0b11_01, LiteralDouble) ∷ (0b11_10, LiteralPrefetch) ∷ []
+literalTable =
+    (0b10_10, LiteralSignedWord) ∷ (0b11_01, LiteralDouble) ∷ (0b11_10, LiteralPrefetch)
+    ∷ (0b1_10_01, LiteralVectorWord) ∷ (0b1_11_01, LiteralVectorDouble) ∷ (0b1_00_11, LiteralVectorQuad) ∷ []
 
 unfoldable pub literalFor : SizedOp → LiteralOp
-literalFor op = lookup LiteralWord literalTable (sizeOf op * 4 + opcOf op)
+literalFor op = lookup LiteralWord literalTable (sizedCode op)
 
 unfoldable pub literalFrom : Scan → LiteralOperands
 literalFrom s = record { target = targetAt (keyIn s 1) (numIn s 1); offset = offsetAt (keyIn s 2) (numIn s 2) }

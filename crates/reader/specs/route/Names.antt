@@ -11,9 +11,11 @@ use Rattle.mnemonic.specs.route.Names.{nameAt, nameText, nameOperand, nameCount
 use Rattle.reader.specs.route.Scan.{key}
 use Rattle.reader.specs.Types.{Name}
 
--- the letter by the key of the first operand: w, x, or #
+-- the letter by the key of the first operand: w, x, a vector's, or #
 abbrev pub letterTable : List (ℕ × ℕ)
-letterTable = (key "w,", 0x77) ∷ (key "wzr,", 0x77) ∷ (key "x,", 0x78) ∷ (key "xzr,", 0x78) ∷ []
+letterTable =
+    (key "w,", 0x77) ∷ (key "wzr,", 0x77) ∷ (key "x,", 0x78) ∷ (key "xzr,", 0x78)
+    ∷ (key "b,", 0x62) ∷ (key "h,", 0x68) ∷ (key "s,", 0x73) ∷ (key "d,", 0x64) ∷ (key "q,", 0x71) ∷ []
 
 unfoldable pub letterFor : ℕ → ℕ
 letterFor operand = lookup 0x23 letterTable operand

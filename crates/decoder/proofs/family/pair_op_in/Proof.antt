@@ -12,5 +12,7 @@ pair-op-in-spec =
     (tie.spec
     (λ c. search needs)
     (λ c. search needs)
+    (λ c. search needs)
+    (λ c. search needs)
     (λ c κs. search needs)
     (λ c. c .pair-at .ensures))

@@ -10,10 +10,10 @@ use borrow.Author.Needs.{needs}
 use Rattle.decoder.proofs.family.signed.Statement.{statement}
 use Rattle.decoder.proofs.family.signed.Tie as tie
 
-low : (c : tie.Then1) → c .before .args .bits * c .before .args .scale ≤ 4194304
+low : (c : tie.Then1) → c .before .args .bits * c .before .args .scale ≤ 8388608
 low c = small (omega arith) (omega arith)
 
-high : (c : tie.Else1) → (2 * c .before .args .half - c .before .args .bits) * c .before .args .scale ≤ 4194304
+high : (c : tie.Else1) → (2 * c .before .args .half - c .before .args .bits) * c .before .args .scale ≤ 8388608
 high c = small (omega arith) (omega arith)
 
 pub signed-spec : {M : Type 1} → statement M

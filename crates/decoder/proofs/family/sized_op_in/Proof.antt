@@ -12,5 +12,7 @@ sized-op-in-spec =
     (tie.spec
     (λ c. search needs)
     (λ c. search needs)
+    (λ c. search needs)
+    (λ c. search needs)
     (λ c κs. search needs)
     (λ c. c .sized-at .ensures))

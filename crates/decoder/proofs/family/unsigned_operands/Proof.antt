@@ -11,7 +11,7 @@ use borrow.Author.Needs.{needs}
 use Rattle.decoder.proofs.family.unsigned_operands.Statement.{statement}
 use Rattle.decoder.proofs.family.unsigned_operands.Tie as tie
 
-most : (c : tie.After-sized-bytes) → c .before .args .word / 1024 % 4096 * c .sized-bytes .result ≤ 4194304
+most : (c : tie.After-sized-bytes) → c .before .args .word / 1024 % 4096 * c .sized-bytes .result ≤ 8388608
 most c = small (omega arith) (omega (arith, c .sized-bytes .ensures, sized (c .before .args .op)))
 
 pub unsigned-operands-spec : {M : Type 1} → statement M

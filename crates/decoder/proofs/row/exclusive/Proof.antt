@@ -18,15 +18,16 @@ exclusive-spec =
     (λ c. search needs)
     (λ c. search needs)
     (λ c. search needs)
-    (λ c. sym (unkeyed _ (no-exclusive _ (c .before .pre) (λ a b d. omega arith) (λ a b d e. omega arith))))
-    (λ c. sym (unkeyed _ (no-exclusive _ (c .before .before .pre) (λ a b d. omega arith) (λ a b d e. omega arith))))
-    (λ c. sym (keyed _ Row.StoreExclusiveRow (c .before .before .before .pre, omega arith, omega arith, omega arith, omega arith)))
-    (λ c. sym (keyed _ Row.StoreExclusiveRow (c .before .before .before .pre, omega arith, omega arith, omega arith, omega arith)))
-    (λ c. sym (keyed _ Row.LoadExclusiveRow (c .before .before .before .pre, omega arith, omega arith, omega arith, omega arith)))
-    (λ c. sym (keyed _ Row.LoadExclusiveRow (c .before .before .before .pre, omega arith, omega arith, omega arith, omega arith)))
-    (λ c. sym (keyed _ Row.AcquireReleaseRow (c .before .before .before .pre, omega arith, omega arith, omega arith, omega arith)))
-    (λ c. sym (keyed _ Row.AcquireReleaseRow (c .before .before .before .pre, omega arith, omega arith, omega arith, omega arith)))
+    (λ c. sym (unkeyed _ (no-exclusive _ (c .before .pre) (λ a v b d. omega arith) (λ a v b d e. omega arith))))
+    (λ c. sym (unkeyed _ (no-exclusive _ (c .before .before .pre) (λ a v b d. omega arith) (λ a v b d e. omega arith))))
+    (λ c. sym (unkeyed _ (no-exclusive _ (c .before .before .before .pre) (λ a v b d. omega arith) (λ a v b d e. omega arith))))
+    (λ c. sym (keyed _ Row.StoreExclusiveRow (c .before .before .before .before .pre, omega arith, omega arith, omega arith, omega arith, omega arith)))
+    (λ c. sym (keyed _ Row.StoreExclusiveRow (c .before .before .before .before .pre, omega arith, omega arith, omega arith, omega arith, omega arith)))
+    (λ c. sym (keyed _ Row.LoadExclusiveRow (c .before .before .before .before .pre, omega arith, omega arith, omega arith, omega arith, omega arith)))
+    (λ c. sym (keyed _ Row.LoadExclusiveRow (c .before .before .before .before .pre, omega arith, omega arith, omega arith, omega arith, omega arith)))
+    (λ c. sym (keyed _ Row.AcquireReleaseRow (c .before .before .before .before .pre, omega arith, omega arith, omega arith, omega arith, omega arith)))
+    (λ c. sym (keyed _ Row.AcquireReleaseRow (c .before .before .before .before .pre, omega arith, omega arith, omega arith, omega arith, omega arith)))
     (λ c.
     let r = c .match .rest in
-    let x = no-exclusive _ (c .before .before .before .pre) (λ a b d. omega (arith, r)) (λ a b d e. omega (arith, r)) in
+    let x = no-exclusive _ (c .before .before .before .before .pre) (λ a v b d. omega (arith, r)) (λ a v b d e. omega (arith, r)) in
     sym (unkeyed _ x)))

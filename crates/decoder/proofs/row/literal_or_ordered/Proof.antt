@@ -16,6 +16,8 @@ literal-or-ordered-spec =
     (tie.spec
     (λ c. search needs)
     (λ c. search needs)
+    (λ c. search needs)
+    (λ c. search needs)
     (λ c. sym (keyed _ Row.LiteralRow (c .before .pre, c .if1 .taken)))
-    (λ c. sym (keyed _ Row.OrderedRow (c .before .before .pre, omega arith, c .match .keys1)))
+    (λ c. sym (keyed _ Row.OrderedRow (c .before .before .pre, omega arith, omega (arith, c .match .keys1), omega (arith, c .match .keys1))))
     (λ c. sym (unkeyed _ (no-ordered _ (c .before .before .pre) (c .before .if1 .left) (c .match .rest .1)))))

@@ -4,6 +4,7 @@ use Rattle.bits.specs.Fields.{part}
 use Rattle.instruction.specs.declared.row.Row.{Row}
 use Rattle.instruction.proofs.Rows.{keyed, unkeyed}
 use Rattle.decoder.proofs.Keyless.{no-group}
+use borrow.Author.Needs.{needs}
 use Rattle.decoder.proofs.row.row_of.Statement.{statement}
 use Rattle.decoder.proofs.row.row_of.Tie as tie
 
@@ -12,6 +13,8 @@ unfolding part
 row-of-spec =
     tie.close
     (tie.spec
+    (λ c. search needs)
+    (λ c. search needs)
     (λ c κs. c .match .keys1)
     (λ c κs. c .match .keys2)
     (λ c κs. c .match .keys4)

@@ -10,7 +10,9 @@ unfolding undefinedPrefetch part
 without-prefetch-spec =
     tie.close
     (tie.spec
+    (λ c. search needs)
+    (λ c. search needs)
+    (λ c. search needs)
+    (λ c. search needs)
     (λ c κs. search needs)
-    (λ c. search needs)
-    (λ c. search needs)
     (λ c. rw (c .in-size .ensures)))

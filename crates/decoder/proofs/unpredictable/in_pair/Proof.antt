@@ -12,4 +12,4 @@ in-pair-spec =
     (tie.spec
     (λ c κs. search needs)
     (λ c κs. search needs)
-    (λ c. rw (c .before .base-is .ensures, c .base-is2 .ensures)))
+    (λ c. rw (c .before .over-base .ensures, c .over-base2 .ensures)))

@@ -14,18 +14,19 @@ pair-sum-spec =
     (λ c.
     let s = c .before in
     let p = paired (s .args .op) in
-    word-not _ _ (simp (lt-ltb _ _ (p .opc), lt-ltb _ _ (mode-below (s .args .o .mode)), lt-ltb _ _ (p .load), le-ltb _ _ (c .if1 .taken))))
+    word-not _ _ (simp (lt-ltb _ _ (p .opc), lt-ltb _ _ (p .vector), lt-ltb _ _ (mode-below (s .args .o .mode)), lt-ltb _ _ (p .load), le-ltb _ _ (c .if1 .taken))))
     (λ c.
     let s = c .before .before in
     let p = paired (s .args .op) in
     word-not _ _
-    (simp (lt-ltb _ _ (p .opc), lt-ltb _ _ (mode-below (s .args .o .mode)), lt-ltb _ _ (p .load), lt-ltb _ _ (c .before .if1 .left), le-ltb _ _ (c .if2 .taken))))
+    (simp (lt-ltb _ _ (p .opc), lt-ltb _ _ (p .vector), lt-ltb _ _ (mode-below (s .args .o .mode)), lt-ltb _ _ (p .load), lt-ltb _ _ (c .before .if1 .left), le-ltb _ _ (c .if2 .taken))))
     (λ c.
     let s = c .before .before .before in
     let p = paired (s .args .op) in
     word-not _ _
     (simp (
       lt-ltb _ _ (p .opc),
+      lt-ltb _ _ (p .vector),
       lt-ltb _ _ (mode-below (s .args .o .mode)),
       lt-ltb _ _ (p .load),
       lt-ltb _ _ (c .before .before .if1 .left),
@@ -44,21 +45,25 @@ pair-sum-spec =
     (λ c κs. search needs)
     (λ c. search needs)
     (λ c. search needs)
+    (λ c κs. search needs)
+    (λ c. search needs)
+    (λ c. search needs)
     (λ c. search needs)
     (λ c. search needs)
     (λ c. search needs)
     (λ c. search needs)
     (λ c.
-    let s = c .before .before .before .before .before .before in
+    let s = c .before .before .before .before .before .before .before in
     let p = paired (s .args .op) in
     word-is _ _
     (simp (
       lt-ltb _ _ (p .opc),
+      lt-ltb _ _ (p .vector),
       lt-ltb _ _ (mode-below (s .args .o .mode)),
       lt-ltb _ _ (p .load),
-      lt-ltb _ _ (c .before .before .before .before .before .if1 .left),
-      lt-ltb _ _ (c .before .before .before .before .if2 .left),
-      lt-ltb _ _ (c .before .before .before .if3 .left),
+      lt-ltb _ _ (c .before .before .before .before .before .before .if1 .left),
+      lt-ltb _ _ (c .before .before .before .before .before .if2 .left),
+      lt-ltb _ _ (c .before .before .before .before .if3 .left),
       lt-ltb _ _ (s .pre),
     ))
-    (omega (arith, c .pair-load .ensures .0, c .before .mode-code .ensures .0, c .before .before .pair-opc .ensures .0))))
+    (omega (arith, c .pair-load .ensures .0, c .before .mode-code .ensures .0, c .before .before .pair-vector .ensures .0, c .before .before .before .pair-opc .ensures .0))))

@@ -17,6 +17,9 @@ sized-word-spec =
     (λ c. simp (lt-ltb _ _ (c .before .if1 .left), le-ltb _ _ (c .if2 .taken)))
     (λ c κs. search needs)
     (λ c κs. search needs)
+    (λ c κs. search needs)
+    (λ c. search needs)
+    (λ c. search needs)
     (λ c. search needs)
     (λ c. search needs)
     (λ c. search needs)
@@ -25,5 +28,5 @@ sized-word-spec =
     (λ c. search needs)
     (λ c. search needs)
     (λ c.
-    simp (lt-ltb _ _ (c .before .before .before .if1 .left), lt-ltb _ _ (c .before .before .if2 .left))
-    (ap Field.Holds (omega (arith, c .opc-field .ensures .0, c .before .size-field .ensures .0)))))
+    simp (lt-ltb _ _ (c .before .before .before .before .if1 .left), lt-ltb _ _ (c .before .before .before .if2 .left))
+    (ap Field.Holds (omega (arith, c .opc-field .ensures .0, c .before .vector-field .ensures .0, c .before .before .size-field .ensures .0)))))

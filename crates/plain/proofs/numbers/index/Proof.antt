@@ -12,4 +12,4 @@ index-spec =
     (λ c κs. search needs)
     (λ c κs. search needs)
     (λ c κs. search needs)
-    (λ c. rw (c .before .before .before .blank .ensures, c .before .before .sized-code .ensures .0, c .direction .ensures, c .before .opc-field .ensures .0, c .before .before .before .before .sized-moved .ensures)))
+    (λ c. rw (c .before .before .before .blank .ensures, c .before .before .sized-code .ensures .0, c .direction .ensures, c .before .sized-load .ensures, c .before .before .before .before .sized-moved .ensures)))

@@ -16,4 +16,4 @@ literal-spec =
     (λ c κs. search needs)
     (λ c.
     let f : SFits w64 (c .before .before .before .before .before .args .o .offset) = search needs in
-    rw (c .before .before .before .blank .ensures, c .before .before .literal-opc .ensures .0, c .before .direction .ensures, c .before .before .before .before .literal-moved .ensures, toZ-ofZ f)))
+    rw (c .before .before .before .blank .ensures, c .before .before .literal-code .ensures .0, c .before .direction .ensures, c .before .before .before .before .literal-moved .ensures, toZ-ofZ f)))

@@ -17,4 +17,4 @@ offset-spec =
     (λ c κs. search needs)
     (λ c.
     let f : SFits w64 (c .before .before .before .before .before .before .args .o .offset) = search needs in
-    rw (c .before .before .before .before .blank .ensures, c .before .before .before .sized-code .ensures .0, c .before .direction .ensures, c .before .before .opc-field .ensures .0, c .before .before .before .before .before .sized-moved .ensures, toZ-ofZ f)))
+    rw (c .before .before .before .before .blank .ensures, c .before .before .before .sized-code .ensures .0, c .before .direction .ensures, c .before .before .sized-load .ensures, c .before .before .before .before .before .sized-moved .ensures, toZ-ofZ f)))

@@ -11,10 +11,10 @@ literal-for-spec =
     tie.close
     (tie.spec
     (λ c κs. search needs)
-    (λ c. search needs)
-    (λ c κs. search needs)
-    (λ c. search needs)
-    (λ c. literal-by _ (c .before .before .size-field .ensures .0) (c .before .opc-field .ensures .0) (entry _ literalTable (c .match .keys1)))
-    (λ c. literal-by _ (c .before .before .size-field .ensures .0) (c .before .opc-field .ensures .0) (entry _ literalTable (c .match .keys2)))
-    (λ c. literal-by _ (c .before .before .size-field .ensures .0) (c .before .opc-field .ensures .0) (entry _ literalTable (c .match .keys3)))
-    (λ c. literal-by _ (c .before .before .size-field .ensures .0) (c .before .opc-field .ensures .0) (absent _ literalTable _ (c .match .rest))))
+    (λ c. literal-by _ (c .before .sized-code .ensures .0) (entry _ literalTable (c .match .keys1)))
+    (λ c. literal-by _ (c .before .sized-code .ensures .0) (entry _ literalTable (c .match .keys2)))
+    (λ c. literal-by _ (c .before .sized-code .ensures .0) (entry _ literalTable (c .match .keys3)))
+    (λ c. literal-by _ (c .before .sized-code .ensures .0) (entry _ literalTable (c .match .keys4)))
+    (λ c. literal-by _ (c .before .sized-code .ensures .0) (entry _ literalTable (c .match .keys5)))
+    (λ c. literal-by _ (c .before .sized-code .ensures .0) (entry _ literalTable (c .match .keys6)))
+    (λ c. literal-by _ (c .before .sized-code .ensures .0) (absent _ literalTable _ (c .match .rest))))

@@ -1,9 +1,8 @@
 -- `text::line::exclusive` meets its contract. Assumes nothing.
 use native.Mathlib.Omega.{arith}
-use lib.Dec.{ltb}
 use mathlib.Core.List.{append-nil}
-use Rattle.instruction.specs.Operations.{accessScale}
 use Rattle.mnemonic.specs.Operands.{accessOperand}
+use Rattle.mnemonic.proofs.Registers.{access-registered}
 use Rattle.text.specs.Texts.{exclusiveText}
 use Rattle.text.proofs.Forms.{register-front, fits, no-offset, made-as}
 use borrow.Author.Needs.{needs}
@@ -22,5 +21,5 @@ exclusive-spec =
     (fits _ _ (accessOperand (entry .args .o .size)) (c .before .exclusive-name .ensures), entry .pre .target, c .none .ensures .fit, entry .pre .base, omega arith))
     (λ c.
     let entry = c .before .before .before in
-    let narrow = ltb (accessScale (entry .args .o .size)) 3 in
-    made-as (simp append-nil) (rw (register-front _ _ narrow _ (c .before .before .exclusive-name .ensures), c .before .none .ensures .text, no-offset) at (c .plain .ensures))))
+    let size = entry .args .o .size in
+    made-as (simp append-nil) (rw (register-front _ _ (accessOperand size) (access-registered size) _ (c .before .before .exclusive-name .ensures), c .before .none .ensures .text, no-offset) at (c .plain .ensures))))

@@ -4,9 +4,8 @@ use mir.Syntax.{w64}
 use mir.Val.{SFits}
 use mir.Facts.{toZ-ofZ}
 use mathlib.Core.List.{append-assoc}
-use lib.Dec.{eqb}
-use Rattle.instruction.specs.Operations.{pairOpc}
 use Rattle.mnemonic.specs.Operands.{pairOperand}
+use Rattle.mnemonic.proofs.Registers.{pair-registered}
 use Rattle.text.specs.Texts.{pairText}
 use Rattle.text.proofs.Forms.{register-operand, register-front, fits, made-as}
 use borrow.Author.Needs.{needs}
@@ -28,5 +27,5 @@ pair-spec =
     (λ c.
     let f : SFits w64 (c .before .before .before .before .before .args .o .offset) = search needs in
     let e = c .before .before .before .before .pair-name .ensures in
-    let narrow = eqb (pairOpc (c .before .before .before .before .before .args .op)) 0 in
-    made-as (simp append-assoc) (rw (register-front _ _ narrow _ e, c .before .before .operand .ensures .0 .text, register-operand _ _ narrow _ e, toZ-ofZ f) at (c .in-mode .ensures))))
+    let op = c .before .before .before .before .before .args .op in
+    made-as (simp append-assoc) (rw (register-front _ _ (pairOperand op) (pair-registered op) _ e, c .before .before .operand .ensures .0 .text, register-operand _ _ (pairOperand op) (pair-registered op) _ e, toZ-ofZ f) at (c .in-mode .ensures))))

@@ -1,10 +1,9 @@
 -- `text::line::store_exclusive` meets its contract. Assumes nothing.
 use native.Mathlib.Omega.{arith}
-use lib.Dec.{ltb}
-use mathlib.Core.Bool.{true}
+use mathlib.Core.Path.{refl}
 use mathlib.Core.List.{append-assoc}
-use Rattle.instruction.specs.Operations.{accessScale}
-use Rattle.mnemonic.specs.Operands.{Narrow}
+use Rattle.mnemonic.specs.Operands.{Narrow, accessOperand}
+use Rattle.mnemonic.proofs.Registers.{access-registered}
 use Rattle.text.specs.Texts.{storeExclusiveText}
 use Rattle.text.proofs.Forms.{register-is, register-front, fits, no-offset, made-as}
 use borrow.Author.Needs.{needs}
@@ -25,12 +24,12 @@ store-exclusive-spec =
     (fits _ _ Narrow (c .before .before .store-exclusive-name .ensures), entry .pre .status, record { short = omega (arith, stored .1); low = stored .0 .low }, entry .pre .base, omega arith))
     (λ c.
     let entry = c .before .before .before .before in
-    let narrow = ltb (accessScale (entry .args .o .size)) 3 in
+    let size = entry .args .o .size in
     made-as (simp append-assoc)
     (rw (
-      register-front _ _ true _ (c .before .before .before .store-exclusive-name .ensures),
+      register-front _ _ Narrow refl _ (c .before .before .before .store-exclusive-name .ensures),
       c .before .operand .ensures .0 .text,
       c .before .before .data-letter .ensures,
-      register-is narrow (entry .args .o .target),
+      register-is (accessOperand size) (access-registered size) (entry .args .o .target),
       no-offset,
     ) at (c .plain .ensures))))

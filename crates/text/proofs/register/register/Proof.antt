@@ -1,6 +1,6 @@
 -- `text::register::register` meets its contract. Assumes nothing.
 use native.Mathlib.Omega.{arith}
-use borrow.Author.Tests.{eq-eqb, ne-eqb}
+use mathlib.Core.Path.{sym, _∙_}
 use Rattle.text.specs.Texts.{registerText}
 use Rattle.text.proofs.Packing.{on}
 use borrow.Author.Needs.{needs}
@@ -15,7 +15,8 @@ register-spec =
     (λ c κs. search needs)
     (λ c κs. search needs)
     (λ c κs. search needs)
-    (λ c. (simp (eq-eqb _ _ (c .before .before .before .if1 .taken)) (on (on (c .led3 .ensures) (c .before .led2 .ensures)) (c .before .before .led .ensures)), omega (arith, c .led3 .ensures .longer, c .before .led2 .ensures .longer, c .before .before .led .ensures .longer)))
+    (λ c κs. search needs)
+    (λ c. (rw (sym (c .before .before .before .before .is-zero .ensures) ∙ c .before .before .before .if1 .taken) (on (on (c .led3 .ensures) (c .before .led2 .ensures)) (c .before .before .led .ensures)), omega (arith, c .led3 .ensures .longer, c .before .led2 .ensures .longer, c .before .before .led .ensures .longer)))
     (λ c κs. search needs)
     (λ c κs. search needs)
-    (λ c. (simp (ne-eqb _ _ (c .before .before .if1 .left)) (on (c .led4 .ensures) (c .before .digits .ensures .0)), omega (arith, c .led4 .ensures .longer, c .before .digits .ensures .1))))
+    (λ c. (rw (sym (c .before .before .before .is-zero .ensures) ∙ c .before .before .if1 .left) (on (c .led4 .ensures) (c .before .digits .ensures .0)), omega (arith, c .led4 .ensures .longer, c .before .digits .ensures .1))))
