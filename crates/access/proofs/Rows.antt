@@ -11,8 +11,8 @@ use Rattle.instruction.specs.declared.row.Row.{Row}
 use Rattle.instruction.specs.declared.family.LiteralOperands.{LiteralOperands}
 use Rattle.instruction.specs.declared.operation.SizedOp.{SizedOp}
 use Rattle.instruction.specs.declared.operation.LiteralOp.{LiteralOp}
-use Rattle.instruction.specs.Operations.{literalAt, exclusiveCode, exclusiveLoad, accessBytes, sizeAt}
-use Rattle.instruction.specs.Operands.{sizedIn, literalIn, exclusiveBits, exclusiveOpIn, exclusiveIn}
+use Rattle.instruction.specs.Operations.{exclusiveCode, exclusiveLoad, accessBytes, sizeAt}
+use Rattle.instruction.specs.Operands.{sizedIn, literalOpIn, literalIn, exclusiveBits, exclusiveOpIn, exclusiveIn}
 use Rattle.instruction.specs.Table.{columnsOf, inSet, rowOf, undefined, allocated, instructionOf}
 use Rattle.instruction.proofs.Codes.{exclusive-code, scale-code}
 use Rattle.decoder.specs.Decoding.{decodeOf}
@@ -69,13 +69,16 @@ literal-plain LiteralOp.LiteralWord o = refl
 literal-plain LiteralOp.LiteralDouble o = refl
 literal-plain LiteralOp.LiteralSignedWord o = refl
 literal-plain LiteralOp.LiteralPrefetch o = tt
+literal-plain LiteralOp.LiteralVectorWord o = refl
+literal-plain LiteralOp.LiteralVectorDouble o = refl
+literal-plain LiteralOp.LiteralVectorQuad o = refl
 
 -- a word of another row has none
 pub plain-row : (word : ℕ) (r : Row) → Has word (columnsOf r .fixed) → ¬ (r ≡ Row.LoadExclusiveRow) → ¬ (r ≡ Row.StoreExclusiveRow)
     → Plain (familyAccess (columnsOf r .family word))
 unfolding pairAccess pairTransfer exclusiveAccess exclusiveTransfer monitoredTransfer
 plain-row word Row.NoRow h l s = tt
-plain-row word Row.LiteralRow h l s = literal-plain (literalAt (field 31 30 word)) (literalIn word)
+plain-row word Row.LiteralRow h l s = literal-plain (literalOpIn word) (literalIn word)
 plain-row word Row.PairRow h l s = refl
 plain-row word Row.OrderedRow h l s = sized-plain (sizedIn word) _ _ _
 plain-row word Row.UnscaledRow h l s = sized-plain (sizedIn word) _ _ _

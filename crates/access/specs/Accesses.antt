@@ -1,4 +1,4 @@
--- The access of an instruction: 01, "What a word says", and 02, CR 3.
+-- The access of an instruction: 01, "What a word says", and 02, CR 3 and CR 12.
 use Prim.Native.Nat.{ℕ}
 use mathlib.Core.Bool.{Bool, true, false}
 use lib.Dec.{eqb}
@@ -14,7 +14,7 @@ use Rattle.instruction.specs.declared.operation.SizedOp.{SizedOp}
 use Rattle.instruction.specs.declared.operation.PairOp.{PairOp}
 use Rattle.instruction.specs.declared.operation.LiteralOp.{LiteralOp}
 use Rattle.instruction.specs.declared.exclusive.ExclusiveOp.{ExclusiveOp}
-use Rattle.instruction.specs.Operations.{sizeOf, opcOf}
+use Rattle.instruction.specs.Operations.{sizedCode}
 use Rattle.decoder.specs.Decoding.{decodeOf}
 use Rattle.registers.specs.File.{zeroSlot}
 use Rattle.access.specs.declared.addressing.Addressing.{Addressing}
@@ -23,20 +23,23 @@ use Rattle.access.specs.Transfers.{sizedTransfer, literalTransfer, pairT
 use Rattle.access.specs.Addressings.{based, offsetMode, preMode, postMode, pairedMode, indexedMode, literalMode}
 
 unfoldable pub isPrefetch : SizedOp → Bool
-isPrefetch op = pick (eqb (sizeOf op) 0b11) (eqb (opcOf op) 0b10) false
+isPrefetch op = eqb (sizedCode op) 0b0_11_10
 
 -- a prefetch looks at no register
 unfoldable pub sizedAccess : SizedOp → ℕ → Bool → Addressing → Access
 sizedAccess op target ordered a = pick (isPrefetch op) Access.Nothing (Access.Moves (sizedTransfer op target ordered) a)
 
-unfoldable pub literalMoves : ℕ → ℕ → LiteralOperands → Access
-literalMoves bytes extent o = Access.Moves (literalTransfer bytes extent (o .target)) (literalMode (twosComplement (o .offset)))
+unfoldable pub literalMoves : ℕ → ℕ → ℕ → LiteralOperands → Access
+literalMoves vector bytes extent o = Access.Moves (literalTransfer vector bytes extent (o .target)) (literalMode (twosComplement (o .offset)))
 
 abbrev pub literalAccess : LiteralOp → LiteralOperands → Access
-literalAccess LiteralOp.LiteralWord o = literalMoves 4 4 o
-literalAccess LiteralOp.LiteralDouble o = literalMoves 8 8 o
-literalAccess LiteralOp.LiteralSignedWord o = literalMoves 4 8 o
+literalAccess LiteralOp.LiteralWord o = literalMoves 0 4 4 o
+literalAccess LiteralOp.LiteralDouble o = literalMoves 0 8 8 o
+literalAccess LiteralOp.LiteralSignedWord o = literalMoves 0 4 8 o
 literalAccess LiteralOp.LiteralPrefetch o = Access.Nothing
+literalAccess LiteralOp.LiteralVectorWord o = literalMoves 1 4 4 o
+literalAccess LiteralOp.LiteralVectorDouble o = literalMoves 1 8 8 o
+literalAccess LiteralOp.LiteralVectorQuad o = literalMoves 1 16 16 o
 
 unfoldable pub pairAccess : PairOp → PairOperands → Access
 pairAccess op o = Access.Moves (pairTransfer op (o .first) (o .second)) (pairedMode (o .mode) (o .base) (twosComplement (o .offset)))

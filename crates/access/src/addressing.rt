@@ -31,7 +31,7 @@ pub fn based(base: u32, offset: u64, post: bool, written: u32) -> Addressing
         relative: false,
         base,
         offset,
-        index: 32,
+        index: 64,
         option: 0b011,
         shift: 0,
         post,
@@ -42,7 +42,7 @@ pub fn based(base: u32, offset: u64, post: bool, written: u32) -> Addressing
 pub fn offset(o: OffsetOperands) -> Addressing
     ensures { λ r. ⌜ r ≡ offsetMode (o .base) (twosComplement (o .offset)) ⌝ }
 {
-    based(o.base, bits::twos_complement(o.offset), false, 32)
+    based(o.base, bits::twos_complement(o.offset), false, 64)
 }
 
 pub fn pre(o: OffsetOperands) -> Addressing
@@ -68,9 +68,9 @@ fn in_mode(mode: PairMode, base: u32, offset: u64) -> Addressing
     ensures { λ r. ⌜ r ≡ pairedMode mode base offset ⌝ }
 {
     match mode {
-        PairMode::NoAllocate => based(base, offset, false, 32),
+        PairMode::NoAllocate => based(base, offset, false, 64),
         PairMode::Post => based(base, offset, true, base),
-        PairMode::Offset => based(base, offset, false, 32),
+        PairMode::Offset => based(base, offset, false, 64),
         PairMode::Pre => based(base, offset, false, base),
     }
 }
@@ -86,7 +86,7 @@ pub fn indexed(op: SizedOp, o: IndexOperands) -> Addressing
         option: o.option,
         shift: shift(op, o.scaled),
         post: false,
-        written: 32,
+        written: 64,
     }
 }
 
@@ -105,12 +105,12 @@ pub fn literal(o: LiteralOperands) -> Addressing
 {
     Addressing {
         relative: true,
-        base: 32,
+        base: 64,
         offset: bits::twos_complement(o.offset),
-        index: 32,
+        index: 64,
         option: 0b011,
         shift: 0,
         post: false,
-        written: 32,
+        written: 64,
     }
 }

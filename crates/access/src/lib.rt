@@ -61,28 +61,28 @@ fn sized_access(op: SizedOp, target: u32, ordered: bool, addressing: Addressing)
 fn is_prefetch(op: SizedOp) -> bool
     ensures { λ r. ⌜ r ≡ isPrefetch op ⌝ }
 {
-    if instruction::size_field(op) == 0b11 {
-        return instruction::opc_field(op) == 0b10;
-    }
-    false
+    instruction::sized_code(op) == 0b0_11_10
 }
 
 fn literal_access(op: LiteralOp, o: LiteralOperands) -> Access
     ensures { λ r. ⌜ r ≡ literalAccess op o ⌝ }
 {
     match op {
-        LiteralOp::LiteralWord => literal_moves(4, 4, o),
-        LiteralOp::LiteralDouble => literal_moves(8, 8, o),
-        LiteralOp::LiteralSignedWord => literal_moves(4, 8, o),
+        LiteralOp::LiteralWord => literal_moves(0, 4, 4, o),
+        LiteralOp::LiteralDouble => literal_moves(0, 8, 8, o),
+        LiteralOp::LiteralSignedWord => literal_moves(0, 4, 8, o),
         LiteralOp::LiteralPrefetch => Access::Nothing,
+        LiteralOp::LiteralVectorWord => literal_moves(1, 4, 4, o),
+        LiteralOp::LiteralVectorDouble => literal_moves(1, 8, 8, o),
+        LiteralOp::LiteralVectorQuad => literal_moves(1, 16, 16, o),
     }
 }
 
-fn literal_moves(bytes: u32, extent: u32, o: LiteralOperands) -> Access
-    ensures { λ r. ⌜ r ≡ literalMoves bytes extent o ⌝ }
+fn literal_moves(vector: u32, bytes: u32, extent: u32, o: LiteralOperands) -> Access
+    ensures { λ r. ⌜ r ≡ literalMoves vector bytes extent o ⌝ }
 {
     Access::Moves(
-        transfer::literal(bytes, extent, o.target),
+        transfer::literal(vector, bytes, extent, o.target),
         addressing::literal(o),
     )
 }
@@ -99,7 +99,7 @@ fn exclusive_access(op: ExclusiveOp, o: ExclusiveOperands) -> Access
     let size = o.size;
     Access::Moves(
         transfer::exclusive(op, size, o.target),
-        addressing::based(o.base, 0, false, 32),
+        addressing::based(o.base, 0, false, 64),
     )
 }
 

@@ -6,8 +6,8 @@ use instruction::SizedOp;
 ghost use mathlib.Core.Path.{_≡_};
 ghost use lib.Dec.{eqb};
 ghost use Rattle.bits.specs.Choice.{pick};
-ghost use Rattle.instruction.specs.Operations.{pairOpc};
-ghost use Rattle.access.specs.Transfers.{extentOf, sizedTransfer, literalTransfer, pairTransfer, monitoredTransfer, exclusiveTransfer, storeExclusiveTransfer};
+ghost use Rattle.instruction.specs.Operations.{vectorOf, opcOf, pairCode};
+ghost use Rattle.access.specs.Transfers.{slotOf, extentOf, sizedTransfer, literalTransfer, pairTransfer, monitoredTransfer, exclusiveTransfer, storeExclusiveTransfer};
 
 // Each register's bytes are moved; the second of a pair lies behind the first, and a single register has no
 // bytes there. A loaded number keeps its sign up to the extent, in bytes; it is as long as the number where
@@ -27,17 +27,36 @@ pub fn sized(op: SizedOp, target: u32, ordered: bool) -> Transfer
     ensures { λ r. ⌜ r ≡ sizedTransfer op target ordered ⌝ }
 {
     let bytes = instruction::sized_bytes(op);
-    let opc = instruction::opc_field(op);
     Transfer {
-        store: opc == 0b00,
+        store: instruction::sized_stores(op),
         ordered,
         bytes,
         more: 0,
-        extent: extent(opc, bytes),
-        target: registers::zero_slot(target),
-        second: 32,
+        extent: sized_extent(op, bytes),
+        target: slot(instruction::vector_field(op), target),
+        second: 64,
         exclusive: false,
     }
+}
+
+// The slot of a register that is moved: a vector register's where bit 26 is 1.
+fn slot(vector: u32, register: u32) -> u32
+    ensures { λ r. ⌜ r ≡ slotOf vector register ⌝ }
+{
+    if vector == 1 {
+        return 32 + register % 32;
+    }
+    registers::zero_slot(register)
+}
+
+// A vector is not extended.
+fn sized_extent(op: SizedOp, bytes: u32) -> u32
+    ensures { λ r. ⌜ r ≡ pick (eqb (vectorOf op) 1) bytes (extentOf (opcOf op) bytes) ⌝ }
+{
+    if instruction::vector_field(op) == 1 {
+        return bytes;
+    }
+    extent(instruction::opc_field(op), bytes)
 }
 
 fn extent(opc: u32, bytes: u32) -> u32
@@ -52,8 +71,8 @@ fn extent(opc: u32, bytes: u32) -> u32
     bytes
 }
 
-pub fn literal(bytes: u32, extent: u32, target: u32) -> Transfer
-    ensures { λ r. ⌜ r ≡ literalTransfer bytes extent target ⌝ }
+pub fn literal(vector: u32, bytes: u32, extent: u32, target: u32) -> Transfer
+    ensures { λ r. ⌜ r ≡ literalTransfer vector bytes extent target ⌝ }
 {
     Transfer {
         store: false,
@@ -61,8 +80,8 @@ pub fn literal(bytes: u32, extent: u32, target: u32) -> Transfer
         bytes,
         more: 0,
         extent,
-        target: registers::zero_slot(target),
-        second: 32,
+        target: slot(vector, target),
+        second: 64,
         exclusive: false,
     }
 }
@@ -77,16 +96,16 @@ pub fn pair(op: PairOp, first: u32, second: u32) -> Transfer
         bytes,
         more: bytes,
         extent: pair_extent(op, bytes),
-        target: registers::zero_slot(first),
-        second: registers::zero_slot(second),
+        target: slot(instruction::pair_vector(op), first),
+        second: slot(instruction::pair_vector(op), second),
         exclusive: false,
     }
 }
 
 fn pair_extent(op: PairOp, bytes: u32) -> u32
-    ensures { λ r. ⌜ r ≡ pick (eqb (pairOpc op) 0b01) 8 bytes ⌝ }
+    ensures { λ r. ⌜ r ≡ pick (eqb (pairCode op) 0b0_01_1) 8 bytes ⌝ }
 {
-    if instruction::pair_opc(op) == 0b01 {
+    if instruction::pair_code(op) == 0b0_01_1 {
         return 8;
     }
     bytes
@@ -117,7 +136,7 @@ fn monitored(store: bool, exclusive: bool, size: AccessSize, target: u32) -> Tra
         more: 0,
         extent: bytes,
         target: registers::zero_slot(target),
-        second: 32,
+        second: 64,
         exclusive,
     }
 }

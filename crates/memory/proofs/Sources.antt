@@ -3,7 +3,7 @@
 use Prim.Native.Nat.{ℕ, zero, suc, _+_, _-_, _*_, _/_, _^_, _≤_, _<_}
 use mathlib.Core.Path.{_≡_, refl, sym, ap, _∙_}
 use mathlib.Core.Bool.{Bool, true, false}
-use mathlib.Core.List.{List, [], _∷_, map, map-append}
+use mathlib.Core.List.{List, [], _∷_, map, map-append, append-nil}
 use native.Mathlib.Nat.{pow-suc, mul-comm, mul-suc, mul-le-mul-right, one-le-pow, mul-div-cancel}
 use native.Mathlib.Decide.{decLt}
 use native.Mathlib.Omega.{arith}
@@ -170,3 +170,15 @@ extended-taints k at n extent h =
 pub no-source : (k : List ℕ) (at extent : ℕ) → loadedTaint at 0 extent k ≡ 0
 unfolding loadedTaint sourcesOf bytesFrom
 no-source k at extent = rw (map-replicate (taintFrom k) (extent - 0) cleared) (zeros (extent - 0))
+
+-- nothing is extended
+taints-from : (k : List ℕ) (at n : ℕ) → map (taintFrom k) (bytesFrom at n) ≡ map normal (spanOf k at n)
+unfolding bytesFrom spanOf
+taints-from k at zero = refl
+taints-from k at (suc n) = ap (λ (l : List ℕ). normal (getD k at 0) ∷ l) (taints-from k (suc at) n)
+
+pub whole-taints : (k : List ℕ) (at n : ℕ) → loadedTaint at n n k ≡ joined (map normal (spanOf k at n))
+unfolding loadedTaint sourcesOf
+whole-taints k at n =
+    let z : n - n ≡ 0 = omega arith in
+    rw (z, append-nil, taints-from k at n)

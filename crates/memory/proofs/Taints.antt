@@ -4,7 +4,7 @@ use mathlib.Core.Path.{_≡_, refl, sym, ap, _∙_}
 use mathlib.Core.Bool.{not}
 use mathlib.Core.List.{List, [], _∷_, _++_, map}
 use lib.Dec.{eqb, lit<}
-use lib.ListN.{length, length-map}
+use lib.ListN.{length, length-map, List·getD-map}
 use borrow.Author.Tests.{ne-eqb}
 use native.Mathlib.Nat.{pow-suc, mul-assoc}
 use native.Mathlib.Omega.{arith}
@@ -97,3 +97,9 @@ joined-append (x ∷ xs) ys =
     let m = 256 ^ length xs in
     let e : j * (m * 256) ≡ j * m * 256 = sym (mul-assoc j m 256) in
     rw (joined-append xs ys, pow-suc, e) (omega arith)
+
+-- the taints of bytes read are bytes read of taints
+pub span-normal : (xs : List ℕ) (at n : ℕ) → map normal (spanOf xs at n) ≡ spanOf (map normal xs) at n
+unfolding spanOf
+span-normal xs at zero = refl
+span-normal xs at (suc n) = rw (span-normal xs (suc at) n, List·getD-map normal xs at 0)

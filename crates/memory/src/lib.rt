@@ -3,6 +3,7 @@
 mod eight;
 mod ones;
 
+pub use ones::normal;
 ghost use mathlib.Core.Path.{_≡_};
 ghost use mathlib.Core.List.{map};
 ghost use Prim.Native.Nat.{_*_, _<_, _^_, min};

@@ -12,7 +12,7 @@ use Rattle.registers.specs.declared.Registers.{Registers}
 
 -- the slot of a register that is the zero register for 31
 abbrev pub zeroSlot : ℕ → ℕ
-zeroSlot n = pick (eqb n 31) 32 n
+zeroSlot n = pick (eqb n 31) 64 n
 
 abbrev pub valueAt : Registers → ℕ → ℕ
 valueAt file slot = getD (file .value) slot 0

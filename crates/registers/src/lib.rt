@@ -19,7 +19,7 @@ pub fn zero_slot(n: u32) -> u32
     ensures { λ r. ⌜ r ≡ zeroSlot n ⌝ }
 {
     if n == 31 {
-        return 32;
+        return 64;
     }
     n
 }

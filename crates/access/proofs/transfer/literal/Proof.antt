@@ -10,4 +10,4 @@ literal-spec =
     tie.close
     (tie.spec
     (λ c κs. search needs)
-    (λ c. rw (c .zero-slot .ensures)))
+    (λ c. rw (c .slot .ensures)))

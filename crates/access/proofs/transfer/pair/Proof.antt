@@ -14,4 +14,16 @@ pair-spec =
     (λ c κs. search needs)
     (λ c κs. search needs)
     (λ c κs. search needs)
-    (λ c. rw (c .zero-slot2 .ensures, c .before .zero-slot .ensures, c .before .before .pair-extent .ensures, c .before .before .before .pair-load .ensures .0, c .before .before .before .before .pair-bytes .ensures)))
+    (λ c κs. search needs)
+    (λ c κs. search needs)
+    (λ c.
+    let entry = c .before .before .before .before .before .before in
+    rw (
+      c .slot2 .ensures,
+      c .before .pair-vector2 .ensures .0,
+      c .before .before .slot .ensures,
+      c .before .before .before .pair-vector .ensures .0,
+      c .before .before .before .before .pair-extent .ensures,
+      c .before .before .before .before .before .pair-load .ensures .0,
+      entry .pair-bytes .ensures,
+    )))

@@ -9,5 +9,5 @@ pair-extent-spec =
     tie.close
     (tie.spec
     (λ c κs. search needs)
-    (λ c. rw (← c .before .pair-opc .ensures .0, c .if1 .taken))
-    (λ c. rw (← c .before .pair-opc .ensures .0, ne-eqb _ 1 (c .if1 .left))))
+    (λ c. rw (← c .before .pair-code .ensures .0, c .if1 .taken))
+    (λ c. rw (← c .before .pair-code .ensures .0, ne-eqb _ 3 (c .if1 .left))))

@@ -13,4 +13,12 @@ sized-spec =
     (λ c κs. search needs)
     (λ c κs. search needs)
     (λ c κs. search needs)
-    (λ c. rw (c .before .extent .ensures, c .before .before .opc-field .ensures .0, c .before .before .before .sized-bytes .ensures, c .zero-slot .ensures)))
+    (λ c κs. search needs)
+    (λ c.
+    rw (
+      c .slot .ensures,
+      c .before .vector-field .ensures .0,
+      c .before .before .sized-extent .ensures,
+      c .before .before .before .sized-stores .ensures,
+      c .before .before .before .before .sized-bytes .ensures,
+    )))

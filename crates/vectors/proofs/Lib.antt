@@ -1,0 +1,3 @@
+pub mod Slots
+pub mod Wide
+pub mod Rows

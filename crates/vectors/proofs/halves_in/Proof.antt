@@ -1,0 +1,25 @@
+-- `vectors::halves_in` meets its contract. Assumes nothing.
+use Prim.Native.Nat.{_≤_}
+use mathlib.Core.Path.{_≡_, sym, ap}
+use lib.ListN.{length, List·getD-eq-default}
+use lib.Seq.{set-out}
+use native.Mathlib.Omega.{arith}
+use borrow.Author.Needs.{needs}
+use Rattle.vectors.proofs.halves_in.Statement.{statement}
+use Rattle.vectors.proofs.halves_in.Tie as tie
+
+pub halves-in-spec : {M : Type 1} → statement M
+halves-in-spec =
+    tie.close
+    (tie.spec
+    (λ c κs. search needs)
+    (λ c. omega (arith, c .before .held .ensures .count))
+    (λ c. omega (arith, c .before .held .ensures .count))
+    (λ c. search needs)
+    (λ c. search needs)
+    (λ c. search needs)
+    (λ c.
+    let a = c .before .before .before .args in
+    let all : length (a .file .now) ≡ 32 = c .before .held .ensures .count in
+    let out : length (a .file .now) ≤ a .n = omega (arith, c .if1 .left) in
+    rw (List·getD-eq-default (a .file .now))))

@@ -1,0 +1,17 @@
+-- `vectors::written` meets its contract. Assumes nothing.
+use Prim.Native.Nat.{_≤_}
+use mathlib.Core.Path.{_≡_, sym, ap}
+use lib.ListN.{length, List·getD-eq-default}
+use lib.Seq.{set-out}
+use native.Mathlib.Omega.{arith}
+use borrow.Author.Needs.{needs}
+use Rattle.vectors.proofs.written.Statement.{statement}
+use Rattle.vectors.proofs.written.Tie as tie
+
+pub written-spec : {M : Type 1} → statement M
+written-spec =
+    tie.close
+    (tie.spec
+    (λ c κs. search needs)
+    (λ c κs. search needs)
+    (λ c. rw (c .set2 .ensures, c .before .set .ensures)))
