@@ -12,6 +12,6 @@ abbrev pub machineRun : Window → List ℕ → Machine → Log → Result Machi
 machineRun w words m l = runOf (bad w) (stepOf w) words m l
 
 -- what the code returns and leaves
-abbrev pub result : Ran → List ℕ → List ℕ → List ℕ → List ℕ → Result Machine
-result r memory taint trace statuses =
-    record { machine = machineOf (r .state) memory taint; log = log trace statuses; steps = r .steps; answer = r .answer; shown = r .shown }
+abbrev pub result : Ran → List (List ℕ) → List (List ℕ) → List ℕ → List ℕ → List ℕ → List ℕ → Result Machine
+result r vectors vector-taint memory taint trace statuses =
+    record { machine = machineOf (r .state) vectors vector-taint memory taint; log = log trace statuses; steps = r .steps; answer = r .answer; shown = r .shown }

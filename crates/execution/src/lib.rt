@@ -31,18 +31,20 @@ pub struct Ran {
 pub fn run(
     words: &[u32],
     state: State,
+    vectors: &mut [[u64; 2]; 32],
+    vector_taint: &mut [[u64; 2]; 32],
     window: Window,
     memory: &mut [u8],
     taint: &mut [u8],
     trace: &mut [u64],
     statuses: &mut [u8],
 ) -> Ran
-    ensures exact { λ r. ⌜ result r (now (memory .exit)) (now (taint .exit)) (now (trace .exit)) (now (statuses .exit)) ≡ machineRun window (now (words .entry)) (machineOf state (now (memory .entry)) (now (taint .entry))) (log (now (trace .entry)) (now (statuses .entry))) ⌝ }
-    ensures rule { λ r. ⌜ machineOf (r .state) (now (memory .exit)) (now (taint .exit)) .taints ≡ afterSteps (wordRule (window .origin)) (now (words .entry)) (log (now (trace .exit)) (now (statuses .exit))) (r .steps) (machineOf state (now (memory .entry)) (now (taint .entry)) .taints) ⌝ }
-    ensures secret { λ r. ⌜ ((other : Machine) (lent : Log) → Same (machineOf state (now (memory .entry)) (now (taint .entry))) other → SameRoom (log (now (trace .entry)) (now (statuses .entry))) lent
-        → ShowsRun Same (result r (now (memory .exit)) (now (taint .exit)) (now (trace .exit)) (now (statuses .exit))) (machineRun window (now (words .entry)) other lent)) ⌝ }
-    ensures filled { λ r. ⌜ ((other : Machine) (lent : Log) → Filled (machineOf state (now (memory .entry)) (now (taint .entry))) other → SameRoom (log (now (trace .entry)) (now (statuses .entry))) lent
-        → ShowsRun Filled (result r (now (memory .exit)) (now (taint .exit)) (now (trace .exit)) (now (statuses .exit))) (machineRun window (now (words .entry)) other lent)) ⌝ }
+    ensures exact { λ r. ⌜ result r (now (vectors .exit)) (now («vector_taint» .exit)) (now (memory .exit)) (now (taint .exit)) (now (trace .exit)) (now (statuses .exit)) ≡ machineRun window (now (words .entry)) (machineOf state (now (vectors .entry)) (now («vector_taint» .entry)) (now (memory .entry)) (now (taint .entry))) (log (now (trace .entry)) (now (statuses .entry))) ⌝ }
+    ensures rule { λ r. ⌜ machineOf (r .state) (now (vectors .exit)) (now («vector_taint» .exit)) (now (memory .exit)) (now (taint .exit)) .taints ≡ afterSteps (wordRule (window .origin)) (now (words .entry)) (log (now (trace .exit)) (now (statuses .exit))) (r .steps) (machineOf state (now (vectors .entry)) (now («vector_taint» .entry)) (now (memory .entry)) (now (taint .entry)) .taints) ⌝ }
+    ensures secret { λ r. ⌜ ((other : Machine) (lent : Log) → Same (machineOf state (now (vectors .entry)) (now («vector_taint» .entry)) (now (memory .entry)) (now (taint .entry))) other → SameRoom (log (now (trace .entry)) (now (statuses .entry))) lent
+        → ShowsRun Same (result r (now (vectors .exit)) (now («vector_taint» .exit)) (now (memory .exit)) (now (taint .exit)) (now (trace .exit)) (now (statuses .exit))) (machineRun window (now (words .entry)) other lent)) ⌝ }
+    ensures filled { λ r. ⌜ ((other : Machine) (lent : Log) → Filled (machineOf state (now (vectors .entry)) (now («vector_taint» .entry)) (now (memory .entry)) (now (taint .entry))) other → SameRoom (log (now (trace .entry)) (now (statuses .entry))) lent
+        → ShowsRun Filled (result r (now (vectors .exit)) (now («vector_taint» .exit)) (now (memory .exit)) (now (taint .exit)) (now (trace .exit)) (now (statuses .exit))) (machineRun window (now (words .entry)) other lent)) ⌝ }
 {
     if plan::is_bad(window, memory.len() as u64, taint.len() as u64, state.pc) {
         return not_begun(state, Answer::BadWindow);
@@ -50,7 +52,17 @@ pub fn run(
     if is_short(words.len(), trace.len(), statuses.len()) {
         return not_begun(state, Answer::NoRoom);
     }
-    walk(words, state, window, memory, taint, trace, statuses)
+    walk(
+        words,
+        state,
+        vectors,
+        vector_taint,
+        window,
+        memory,
+        taint,
+        trace,
+        statuses,
+    )
 }
 
 // Answer 10, by the lengths of the words, the trace and the status list.
@@ -64,7 +76,7 @@ fn is_short(words: usize, trace: usize, statuses: usize) -> bool
 }
 
 fn not_begun(state: State, answer: Answer) -> Ran
-    ensures { λ r. ⌜ ((m k t s : List ℕ) → result r m k t s ≡ notBegun answer (machineOf state m k) (log t s)) ⌝ }
+    ensures { λ r. ⌜ ((vs us : List (List ℕ)) (m k t s : List ℕ) → result r vs us m k t s ≡ notBegun answer (machineOf state vs us m k) (log t s)) ⌝ }
 {
     Ran {
         state,
@@ -90,6 +102,8 @@ fn no_code(address: u64) -> Shown
 fn walk(
     words: &[u32],
     start: State,
+    vectors: &mut [[u64; 2]; 32],
+    vector_taint: &mut [[u64; 2]; 32],
     window: Window,
     memory: &mut [u8],
     taint: &mut [u8],
@@ -97,7 +111,7 @@ fn walk(
     statuses: &mut [u8],
 ) -> Ran
     requires { ⌜ (length (now words) * 2 ≤ length (now trace)) × (length (now words) ≤ length (now statuses)) ⌝ }
-    ensures { λ r. ⌜ result r (now (memory .exit)) (now (taint .exit)) (now (trace .exit)) (now (statuses .exit)) ≡ glue 0 (log (now (trace .entry)) (now (statuses .entry))) (walkOf (stepOf window) (now (words .entry)) (machineOf start (now (memory .entry)) (now (taint .entry))) (shown 0 0 0)) ⌝ }
+    ensures { λ r. ⌜ result r (now (vectors .exit)) (now («vector_taint» .exit)) (now (memory .exit)) (now (taint .exit)) (now (trace .exit)) (now (statuses .exit)) ≡ glue 0 (log (now (trace .entry)) (now (statuses .entry))) (walkOf (stepOf window) (now (words .entry)) (machineOf start (now (vectors .entry)) (now («vector_taint» .entry)) (now (memory .entry)) (now (taint .entry))) (shown 0 0 0)) ⌝ }
 {
     let mut state = start;
     let mut last = no_code(0);
@@ -110,6 +124,8 @@ fn walk(
             window,
             &state.registers.value,
             &state.registers.taint,
+            vectors,
+            vector_taint,
             memory,
             taint,
         ) {
@@ -127,6 +143,14 @@ fn walk(
                 let next = machine::settled(state, writes);
                 state = next;
             }
+            Decision::Vectors(shown, writes, filled) => {
+                last = shown;
+                i = noted(trace, statuses, i, shown);
+                let next = machine::settled(state, writes);
+                state = next;
+                vectors::write(vectors, filled);
+                vectors::write_taint(vector_taint, filled);
+            }
         }
     }
     ended(state, i, Answer::Done, last)
@@ -134,7 +158,7 @@ fn walk(
 
 // What is returned after so many steps, with the answer of the last step tried and what it shows.
 fn ended(state: State, steps: usize, answer: Answer, shown: Shown) -> Ran
-    ensures { λ r. ⌜ ((m k t s : List ℕ) → result r m k t s ≡ record { machine = machineOf state m k; log = log t s; steps = steps; answer = answer; shown = shown }) ⌝ }
+    ensures { λ r. ⌜ ((vs us : List (List ℕ)) (m k t s : List ℕ) → result r vs us m k t s ≡ record { machine = machineOf state vs us m k; log = log t s; steps = steps; answer = answer; shown = shown }) ⌝ }
 {
     Ran {
         state,

@@ -2,7 +2,7 @@
 use Prim.Native.Nat.{ℕ, _%_, _<_}
 use mathlib.Core.Path.{_≡_, refl, sym, ap, subst, _∙_}
 use mathlib.Core.Bool.{Bool, true, false, not}
-use mathlib.Core.List.{List}
+use mathlib.Core.List.{List, map}
 use mathlib.Core.Logic.{_↔_}
 use native.Mathlib.Omega.{arith}
 use lib.Dec.{eqb}
@@ -26,7 +26,14 @@ use Rattle.plan.specs.Refusals.{Refusal, firstOf, answerIn, Given}
 use Rattle.plan.specs.Admission.{admitOf}
 use Rattle.plan.specs.Plans.{misalignedStack, refusalsOf, planOf}
 use Rattle.plan.proofs.Refusals.{Passed, Each, each-map, first-by, first-map, none-holds, given}
-use Rattle.machine.specs.Machine.{Machine, operandsOf}
+use Rattle.vectors.specs.File.{wide}
+use Rattle.vectors.proofs.Slots.{length-map}
+use Rattle.access.proofs.Bounds.{Placed}
+use Rattle.plan.specs.Operands.{operandsIn}
+use Rattle.machine.specs.declared.State.{State}
+use Rattle.machine.specs.route.Writing.{Full}
+use Rattle.machine.proofs.Writing.{operands-plain}
+use Rattle.machine.specs.Machine.{Machine, machineOf, operandsOf}
 use Rattle.machine.specs.Refusals.{bad, accessRefusals, wordRefusals, refusals}
 use Rattle.machine.specs.Step.{Step, stopped, moved, performOf, stepOf, performed}
 use Rattle.machine.specs.route.Parts.{wordStep, accessStep, planStep}
@@ -81,6 +88,15 @@ unfolding accessStep planOf
 step-planned origin admit t a m =
     let o = operandsOf a m in
     sym (first-map (planStep origin t a m) Refuse (Touch (addressOf a o) (sumOf a o)) (refusalsOf admit t a o))
+
+-- and its operands are read of general registers alone
+pub planned-plain : (origin : ℕ) (admit : Transfer → ℕ → List Refusal) (t : Transfer) (a : Addressing) (s : State) (vs ms : List (List ℕ)) (m k : List ℕ)
+    → Full (s .registers .value) (s .registers .taint) vs ms → Placed a → let n = machineOf s vs ms m k in
+    accessStep origin admit (Moves t a) n ≡ planStep origin t a n (planOf admit t a (operandsIn a (s .pc) (s .registers .value) (s .registers .taint)))
+planned-plain origin admit t a s vs ms m k full placed =
+    let n = machineOf s vs ms m k in
+    step-planned origin admit t a n
+    ∙ ap (λ o. planStep origin t a n (planOf admit t a o)) (operands-plain a (s .pc) (s .registers .value) (s .registers .taint) (map wide vs) (map wide ms) (full .values) (full .taints) (length-map wide vs ∙ full .vectors) (length-map wide ms ∙ full .vector-taints) placed)
 
 -- ---- what is never done
 

@@ -73,14 +73,14 @@ pub load-arms : (w : Window) (word : ℕ) (m : Machine) → matchesRow word Row.
 unfolding exclusiveAccess exclusiveIn monitoredTransfer effectOf monitorAfter
 load-arms w word m e done =
     let h = has-true word (columnsOf Row.LoadExclusiveRow .fixed) e in
-    let x = access-at w word m done Row.LoadExclusiveRow e ∙ ap (λ (t : Transfer). Moves t (based (field 9 5 word) 0 false 32)) (load-exclusive-transfer word h) in
+    let x = access-at w word m done Row.LoadExclusiveRow e ∙ ap (λ (t : Transfer). Moves t (based (field 9 5 word) 0 false 64)) (load-exclusive-transfer word h) in
     rw (performs-at w word m done _ x, bytes-in word)
 
 -- ---- store-exclusive
 
 -- of so many bytes of a register
 abbrev storing : ℕ → ℕ → Transfer
-storing k t = record { store = true; ordered = false; bytes = k; more = 0; extent = k; target = zeroSlot t; second = 32; exclusive = true }
+storing k t = record { store = true; ordered = false; bytes = k; more = 0; extent = k; target = zeroSlot t; second = 64; exclusive = true }
 
 armed-at : (r : Monitor) (address size : ℕ) (a b : Bool) → eqb (r .address) address ≡ a → eqb (r .size) size ≡ b
     → (pick a b false ≡ true → Armed r address size) × (pick a b false ≡ false → ¬ Armed r address size)

@@ -4,3 +4,4 @@ pub mod Origins
 pub mod Reals
 pub mod Exclusives
 pub mod Writing
+pub mod Vectors

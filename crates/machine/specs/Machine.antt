@@ -1,10 +1,11 @@
 -- The machine: what a step reads and changes, and what an access leaves of it: 01, "What a word says".
 use Prim.Native.Nat.{ℕ, _+_, _%_, _^_}
-use mathlib.Core.List.{List}
+use mathlib.Core.List.{List, _++_, map}
 use lib.ListN.{set}
 use Rattle.bits.specs.Choice.{pick}
 use Rattle.bits.specs.Bytes.{bytesOf, joined, spanOf}
 use Rattle.bits.specs.Extension.{extendedOf}
+use Rattle.vectors.specs.File.{wide}
 use Rattle.access.specs.declared.transfer.Transfer.{Transfer}
 use Rattle.access.specs.declared.addressing.Addressing.{Addressing}
 use Rattle.plan.specs.declared.operands.Operands.{Operands}
@@ -22,14 +23,15 @@ pub record Machine : Type 0 where
   pub taints : Taints
   pub monitor : Monitor
 
--- the machine of a state, and of the lent memory and taint bytes
-abbrev pub machineOf : State → List ℕ → List ℕ → Machine
-machineOf s memory taint =
+-- the machine of a state, of the vector registers and their marks, and of the lent memory and taint bytes. Its registers are one list
+-- of 64 slots: X0 to X30, SP, and behind them the vector registers, a number of two halves each; and so are their taints
+abbrev pub machineOf : State → List (List ℕ) → List (List ℕ) → List ℕ → List ℕ → Machine
+machineOf s vectors vector-taint memory taint =
     record {
-      values = s .registers .value;
+      values = s .registers .value ++ map wide vectors;
       pc = s .pc;
       memory = memory;
-      taints = record { registers = s .registers .taint; bytes = taint };
+      taints = record { registers = s .registers .taint ++ map wide vector-taint; bytes = taint };
       monitor = s .monitor;
     }
 

@@ -15,7 +15,8 @@ use Rattle.access.specs.Accesses.{wordAccess}
 use Rattle.machine.specs.Monitor.{madeOf}
 use Rattle.machine.specs.declared.Shown.{Shown}
 
--- 01's marks, by byte (02, CR 13): of X0 to X30 and SP, a number with a byte for each byte of the value; of memory, a byte for each
+-- 01's marks, by byte (02, CR 13): of X0 to X30, SP and the vector registers, a number with a byte for each byte of the value; of
+-- memory, a byte for each
 pub record Taints : Type 0 where
   pub registers : List ℕ
   pub bytes : List ℕ
@@ -30,7 +31,7 @@ loadedIn read t at u = set (set u (t .target) (read at (t .bytes))) (t .second) 
 abbrev pub storedIn : (ℕ → ℕ → List ℕ) → Transfer → ℕ → List ℕ → List ℕ → List ℕ
 storedIn write t at u k = sets (sets k at (write (t .bytes) (getD u (t .target) 0))) (at + t .bytes) (write (t .more) (getD u (t .second) 0))
 
--- writeback leaves the base untainted, and a status its register: all eight bytes
+-- writeback leaves the base untainted, and a status its register: all bytes
 abbrev pub basedTaints : ℕ → List ℕ → List ℕ
 basedTaints written u = set u written 0
 

@@ -7,6 +7,7 @@ use Rattle.access.specs.declared.transfer.Transfer.{Transfer}
 use Rattle.access.specs.declared.Access.{Access}
 use Rattle.access.specs.declared.Access.the-variants.{Nothing, Moves}
 use Rattle.access.specs.Accesses.{wordAccess}
+use Rattle.vectors.specs.File.{filesAfter, taintsAfter}
 use Rattle.plan.specs.declared.window.Window.{Window}
 use Rattle.plan.specs.Address.{sumOf, addressOf}
 use Rattle.plan.specs.Refusals.{firstOf}
@@ -45,8 +46,9 @@ pub record Outcome (A : Type 0) : Type 0 where
   pub answer : Answer
   pub shown : Shown
 
-abbrev pub outcome : Stepped → List ℕ → List ℕ → Outcome Machine
-outcome r memory taint = record { machine = machineOf (r .state) memory taint; answer = r .answer; shown = r .shown }
+-- the vector registers that were handed in, with what the step wrote to them
+abbrev pub outcome : Stepped → List (List ℕ) → List (List ℕ) → List ℕ → List ℕ → Outcome Machine
+outcome r vectors vector-taint memory taint = record { machine = machineOf (r .state) (filesAfter (r .vectors) vectors) (taintsAfter (r .vectors) vector-taint) memory taint; answer = r .answer; shown = r .shown }
 
 abbrev pub performed : {A : Type 0} → A → Step A → Outcome A
 performed m (stopped answer address) = record { machine = m; answer = answer; shown = shown 0 address 0 }

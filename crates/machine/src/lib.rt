@@ -12,16 +12,18 @@ pub use monitor::Monitor;
 use plan::Plan;
 pub use plan::Window;
 use registers::Registers;
+use vectors::VectorWrites;
 ghost use mathlib.Core.Path.{_≡_};
 ghost use Prim.Native.Nat.{ℕ, _+_, _≤_};
 ghost use lib.ListN.{length};
-ghost use Rattle.access.proofs.Bounds.{Within, Bounded};
+ghost use Rattle.vectors.proofs.Slots.{Plain};
+ghost use Rattle.access.proofs.Bounds.{Within, Bounded, Placed};
 ghost use Rattle.plan.specs.Admission.{totalOf, admitOf};
 ghost use Rattle.machine.specs.Monitor.{monitorAfter, madeOf};
 ghost use Rattle.machine.specs.Machine.{machineOf, opened, nextPc, effectOf};
 ghost use Rattle.machine.specs.Step.{shown, moved, stepOf, outcome, leaves};
 ghost use Rattle.machine.specs.route.Parts.{wordStep, accessStep};
-ghost use Rattle.machine.specs.route.Writing.{stateOf, passedOn, settledOf, ends, told};
+ghost use Rattle.machine.specs.route.Writing.{Full, stateOf, passedOn, settledOf, ends, told};
 
 #[repr(C)]
 pub struct State {
@@ -38,22 +40,33 @@ pub struct Shown {
 }
 
 // What the first half of a step comes to: it is refused, with an answer and an address; or the access is made, and no
-// register is to be set; or some are.
+// register is to be set; or some are; or vector registers are, too.
 pub enum Decision {
     Refused(Answer, u64),
     Passed(Shown),
     Wrote(Shown, Writes),
+    Vectors(Shown, Writes, VectorWrites),
 }
 
-// What a step returns: 01's answer, code and address, and the state after it.
+// What a step returns: 01's answer, code and address, and the state after it; and what it writes to the vector registers,
+// which `vectors::written` puts into them.
 pub struct Stepped {
     pub state: State,
     pub answer: Answer,
     pub shown: Shown,
+    pub vectors: VectorWrites,
 }
 
-pub fn step(word: u32, state: State, window: Window, memory: &mut [u8], taint: &mut [u8]) -> Stepped
-    ensures { λ r. ⌜ outcome r (now (memory .exit)) (now (taint .exit)) ≡ leaves (stepOf window word) (machineOf state (now (memory .entry)) (now (taint .entry))) ⌝ }
+pub fn step(
+    word: u32,
+    state: State,
+    vectors: [[u64; 2]; 32],
+    vector_taint: [[u64; 2]; 32],
+    window: Window,
+    memory: &mut [u8],
+    taint: &mut [u8],
+) -> Stepped
+    ensures { λ r. ⌜ outcome r vectors «vector_taint» (now (memory .exit)) (now (taint .exit)) ≡ leaves (stepOf window word) (machineOf state vectors «vector_taint» (now (memory .entry)) (now (taint .entry))) ⌝ }
 {
     match decide(
         word,
@@ -62,6 +75,8 @@ pub fn step(word: u32, state: State, window: Window, memory: &mut [u8], taint: &
         window,
         &state.registers.value,
         &state.registers.taint,
+        &vectors,
+        &vector_taint,
         memory,
         taint,
     ) {
@@ -69,22 +84,31 @@ pub fn step(word: u32, state: State, window: Window, memory: &mut [u8], taint: &
             state,
             answer,
             shown: no_code(address),
+            vectors: vectors::no_writes(),
         },
         Decision::Passed(shown) => Stepped {
             state: passed_on(state),
             answer: Answer::Done,
             shown,
+            vectors: vectors::no_writes(),
         },
         Decision::Wrote(shown, writes) => Stepped {
             state: settled(state, writes),
             answer: Answer::Done,
             shown,
+            vectors: vectors::no_writes(),
+        },
+        Decision::Vectors(shown, writes, filled) => Stepped {
+            state: settled(state, writes),
+            answer: Answer::Done,
+            shown,
+            vectors: filled,
         },
     }
 }
 
 // What a refusal shows, and a prefetch with address 0.
-fn no_code(address: u64) -> Shown
+pub fn no_code(address: u64) -> Shown
     ensures { λ r. ⌜ r ≡ shown 0 address 0 ⌝ }
 {
     Shown {
@@ -123,7 +147,7 @@ pub fn settled(state: State, writes: Writes) -> State
 }
 
 // The second half of a step that sets none.
-fn passed_on(state: State) -> State
+pub fn passed_on(state: State) -> State
     ensures { λ r. ⌜ r ≡ passedOn state ⌝ }
 {
     let mut next = state;
@@ -144,18 +168,44 @@ pub fn decide<'a>(
     pc: u64,
     monitor: Monitor,
     window: Window,
-    value: &'a [u64],
-    tainted: &'a [u64],
+    value: &'a [u64; 32],
+    tainted: &'a [u64; 32],
+    vectors: &[[u64; 2]; 32],
+    vector_taint: &[[u64; 2]; 32],
     memory: &mut [u8],
     taint: &mut [u8],
 ) -> Decision
-    ensures { λ r. ⌜ told (stateOf (now (value .entry)) (now (tainted .entry)) pc monitor) r (now (memory .exit)) (now (taint .exit)) ≡ ends (stepOf window word) (machineOf (stateOf (now (value .entry)) (now (tainted .entry)) pc monitor) (now (memory .entry)) (now (taint .entry))) ⌝ }
+    ensures { λ r. ⌜ told (stateOf (now (value .entry)) (now (tainted .entry)) pc monitor) (now (vectors .entry)) (now («vector_taint» .entry)) r (now (memory .exit)) (now (taint .exit)) ≡ ends (stepOf window word) (machineOf (stateOf (now (value .entry)) (now (tainted .entry)) pc monitor) (now (vectors .entry)) (now («vector_taint» .entry)) (now (memory .entry)) (now (taint .entry))) ⌝ }
 {
     if plan::is_bad(window, memory.len() as u64, taint.len() as u64, pc) {
         return Decision::Refused(Answer::BadWindow, 0);
     }
-    decide_word(word, pc, monitor, window, value, tainted, memory, taint)
+    counted(*value);
+    counted(*tainted);
+    vectors::held(*vectors);
+    vectors::held(*vector_taint);
+    decide_word(
+        word,
+        pc,
+        monitor,
+        window,
+        value,
+        tainted,
+        vectors,
+        vector_taint,
+        memory,
+        taint,
+    )
 }
+
+// How long an array is, which nothing says of one behind a reference. No code comes of it.
+fn counted(numbers: [u64; 32])
+    ensures { λ r. ⌜ length numbers ≡ 32 ⌝ }
+{
+    nothing();
+}
+
+fn nothing() {}
 
 // In a window that is well formed.
 fn decide_word(
@@ -165,11 +215,13 @@ fn decide_word(
     window: Window,
     value: &[u64],
     tainted: &[u64],
+    vectors: &[[u64; 2]; 32],
+    vector_taint: &[[u64; 2]; 32],
     memory: &mut [u8],
     taint: &mut [u8],
 ) -> Decision
-    requires { ⌜ length (now taint) ≡ length (now memory) ⌝ }
-    ensures { λ r. ⌜ told (stateOf (now (value .entry)) (now (tainted .entry)) pc monitor) r (now (memory .exit)) (now (taint .exit)) ≡ ends (wordStep (window .origin) (admitOf window (length (now (memory .entry)))) word) (machineOf (stateOf (now (value .entry)) (now (tainted .entry)) pc monitor) (now (memory .entry)) (now (taint .entry))) ⌝ }
+    requires { ⌜ Full (now value) (now tainted) (now vectors) (now «vector_taint») × (length (now taint) ≡ length (now memory)) ⌝ }
+    ensures { λ r. ⌜ told (stateOf (now (value .entry)) (now (tainted .entry)) pc monitor) (now (vectors .entry)) (now («vector_taint» .entry)) r (now (memory .exit)) (now (taint .exit)) ≡ ends (wordStep (window .origin) (admitOf window (length (now (memory .entry)))) word) (machineOf (stateOf (now (value .entry)) (now (tainted .entry)) pc monitor) (now (vectors .entry)) (now («vector_taint» .entry)) (now (memory .entry)) (now (taint .entry))) ⌝ }
 {
     let examined = decoder::examine(word);
     let answer = examined.answer;
@@ -184,6 +236,8 @@ fn decide_word(
         window,
         value,
         tainted,
+        vectors,
+        vector_taint,
         memory,
         taint,
     )
@@ -196,11 +250,13 @@ fn decide_access(
     window: Window,
     value: &[u64],
     tainted: &[u64],
+    vectors: &[[u64; 2]; 32],
+    vector_taint: &[[u64; 2]; 32],
     memory: &mut [u8],
     taint: &mut [u8],
 ) -> Decision
-    requires { ⌜ Within x × (length (now taint) ≡ length (now memory)) ⌝ }
-    ensures { λ r. ⌜ told (stateOf (now (value .entry)) (now (tainted .entry)) pc monitor) r (now (memory .exit)) (now (taint .exit)) ≡ ends (accessStep (window .origin) (admitOf window (length (now (memory .entry)))) x) (machineOf (stateOf (now (value .entry)) (now (tainted .entry)) pc monitor) (now (memory .entry)) (now (taint .entry))) ⌝ }
+    requires { ⌜ Within x × Full (now value) (now tainted) (now vectors) (now «vector_taint») × (length (now taint) ≡ length (now memory)) ⌝ }
+    ensures { λ r. ⌜ told (stateOf (now (value .entry)) (now (tainted .entry)) pc monitor) (now (vectors .entry)) (now («vector_taint» .entry)) r (now (memory .exit)) (now (taint .exit)) ≡ ends (accessStep (window .origin) (admitOf window (length (now (memory .entry)))) x) (machineOf (stateOf (now (value .entry)) (now (tainted .entry)) pc monitor) (now (vectors .entry)) (now («vector_taint» .entry)) (now (memory .entry)) (now (taint .entry))) ⌝ }
 {
     match x {
         // A prefetch: the program counter goes on.
@@ -213,6 +269,8 @@ fn decide_access(
             window,
             value,
             tainted,
+            vectors,
+            vector_taint,
             memory,
             taint,
         ),
@@ -227,11 +285,13 @@ fn decide_moves(
     window: Window,
     value: &[u64],
     tainted: &[u64],
+    vectors: &[[u64; 2]; 32],
+    vector_taint: &[[u64; 2]; 32],
     memory: &mut [u8],
     taint: &mut [u8],
 ) -> Decision
-    requires { ⌜ Bounded t × (length (now taint) ≡ length (now memory)) ⌝ }
-    ensures { λ r. ⌜ told (stateOf (now (value .entry)) (now (tainted .entry)) pc monitor) r (now (memory .exit)) (now (taint .exit)) ≡ ends (accessStep (window .origin) (admitOf window (length (now (memory .entry)))) (Access.Moves t a)) (machineOf (stateOf (now (value .entry)) (now (tainted .entry)) pc monitor) (now (memory .entry)) (now (taint .entry))) ⌝ }
+    requires { ⌜ Bounded t × Placed a × Full (now value) (now tainted) (now vectors) (now «vector_taint») × (length (now taint) ≡ length (now memory)) ⌝ }
+    ensures { λ r. ⌜ told (stateOf (now (value .entry)) (now (tainted .entry)) pc monitor) (now (vectors .entry)) (now («vector_taint» .entry)) r (now (memory .exit)) (now (taint .exit)) ≡ ends (accessStep (window .origin) (admitOf window (length (now (memory .entry)))) (Access.Moves t a)) (machineOf (stateOf (now (value .entry)) (now (tainted .entry)) pc monitor) (now (vectors .entry)) (now («vector_taint» .entry)) (now (memory .entry)) (now (taint .entry))) ⌝ }
 {
     let operands = plan::operands_of(a, pc, value, tainted);
     match plan::planned(t, a, operands, window, memory.len() as u64) {
@@ -253,6 +313,8 @@ fn decide_moves(
                 monitor,
                 value,
                 tainted,
+                vectors,
+                vector_taint,
                 memory,
                 taint,
             )
@@ -270,19 +332,38 @@ fn touched(
     monitor: Monitor,
     value: &[u64],
     tainted: &[u64],
+    vectors: &[[u64; 2]; 32],
+    vector_taint: &[[u64; 2]; 32],
     memory: &mut [u8],
     taint: &mut [u8],
 ) -> Decision
-    requires { ⌜ Bounded t × (at + totalOf t ≤ length (now memory)) × (length (now taint) ≡ length (now memory)) ⌝ }
-    ensures { λ r. ⌜ ((pc : ℕ) → told (stateOf (now (value .entry)) (now (tainted .entry)) pc monitor) r (now (memory .exit)) (now (taint .exit)) ≡ ends (λ m. moved (effectOf (madeOf t (shown .status)) written at next (monitorAfter t (shown .address) (m .monitor)) m) shown) (machineOf (stateOf (now (value .entry)) (now (tainted .entry)) pc monitor) (now (memory .entry)) (now (taint .entry)))) ⌝ }
+    requires { ⌜ Bounded t × Plain written × Full (now value) (now tainted) (now vectors) (now «vector_taint») × (at + totalOf t ≤ length (now memory)) × (length (now taint) ≡ length (now memory)) ⌝ }
+    ensures { λ r. ⌜ ((pc : ℕ) → told (stateOf (now (value .entry)) (now (tainted .entry)) pc monitor) (now (vectors .entry)) (now («vector_taint» .entry)) r (now (memory .exit)) (now (taint .exit)) ≡ ends (λ m. moved (effectOf (madeOf t (shown .status)) written at next (monitorAfter t (shown .address) (m .monitor)) m) shown) (machineOf (stateOf (now (value .entry)) (now (tainted .entry)) pc monitor) (now (vectors .entry)) (now («vector_taint» .entry)) (now (memory .entry)) (now (taint .entry)))) ⌝ }
 {
     let after = monitor::after(t, shown.address, monitor);
     if t.store {
-        effect::stored(t, shown.status, at, value, tainted, memory, taint);
+        effect::stored(
+            t,
+            shown.status,
+            at,
+            value,
+            tainted,
+            vectors,
+            vector_taint,
+            memory,
+            taint,
+        );
         if effect::sets_more(t.exclusive, written, value, tainted) {
             return Decision::Wrote(shown, effect::written_back(written, next, after));
         }
         return Decision::Passed(shown);
+    }
+    if vectors::is_vector(t.target) {
+        return Decision::Vectors(
+            shown,
+            effect::written_back(written, next, after),
+            effect::fills(t, at, memory, taint),
+        );
     }
     Decision::Wrote(
         shown,

@@ -21,7 +21,6 @@ use Rattle.access.specs.declared.Access.{Access}
 use Rattle.access.specs.declared.Access.the-variants.{Nothing, Moves}
 use Rattle.access.specs.Accesses.{wordAccess}
 use Rattle.access.proofs.Bounds.{Bounded, Within, bounded, Moving, moving}
-use Rattle.decoder.specs.Decoding.{decodeOf}
 use Rattle.plan.specs.declared.window.Window.{Window}
 use Rattle.plan.specs.declared.operands.Operands.{Operands}
 use Rattle.plan.specs.Operands.{usedOf}
@@ -223,12 +222,12 @@ module _ (sees : ℕ → Type 0) (related : Bool → ℕ → ℕ → Type 0) (co
       access-alike : (x : Access) → Within x → Moving x → Shows (Alike sees related) (accessStep origin admit x m) (accessStep origin admit x n)
       unfolding accessStep
       access-alike Nothing b l = (record { pc = rw (h .pc); monitor = h .monitor; registers = h .registers; bytes = h .bytes }, refl)
-      access-alike (Moves t a) b l = moves-at t a b l (operandsOf a m .tainted) refl
+      access-alike (Moves t a) b l = moves-at t a (b .0) (l .0) (operandsOf a m .tainted) refl
 
       -- a step under an admission that lets a load look only at what may be seen
       pub word-alike : (word : ℕ) → Shows (Alike sees related) (wordStep origin admit word m) (wordStep origin admit word n)
       unfolding wordStep accessStep
-      word-alike word = first-after (Alike sees related) _ _ (classRefusals word) (accessRefusals admit (wordAccess word) m) (accessRefusals admit (wordAccess word) n) (access-alike (wordAccess word) (bounded (decodeOf word .instruction)) (moving (decodeOf word .instruction)))
+      word-alike word = first-after (Alike sees related) _ _ (classRefusals word) (accessRefusals admit (wordAccess word) m) (accessRefusals admit (wordAccess word) n) (access-alike (wordAccess word) (bounded word) (moving word))
 
   -- a step in a window whose admission lets a load look only at what may be seen
   module _ (w : Window) (safe : (len : ℕ) (t : Transfer) (a : ℕ) → Passed (admitOf w len t a) → t .store ≡ false → Seen sees (a - w .origin) (totalOf t)) (m n : Machine) (real-m : Real m) (real-n : Real n) (h : Alike sees related m n) where

@@ -8,4 +8,4 @@ not-begun-spec =
     tie.close
     (tie.spec
     (λ c κs. search needs)
-    (λ c m k t s. rw (c .no-code .ensures)))
+    (λ c vs us m k t s. rw (c .no-code .ensures)))

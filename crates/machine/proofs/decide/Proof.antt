@@ -12,7 +12,20 @@ decide-spec =
     (tie.spec
     (λ c κs. search needs)
     (λ c. rw (step-bad, ← c .before .is-bad .ensures, c .if1 .taken))
-    (λ c κs. same-lengths _ _ _ _ (sym (c .before .before .before .is-bad .ensures) ∙ c .before .before .if1 .left))
+    (λ c κs. search needs)
+    (λ c κs. search needs)
+    (λ c κs. search needs)
+    (λ c κs. search needs)
+    (λ c κs.
+    let lengths = same-lengths _ _ _ _ (sym (c .before .before .before .before .before .before .before .before .before .before .before .before .before .is-bad .ensures) ∙ c .before .before .before .before .before .before .before .before .before .before .before .before .if1 .left) in (
+      record {
+        values = c .before .before .before .before .before .before .before .before .before .before .counted .ensures;
+        taints = c .before .before .before .before .before .before .before .before .counted2 .ensures;
+        vectors = c .before .before .before .before .before .before .held .ensures .count;
+        vector-taints = c .before .before .before .before .held2 .ensures .count;
+      },
+      lengths,
+    ))
     (λ c. search needs)
     (λ c. search needs)
-    (λ c. rw (step-bad, ← c .before .before .before .before .before .before .before .before .is-bad .ensures, c .before .before .before .before .before .before .before .if1 .left) (c .before .before .before .before .decide-word .ensures)))
+    (λ c. rw (step-bad, ← c .before .before .before .before .before .before .before .before .before .before .before .before .before .before .before .before .before .before .is-bad .ensures, c .before .before .before .before .before .before .before .before .before .before .before .before .before .before .before .before .before .if1 .left) (c .before .before .before .before .decide-word .ensures)))

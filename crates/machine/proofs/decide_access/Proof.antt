@@ -16,7 +16,8 @@ decide-access-spec =
     (λ c. search needs)
     (λ c κs.
     let start = c .before .before .before .before .before .before .before .before .before in
-    (subst Within (c .before .before .before .x .given .1) (start .pre .0), start .pre .1))
+    let w = subst Within (c .before .before .before .x .given .1) (start .pre .0) in
+    (w .0, w .1, start .pre .1, start .pre .2))
     (λ c. rw (c .before .enum-told .given .1, c .no-code .ensures))
     (λ c. search needs)
     (λ c. search needs)

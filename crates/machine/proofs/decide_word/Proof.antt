@@ -15,7 +15,9 @@ decide-word-spec =
     (λ c κs. search needs)
     (λ c. rw (step-class, ← c .before .before .examine .ensures .0, ne-eqb _ 0 (λ h. c .if1 .taken (c .before .answer-number .ensures .0 ∙ h))))
     (λ c κs. search needs)
-    (λ c κs. (rw (c .before .before .access-of .ensures) (bounded _), c .before .before .before .before .before .before .before .before .before .before .before .pre))
+    (λ c κs.
+    let start = c .before .before .before .before .before .before .before .before .before .before .before in
+    (rw (c .before .before .access-of .ensures, c .before .before .before .before .before .before .examine .ensures .1) (bounded (start .args .word)), start .pre .0, start .pre .1))
     (λ c. search needs)
     (λ c. search needs)
     (λ c.

@@ -1,12 +1,18 @@
 -- A step in two halves: what the first decides, and what the second sets of it. What a step does is said in Step.antt;
 -- this is how the two halves come to it.
-use Prim.Native.Nat.{ℕ, _+_}
-use mathlib.Core.List.{List}
+use Prim.Native.Nat.{ℕ, _+_, _-_, min}
+use mathlib.Core.Path.{_≡_}
+use mathlib.Core.List.{List, map}
+use lib.ListN.{length}
 use Rattle.bits.specs.Bytes.{joined, spanOf}
 use Rattle.bits.specs.Extension.{extendedOf}
+use Rattle.memory.specs.Taints.{normal}
 use Rattle.memory.specs.Sources.{loadedTaint}
 use Rattle.registers.specs.declared.Registers.{Registers}
 use Rattle.registers.specs.File.{setAt}
+use Rattle.vectors.specs.declared.Halves.{Halves}
+use Rattle.vectors.specs.declared.VectorWrites.{VectorWrites}
+use Rattle.vectors.specs.File.{filesAfter, taintsAfter}
 use Rattle.access.specs.declared.transfer.Transfer.{Transfer}
 use Rattle.machine.specs.Machine.{Machine, machineOf, nextPc}
 use Rattle.machine.specs.Step.{Step, stopped, moved}
@@ -14,12 +20,19 @@ use Rattle.machine.specs.declared.monitor.Monitor.{Monitor}
 use Rattle.machine.specs.declared.State.{State}
 use Rattle.machine.specs.declared.Shown.{Shown}
 use Rattle.machine.specs.declared.Decision.{Decision}
-use Rattle.machine.specs.declared.Decision.the-variants.{Refused, Passed, Wrote}
+use Rattle.machine.specs.declared.Decision.the-variants.{Refused, Passed, Wrote, Vectors}
 use Rattle.machine.specs.declared.effect.Writes.{Writes}
 
 -- the state whose register file is lent as two arrays
 abbrev pub stateOf : List ℕ → List ℕ → ℕ → Monitor → State
 stateOf values tainted pc monitor = record { registers = record { value = values; taint = tainted }; pc = pc; monitor = monitor }
+
+-- thirty-two of each: what the two arrays of a register file, the vector registers and their marks have
+pub record Full (v u : List ℕ) (x k : List (List ℕ)) : Type 0 where
+  pub values : length v ≡ 32
+  pub taints : length u ≡ 32
+  pub vectors : length x ≡ 32
+  pub vector-taints : length k ≡ 32
 
 -- ---- what is set
 
@@ -46,6 +59,22 @@ loadsOf t base next monitor at m k =
       monitor = monitor;
     }
 
+-- the two halves of n bytes at an index, of memory or of its taints: what they don't fill is 0
+abbrev pub halvesIn : List ℕ → ℕ → ℕ → Halves
+halvesIn m at n = record { low = joined (spanOf m at (min n 8)); high = joined (spanOf m (at + 8) (n - 8)) }
+
+-- a load of vector registers at an index
+abbrev pub fillsOf : Transfer → ℕ → List ℕ → List ℕ → VectorWrites
+fillsOf t at m k =
+    record {
+      first = t .target - 32;
+      value = halvesIn m at (t .bytes);
+      taint = halvesIn (map normal k) at (t .bytes);
+      second = t .second - 32;
+      value2 = halvesIn m (at + t .bytes) (t .more);
+      taint2 = halvesIn (map normal k) (at + t .bytes) (t .more);
+    }
+
 -- ---- the state after the second half
 
 -- no register is set
@@ -69,11 +98,12 @@ ended m (moved n s) = record { step = moved n s; machine = n }
 abbrev pub ends : (Machine → Step Machine) → Machine → Ended
 ends f m = ended m (f m)
 
-abbrev pub movedTo : State → Shown → List ℕ → List ℕ → Ended
-movedTo s shown memory taint = record { step = moved (machineOf s memory taint) shown; machine = machineOf s memory taint }
+abbrev pub movedTo : Machine → Shown → Ended
+movedTo m shown = record { step = moved m shown; machine = m }
 
 -- what a decision comes to with the second half, and with the memory and the taint bytes that the first has left
-abbrev pub told : State → Decision → List ℕ → List ℕ → Ended
-told s (Refused answer address) memory taint = record { step = stopped answer address; machine = machineOf s memory taint }
-told s (Passed shown) memory taint = movedTo (passedOn s) shown memory taint
-told s (Wrote shown w) memory taint = movedTo (settledOf w s) shown memory taint
+abbrev pub told : State → List (List ℕ) → List (List ℕ) → Decision → List ℕ → List ℕ → Ended
+told s vectors vector-taint (Refused answer address) memory taint = record { step = stopped answer address; machine = machineOf s vectors vector-taint memory taint }
+told s vectors vector-taint (Passed shown) memory taint = movedTo (machineOf (passedOn s) vectors vector-taint memory taint) shown
+told s vectors vector-taint (Wrote shown w) memory taint = movedTo (machineOf (settledOf w s) vectors vector-taint memory taint) shown
+told s vectors vector-taint (Vectors shown w x) memory taint = movedTo (machineOf (settledOf w s) (filesAfter x vectors) (taintsAfter x vector-taint) memory taint) shown
