@@ -99,7 +99,7 @@ module _ {M : Type 1} (𝓤 : URA M) (H : Heap 𝓤) (A : Atoms 𝓤) (W : Given
         pass1 ! (init ! 12 refl (LL.lawful T.the-type T′.the-laws 𝓤 H A W .typed h _ h-is .0)) $ pass1 ! (init ! 10 refl (tt, record { fits = n-fits })) $ pass1 ! (init ! 8 refl (tt, record { fits = value-fits })) $ pass1 ! (init ! 6 refl (tt, record { fits = marks-fits })) $ pass0 ! $
         assigns ! (of-opd ! (load ! (from ! (stop !)) (look ! 12 refl))) (from ! (stop !)) (init ! 4 refl (LL.lawful T.the-type T′.the-laws 𝓤 H A W .typed h _ h-is .0)) $
         assigns ! (addr ! (from ! (stop !))) (from ! (stop !)) (init ! 0 refl (tt, tt)) $
-        -- the record is lent; what is left of it stands before the tokens and the slices, and the locals come last
+        -- the record is lent; what is left of it stands before the tokens and what is lent on, and the locals come last
         move ! (17 ∷ []) $ drop ! $ move ! (16 ∷ []) $ nothing ! $ move ! (6 ∷ 0 ∷ 1 ∷ []) $ use1 W (‵ (partAt T.the-row fullShare h l₅ 0)) (lies-in 𝓤 H A W h l₅ h-is) $
         lft-new ! tt (λ α. move ! (1 ∷ []) $ use1 W (later (some (λ (δ : GName). ‵ (MutRef (named 0) (α ∷ []) T.the-row .own (record { ptr = (l₅, 0); name = δ; now = h }) (vptr l₅ 0 ∷ [])) ⊛ ‵ (flent (α ∷ []) (Body (mem T.the-row) l₅ 0 δ))))) (lends-ref 𝓤 H A W T.the-row (named 0) (α ∷ []) h l₅ 0) $ await ! tt $ pick ! (λ δ. split ! $
         move ! (2 ∷ 3 ∷ []) $ join ! $ move ! (0 ∷ 1 ∷ 3 ∷ []) $ use3 W (raw (Callee 𝓤 H A at-mem run .pre (to-callee α δ l₅))) (goes α δ l₅) $
@@ -108,7 +108,7 @@ module _ {M : Type 1} (𝓤 : URA M) (H : Heap 𝓤) (A : Atoms 𝓤) (W : Given
         split ! $ move ! (1 ∷ []) $ use1 W (some (λ (zs : State × (Unit {0} × (Unit {0} × (Unit {0} × Unit {0})))). ‵ (lasts callee.ended (α ∷ [], tt) (record { ptr = (l₅, 0); name = δ; now = h }, (n, (value, (marks, tt)))) zs) ⊛ raw (fact 𝓤 (Says (zs .0))))) (id⊢ 𝓤 _) $ pick ! (λ zs. split ! $ move ! (1 ∷ []) $ heard ! (Says (zs .0)) (λ e. fsplit ! $ move ! (1 ∷ []) $ fsplit ! $ drop ! $ fsplit ! $ drop ! $ fsplit ! $ drop ! $ drop ! $
         move ! (1 ∷ []) $ split ! $ move ! (1 ∷ []) $
         feqL ! (λ is. land ! (from ! (stop !)) (init ! 5 refl (subst (λ (y : Val). Holds (hasTy tyUnit y) × WT y) (sym (ap only is)) (tt, tt))) $
-        -- the lifetime's token, the others, the slices' last values, the record's last value, the lender's part, then the locals
+        -- the lifetime's token, the others, the last values of what was lent on, the record's last value, the lender's part, then the locals
         split ! $ lft-end ! tt $ move ! (0 ∷ 3 ∷ 2 ∷ []) $ use3 W (later (‵ (partAt T.the-row fullShare (zs .0) l₅ 0))) (ref-back 𝓤 H A W T.the-row (α ∷ []) δ (zs .0) l₅ 0) $ await ! tt $
         use1 W (given (Is T.the-row (zs .0) (state-val (zs .0) ∷ [])) (‵ (fat fullShare T′.mir l₅ 0 (state-val (zs .0))))) (lies-out 𝓤 H A W (zs .0) l₅) $ learn ! (λ g.
         assigns ! (of-opd ! (load ! (from ! (stop !)) (look ! 0 refl))) (from ! (stop !)) (init ! 15 refl (LL.lawful T.the-type T′.the-laws 𝓤 H A W .typed (zs .0) _ g .0)) $
