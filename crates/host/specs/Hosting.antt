@@ -8,7 +8,7 @@ use Rattle.execution.specs.Walk.{Log, log, Result}
 use Rattle.execution.specs.Run.{machineRun}
 use Rattle.host.specs.declared.RunReply.{RunReply}
 
--- all that a run returns and leaves: the record, memory and taint bytes are a machine
+-- all that a run returns and leaves: the record, the vector registers and their marks, memory and taint bytes are a machine
 pub record Hosted : Type 0 where
   pub machine : Machine
   pub log : Log
@@ -17,10 +17,10 @@ pub record Hosted : Type 0 where
   pub code : ℕ
   pub address : ℕ
 
-abbrev pub hosted : RunReply → List ℕ → List ℕ → List ℕ → List ℕ → Hosted
-hosted r memory taint trace statuses =
+abbrev pub hosted : RunReply → List (List ℕ) → List (List ℕ) → List ℕ → List ℕ → List ℕ → List ℕ → Hosted
+hosted r vectors vector-taint memory taint trace statuses =
     record {
-      machine = machineOf (r .session) memory taint;
+      machine = machineOf (r .session) vectors vector-taint memory taint;
       log = log trace statuses;
       steps = r .steps;
       answer = r .answer;

@@ -48,12 +48,14 @@ pub struct ListerReply {
     pub length: u64,
 }
 
-// A run from a session's record, which is handed in by value and comes back in the reply. Where the run is not begun,
-// nothing is changed.
+// A run from a session's record, which is handed in by value and comes back in the reply, and from its vector registers and
+// their taints, which are lent. Where the run is not begun, nothing is changed.
 #[no_mangle]
 pub extern "C" fn milestarling_run(
     words: &[u32],
     session: State,
+    vectors: &mut [[u64; 2]; 32],
+    vector_taint: &mut [[u64; 2]; 32],
     origin: u64,
     readonly: u64,
     memory: &mut [u8],
@@ -61,12 +63,14 @@ pub extern "C" fn milestarling_run(
     trace: &mut [u64],
     statuses: &mut [u8],
 ) -> RunReply
-    ensures { λ r. ⌜ hosted r (now (memory .exit)) (now (taint .exit)) (now (trace .exit)) (now (statuses .exit))
-        ≡ hostRun (record { origin = origin; readonly = readonly }) (now (words .entry)) (machineOf session (now (memory .entry)) (now (taint .entry))) (log (now (trace .entry)) (now (statuses .entry))) ⌝ }
+    ensures { λ r. ⌜ hosted r (now (vectors .exit)) (now («vector_taint» .exit)) (now (memory .exit)) (now (taint .exit)) (now (trace .exit)) (now (statuses .exit))
+        ≡ hostRun (record { origin = origin; readonly = readonly }) (now (words .entry)) (machineOf session (now (vectors .entry)) (now («vector_taint» .entry)) (now (memory .entry)) (now (taint .entry))) (log (now (trace .entry)) (now (statuses .entry))) ⌝ }
 {
     let ran = execution::run(
         words,
         session,
+        vectors,
+        vector_taint,
         Window { origin, readonly },
         memory,
         taint,
