@@ -1,15 +1,16 @@
 -- A step does what Arm's page says, with 01's choices: the page of each row (`row-step`), and the answers before it.
 -- Assumes nothing.
-use Prim.Native.Nat.{ℕ, _+_, _%_, _^_, _≤_}
+use Prim.Native.Nat.{ℕ, _+_, _%_, _^_, _≤_, _<_}
 use mathlib.Core.Path.{_≡_, refl, ap, _∙_}
 use mathlib.Core.Bool.{Bool, true, false, not, _||_}
 use lib.Dec.{ltb, eqb}
 use lib.ListN.{length}
 use native.Mathlib.Omega.{arith}
-use borrow.Author.Tests.{ltb-false}
+use borrow.Author.Tests.{ltb-false, eqb-true, eqb-false}
 use Rattle.bits.specs.Choice.{pick}
+use Rattle.bits.specs.Fields.{field}
 use Rattle.bits.proofs.Choices.{neither}
-use Rattle.bits.proofs.Parts.{Has}
+use Rattle.bits.proofs.Parts.{Has, part-lt}
 use Rattle.instruction.specs.declared.answer.Answer.the-variants.{BadWindow, NotInSet, Undefined, Unpredictable}
 use Rattle.instruction.specs.declared.row.Row.{Row}
 use Rattle.instruction.specs.declared.row.Row.the-variants.{NoRow, LiteralRow, PairRow, OrderedRow, UnscaledRow, PostRow, PreRow, RegisterRow, UnsignedRow, LoadExclusiveRow, StoreExclusiveRow, AcquireReleaseRow}
@@ -29,33 +30,63 @@ use Rattle.machine.specs.Real.{Real}
 use Rattle.arm.specs.Pages.{pageOf}
 use Rattle.arm.specs.Choices.{badStart, armOf, armStep}
 use Rattle.arm.proofs.Steps.{Ready, Steps}
+use Rattle.arm.proofs.Singles.{two}
 use Rattle.arm.proofs.Families.{unscaled-step, ordered-step, post-step, pre-step, unsigned-step, indexed-step, literal-step}
-use Rattle.arm.proofs.Pairs.{pair-step}
+use Rattle.arm.proofs.Families.{vector-unscaled-step, vector-post-step, vector-pre-step, vector-unsigned-step, vector-indexed-step, vector-literal-step}
+use Rattle.arm.proofs.Pairs.{pair-step, vector-pair-step}
 use Rattle.arm.proofs.Exclusives.{load-exclusive-step, store-exclusive-step, acquire-release-step}
 
 -- ---- the page of a word
 
 module _ (w : Window) (m : Machine) (r : Ready w m) (word : ℕ) where
-  row-step : (l : Row) → Has word (columnsOf l .fixed) → columnsOf l .undefined word ≡ false → columnsOf l .unpredictable word ≡ false
-      → wordAccess word ≡ familyAccess (columnsOf l .family word)
-      → Steps w m l word (pageOf l word .operation word (armOf w m))
-  row-step NoRow h u v e = absurd (omega arith)
-  row-step LiteralRow h u v e = literal-step w m r word e
-  row-step PairRow h u v e = pair-step w m r word u v e
-  row-step OrderedRow h u v e = ordered-step w m r word u e
-  row-step UnscaledRow h u v e = unscaled-step w m r word u e
-  row-step PostRow h u v e = post-step w m r word u v e
-  row-step PreRow h u v e = pre-step w m r word u v e
-  row-step RegisterRow h u v e = indexed-step w m r word u e
-  row-step UnsignedRow h u v e = unsigned-step w m r word u e
-  row-step LoadExclusiveRow h u v e = load-exclusive-step w m r word h e
-  row-step StoreExclusiveRow h u v e = store-exclusive-step w m r word e
-  row-step AcquireReleaseRow h u v e = acquire-release-step w m r word (h .1 .1 .1 .0) (h .1 .1 .1 .1 .1 .0) e
+  abbrev Rows : Bool → Row → Type 0
+  Rows vector l =
+      Has word (columnsOf l .fixed) → columnsOf l .undefined word ≡ false → columnsOf l .unpredictable word ≡ false
+      → wordAccess word ≡ familyAccess (columnsOf l .family word) → Steps w m (pageOf vector l word) word (pageOf vector l word .operation word (armOf w m))
+
+  -- the pages of the ordered and the ninth family have no other of vector registers
+  row-step : field 26 26 word ≡ 0 → (l : Row) → Rows false l
+  row-step b NoRow h u v e = absurd (omega arith)
+  row-step b LiteralRow h u v e = literal-step w m r word b e
+  row-step b PairRow h u v e = pair-step w m r word b u v e
+  row-step b OrderedRow h u v e = ordered-step w m r word b u e false
+  row-step b UnscaledRow h u v e = unscaled-step w m r word b u e
+  row-step b PostRow h u v e = post-step w m r word b u v e
+  row-step b PreRow h u v e = pre-step w m r word b u v e
+  row-step b RegisterRow h u v e = indexed-step w m r word b u e
+  row-step b UnsignedRow h u v e = unsigned-step w m r word b u e
+  row-step b LoadExclusiveRow h u v e = load-exclusive-step w m r word h e
+  row-step b StoreExclusiveRow h u v e = store-exclusive-step w m r word e
+  row-step b AcquireReleaseRow h u v e = acquire-release-step w m r word (h .1 .1 .1 .0) (h .1 .1 .1 .1 .1 .0) e
+
+  vector-step : field 26 26 word ≡ 1 → (l : Row) → Rows true l
+  vector-step b NoRow h u v e = absurd (omega arith)
+  vector-step b LiteralRow h u v e = vector-literal-step w m r word b u e
+  vector-step b PairRow h u v e = vector-pair-step w m r word b u e
+  vector-step b OrderedRow h u v e = absurd (omega arith)
+  vector-step b UnscaledRow h u v e = vector-unscaled-step w m r word b u e
+  vector-step b PostRow h u v e = vector-post-step w m r word b u e
+  vector-step b PreRow h u v e = vector-pre-step w m r word b u e
+  vector-step b RegisterRow h u v e = vector-indexed-step w m r word b u e
+  vector-step b UnsignedRow h u v e = vector-unsigned-step w m r word b u e
+  vector-step b LoadExclusiveRow h u v e = absurd (omega arith)
+  vector-step b StoreExclusiveRow h u v e = absurd (omega arith)
+  vector-step b AcquireReleaseRow h u v e = absurd (omega arith)
+
+  -- by bit 26
+  kind-step : (vector : Bool) → eqb (field 26 26 word) 1 ≡ vector → (l : Row) → Rows vector l
+  kind-step true e l = vector-step (eqb-true (field 26 26 word) 1 e) l
+  kind-step false e l =
+      let n = eqb-false (field 26 26 word) 1 e in
+      row-step (zero-bit (field 26 26 word) (part-lt 26 1 word) n) l
+    where
+      zero-bit : (b : ℕ) → b < 2 → ¬ (b ≡ 1) → b ≡ 0
+      zero-bit b h n = two (λ b. ¬ (b ≡ 1) → b ≡ 0) (λ n. refl) (λ n. absurd (n refl)) b h n
 
   page-step : inSet word ≡ true → undefined word ≡ false → unpredictable word ≡ false
-      → Steps w m (rowOf word) word (pageOf (rowOf word) word .operation word (armOf w m))
+      → let page = pageOf (eqb (field 26 26 word) 1) (rowOf word) word in Steps w m page word (page .operation word (armOf w m))
   unfolding undefined unpredictable
-  page-step t u v = row-step (rowOf word) (row-has word t) u v (row-access word t u)
+  page-step t u v = kind-step (eqb (field 26 26 word) 1) refl (rowOf word) (row-has word t) u v (row-access word t u)
 
 -- ---- answer 1
 

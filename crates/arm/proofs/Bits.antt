@@ -170,7 +170,7 @@ imm9-is b h =
 pub imm19-is : (imm19 : ℕ) → imm19 < 2 ^ 19 → SignExtend 21 64 (Concat imm19 2 0b00) ≡ twosComplement (signedOf 262144 4 imm19)
 imm19-is b h = extend-shifted 18 2 b (omega arith) h ∙ offset-is 18 2 b (omega arith) h
 
-pub imm12-is : (imm12 scale : ℕ) → imm12 < 2 ^ 12 → scale < 4 → LSL (ZeroExtend 12 64 imm12) scale ≡ imm12 * 2 ^ scale
+pub imm12-is : (imm12 scale : ℕ) → imm12 < 2 ^ 12 → scale < 5 → LSL (ZeroExtend 12 64 imm12) scale ≡ imm12 * 2 ^ scale
 imm12-is b scale h l = lsl-is (ZeroExtend 12 64 b) scale ∙ rw (zero-extend 12 64 b) (shl-exact 12 scale 64 h (omega arith))
 
 -- ---- indexes
@@ -182,7 +182,7 @@ low-scaled k x h =
     let p : x * 2 ^ k % 2 ^ 64 ≡ (x * 2 ^ k / 2 ^ k % 2 ^ (64 - k)) * 2 ^ k + x * 2 ^ k % 2 ^ k = rw e at (mod-pow-add (x * 2 ^ k) (64 - k) k) in
     rw (p, shl-shr x k, mul-mod-left x (2 ^ k)) (sym (add-zero _))
 
-module _ (m : ℕ) (s : Arm) (shift : ℕ) (h : shift < 4) where
+module _ (m : ℕ) (s : Arm) (shift : ℕ) (h : shift < 5) where
   abbrev Agree : ℕ → Type 0
   Agree option = ExtendReg m option shift s ≡ shiftedOf option shift (X m 64 s)
 
@@ -227,7 +227,7 @@ module _ (m : ℕ) (s : Arm) (shift : ℕ) (h : shift < 4) where
   sxtx = rw (double-room, filled, same-shift, sign-none 64, low-bits (64 - shift) (X m 64 s) (omega arith), add-zero) (low-scaled shift (X m 64 s) (omega arith))
 
 -- option 010, 011, 110 and 111: bit 1 is set
-pub index-is : (m : ℕ) (s : Arm) (option shift : ℕ) → option < 8 → ¬ (field 1 1 option ≡ 0) → shift < 4 → ExtendReg m option shift s ≡ shiftedOf option shift (X m 64 s)
+pub index-is : (m : ℕ) (s : Arm) (option shift : ℕ) → option < 8 → ¬ (field 1 1 option ≡ 0) → shift < 5 → ExtendReg m option shift s ≡ shiftedOf option shift (X m 64 s)
 unfolding part
 index-is m s zero shift h n k = absurd (n refl)
 index-is m s (suc zero) shift h n k = absurd (n refl)

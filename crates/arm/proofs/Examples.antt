@@ -7,13 +7,15 @@ use lib.ListN.{getD, set, replicate}
 use Rattle.bits.specs.Fields.{part}
 use Rattle.instruction.specs.Answers.{answerNumber}
 use Rattle.instruction.specs.Undefined.{undefinedSize, undefinedPrefetch, undefinedOption, undefinedPair, undefinedSecond, undefinedUnused}
-use Rattle.instruction.specs.Unpredictable.{baseIs, unpredictablePair, unpredictableStatus}
+use Rattle.instruction.specs.Unpredictable.{baseIs, overBase, unpredictablePair, unpredictableStatus}
 use Rattle.instruction.specs.Table.{inSet, rowOf, undefined, unpredictable}
 use Rattle.plan.specs.declared.window.Window.{Window}
 use Rattle.machine.specs.Monitor.{openMonitor}
 use Rattle.machine.specs.Machine.{Machine}
 use Rattle.machine.specs.Step.{performed}
-use Rattle.arm.specs.Pseudocode.{ExtendReg, SignExtend, ZeroExtend, Add, X, setX, base, setBase, Mem, setMem}
+use Rattle.arm.specs.Pseudocode.{ExtendReg, SignExtend, ZeroExtend, Add, X, setX, setVec, base, setBase, Mem, setMem}
+use Rattle.arm.specs.VectorImmediate.{vectorImmediate}
+use Rattle.arm.specs.VectorUnscaled.{vectorUnscaled}
 use Rattle.arm.specs.Unscaled.{unscaled}
 use Rattle.arm.specs.Immediate.{immediate}
 use Rattle.arm.specs.Indexed.{indexed}
@@ -29,10 +31,10 @@ window = record { origin = 4096; readonly = 4 }
 abbrev start : Machine
 start =
     record {
-      values = 0 ∷ 4101 ∷ replicate 30 0;
+      values = 0 ∷ 4101 ∷ replicate 62 0;
       pc = 8;
       memory = replicate 4 0 ++ (128 ∷ replicate 11 0);
-      taints = record { registers = replicate 32 0; bytes = replicate 16 0 };
+      taints = record { registers = replicate 64 0; bytes = replicate 16 0 };
       monitor = openMonitor;
     }
 
@@ -56,6 +58,23 @@ loads : map loaded (0x385ff020 ∷ 0x38dff020 ∷ 0x389ff020 ∷ []) ≡ (128 �
 unfolding armStep badStart rowOf inSet undefined undefinedSize unpredictable part unscaled SignExtend ZeroExtend Add X setX base Mem anyMarked marksOf loadMarks repeated
 loads = refl
 
+-- with V0 all ones
+abbrev full : Machine
+full = record { values = set (start .values) 32 (2 ^ 128 - 1); pc = 8; memory = start .memory; taints = start .taints; monitor = openMonitor }
+
+abbrev filled : ℕ → ℕ
+filled word = getD (performed full (armStep window word full) .machine .values) 32 0
+
+-- ldur b0, h0, s0 and d0 at 4100, and q0 at 4096: zeros above
+vectors : map filled (0x3c5ff020 ∷ 0x7c5ff020 ∷ 0xbc5ff020 ∷ 0xfc5ff020 ∷ 0x3cdfb020 ∷ []) ≡ (128 ∷ 128 ∷ 128 ∷ 128 ∷ 2 ^ 39 ∷ [])
+unfolding armStep badStart rowOf inSet undefined undefinedSize unpredictable part vectorUnscaled SignExtend ZeroExtend Add X setVec base Mem anyMarked marksOf loadMarks repeated
+vectors = refl
+
+-- ldur h0 with opc 10, which is undefined; `ldp q0, q0, [x1]`; `ldr d1, [x1], #8`, which is no collision; `ldur q0, [x1]`
+vector-answers : map answer (0x7c9ff020 ∷ 0xad400020 ∷ 0xfc408421 ∷ 0x3cc00020 ∷ []) ≡ (3 ∷ 4 ∷ 0 ∷ 7 ∷ [])
+unfolding armStep badStart rowOf inSet undefined undefinedSize undefinedPair undefinedPrefetch unpredictable overBase baseIs unpredictablePair part vectorUnscaled vectorImmediate SignExtend ZeroExtend Add X setX setVec setBase base Mem anyMarked marksOf loadMarks repeated
+vector-answers = refl
+
 -- not of the set; two undefined words; an unpredictable pair
 -- 8 bytes at 4104, which are inside, and at 4105; a byte stored at 4099, among the first r, and at 4100
 -- 8 bytes at 4101, exclusive and acquired
@@ -73,7 +92,7 @@ secret =
       values = start .values;
       pc = 8;
       memory = start .memory;
-      taints = record { registers = 0x30000000000 ∷ 0 ∷ 0x200 ∷ replicate 29 0; bytes = replicate 4 0 ++ (2 ∷ replicate 11 0) };
+      taints = record { registers = 0x30000000000 ∷ 0 ∷ 0x200 ∷ replicate 61 0; bytes = replicate 4 0 ++ (2 ∷ replicate 11 0) };
       monitor = openMonitor;
     }
 
@@ -100,14 +119,14 @@ marks-refused = refl
 
 -- `ldr x0, [sp], #16`, and a prefetch by SP: only SP itself is looked at, and only of an access
 stacks : (map (stacked 0xf84107e0) (4096 ∷ 4100 ∷ 4104 ∷ []) ≡ ((0, 4096) ∷ (6, 4100) ∷ (6, 4104) ∷ [])) × (stacked 0xf8bf6be0 4100 ≡ (0, 0))
-unfolding armStep badStart rowOf inSet undefined undefinedSize undefinedOption undefinedPrefetch unpredictable baseIs part immediate indexed SignExtend ZeroExtend Add X setX setBase base Mem anyMarked marksOf loadMarks repeated
+unfolding armStep badStart rowOf inSet undefined undefinedSize undefinedOption undefinedPrefetch unpredictable overBase baseIs part immediate indexed SignExtend ZeroExtend Add X setX setBase base Mem anyMarked marksOf loadMarks repeated
 stacks = (refl, refl)
 
 -- ---- the monitor
 
 -- X1 is 4104, and X2 7, which is neither status
 abbrev idle : Machine
-idle = record { values = 0 ∷ 4104 ∷ 7 ∷ replicate 29 0; pc = 8; memory = start .memory; taints = start .taints; monitor = openMonitor }
+idle = record { values = 0 ∷ 4104 ∷ 7 ∷ replicate 61 0; pc = 8; memory = start .memory; taints = start .taints; monitor = openMonitor }
 
 -- X2 after some words
 abbrev status : Machine → List ℕ → ℕ

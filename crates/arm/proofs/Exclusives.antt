@@ -43,7 +43,7 @@ use Rattle.arm.proofs.Families.{never, strays, aligned-at, base-registe
 -- ---- a store-exclusive
 
 module _ (w : Window) (m : Machine) (r : Ready w m) (word : ℕ) (stray : Bool) (address : ℕ)
-    (p : Placed w m StoreExclusiveRow word (based (field 9 5 word) 0 false (zeroSlot (field 20 16 word))) true false stray address) where
+    (p : Placed w m (pageOf false StoreExclusiveRow word) word (based (field 9 5 word) 0 false (zeroSlot (field 20 16 word))) true false stray address) where
   abbrev t : ℕ
   t = field 4 0 word
 
@@ -76,16 +76,16 @@ module _ (w : Window) (m : Machine) (r : Ready w m) (word : ℕ) (stray : Bool) 
 
     left-registers : (pass : Bool) → set (m .values) (zeroSlot rs) (pick pass 0 1) ≡ left k pass .registers
     left-registers pass =
-        let len : length (after k pass .registers) ≡ 32 = after-registers-length pass in
+        let len : length (after k pass .registers) ≡ 64 = after-registers-length pass in
         rw (zero-extend 1 32 (pick pass 0 1), set-x (after k pass) len rs 32 (pick pass 0 1), after-registers pass)
       where
-        after-registers-length : (pass : Bool) → length (after k pass .registers) ≡ 32
+        after-registers-length : (pass : Bool) → length (after k pass .registers) ≡ 64
         after-registers-length pass = rw (after-registers pass) (r .real .registers)
 
     left-memory : (pass : Bool) → 0 < k
-        → storedBytes (madeOf (single true true false k k t) (pick pass 0 1)) (address - w .origin) (m .values) (m .memory) ≡ left k pass .memory
+        → storedBytes (madeOf (single false true true false k k t) (pick pass 0 1)) (address - w .origin) (m .values) (m .memory) ≡ left k pass .memory
     unfolding setX X bytesOf fails
-    left-memory true l = store-memory asked (r .real .registers) k address (h .from) (h .upto) t l
+    left-memory true l = store-memory false asked (r .real .registers) k address (h .from) (h .upto) t l
     left-memory false l = refl
 
   left-monitor : (k : ℕ) (pass : Bool) → record { address = 0; size = 0 } ≡ left k pass .monitor
@@ -94,18 +94,18 @@ module _ (w : Window) (m : Machine) (r : Ready w m) (word : ℕ) (stray : Bool) 
   left-monitor k false = refl
 
   left-marks : (k : ℕ) → w .origin ≤ address → (pass : Bool)
-      → moveRule (madeOf (single true true false k k t) (pick pass 0 1)) (zeroSlot rs) (address - w .origin) (m .taints)
-      ≡ marksOf false false true true (pick pass 0 1) (pageOf StoreExclusiveRow word .extent) (w .origin) word address k (m .taints)
+      → moveRule (madeOf (single false true true false k k t) (pick pass 0 1)) (zeroSlot rs) (address - w .origin) (m .taints)
+      ≡ marksOf false false false true true (pick pass 0 1) (pageOf false StoreExclusiveRow word .extent) (w .origin) word address k (m .taints)
   unfolding fails
-  left-marks k h true = status-marks false (w .origin) word address (m .taints) (r .real .marks) h k k _ false
-  left-marks k h false = status-marks false (w .origin) word address (m .taints) (r .real .marks) h k k _ true
+  left-marks k h true = status-marks false false (w .origin) word address (m .taints) (r .real .marks) h k k _ false
+  left-marks k h false = status-marks false false (w .origin) word address (m .taints) (r .real .marks) h k k _ true
 
   -- with what the monitor says
-  made : (k : ℕ) → 0 < k → k ≤ 16 → wordAccess word ≡ Moves (single true true false k k t) (based (field 9 5 word) 0 false (zeroSlot rs)) → (pass : Bool)
-      → ExclusiveMonitorsPass address k (armOf w m) ≡ pass → Steps w m StoreExclusiveRow word (faulty m stray (access true address k (pick pass 0 1) (left k pass)))
+  made : (k : ℕ) → 0 < k → k ≤ 32 → wordAccess word ≡ Moves (single false true true false k k t) (based (field 9 5 word) 0 false (zeroSlot rs)) → (pass : Bool)
+      → ExclusiveMonitorsPass address k (armOf w m) ≡ pass → Steps w m (pageOf false StoreExclusiveRow word) word (faulty m stray (access true address k (pick pass 0 1) (left k pass)))
   unfolding based statusOf writtenBack monitorAfter
   made k l q e pass f =
-      access-step w m (r .top) StoreExclusiveRow word (single true true false k k t) _ stray address k (pick pass 0 1) (left k pass)
+      access-step w m (r .top) (pageOf false StoreExclusiveRow word) word (single false true true false k k t) _ stray address k (pick pass 0 1) (left k pass)
       (record {
         access = e;
         total = add-zero k;
@@ -123,14 +123,14 @@ module _ (w : Window) (m : Machine) (r : Ready w m) (word : ℕ) (stray : Bool) 
       true refl
 
   -- and as the page says it, with either status
-  by : (k : ℕ) → 0 < k → k ≤ 16 → wordAccess word ≡ Moves (single true true false k k t) (based (field 9 5 word) 0 false (zeroSlot rs)) → (pass : Bool)
-      → ExclusiveMonitorsPass address k (armOf w m) ≡ pass → Steps w m StoreExclusiveRow word (faulty m stray (storesExclusive address k (pick pass 0 1) (left k pass)))
+  by : (k : ℕ) → 0 < k → k ≤ 32 → wordAccess word ≡ Moves (single false true true false k k t) (based (field 9 5 word) 0 false (zeroSlot rs)) → (pass : Bool)
+      → ExclusiveMonitorsPass address k (armOf w m) ≡ pass → Steps w m (pageOf false StoreExclusiveRow word) word (faulty m stray (storesExclusive address k (pick pass 0 1) (left k pass)))
   by k l q e true f = made k l q e true f
   by k l q e false f = made k l q e false f
 
-  pub status-store : (k : ℕ) → 0 < k → k ≤ 16 → wordAccess word ≡ Moves (single true true false k k t) (based (field 9 5 word) 0 false (zeroSlot rs))
+  pub status-store : (k : ℕ) → 0 < k → k ≤ 32 → wordAccess word ≡ Moves (single false true true false k k t) (based (field 9 5 word) 0 false (zeroSlot rs))
       → let pass = ExclusiveMonitorsPass address k (armOf w m) in
-      Steps w m StoreExclusiveRow word (faulty m stray (storesExclusive address k (pick pass 0 1) (left k pass)))
+      Steps w m (pageOf false StoreExclusiveRow word) word (faulty m stray (storesExclusive address k (pick pass 0 1) (left k pass)))
   status-store k l q e = by k l q e (ExclusiveMonitorsPass address k (armOf w m)) refl
 
 -- ---- the base alone, and all sizes
@@ -147,19 +147,19 @@ module _ (w : Window) (m : Machine) (r : Ready w m) (word : ℕ) where
 
   alone-is : Add (base n s) 0 ≡ base n s
   alone-is =
-      let b = r .real .values n in
-      add-small (base n s) 0 (rw (base-register w m r LoadExclusiveRow word) (omega arith)) ∙ add-zero (base n s)
+      let b = r .real .values n .0 (part-lt 5 5 word) in
+      add-small (base n s) 0 (rw (base-register w m r (pageOf false LoadExclusiveRow word) word) (omega arith)) ∙ add-zero (base n s)
 
   -- an exclusive access has an address that is a multiple of its bytes
-  naturally : (k address : ℕ) → (misaligned false k address || unaligned true k address) ≡ misplaced (pageOf LoadExclusiveRow word .alignment) address k
+  naturally : (k address : ℕ) → (misaligned false k address || unaligned true k address) ≡ misplaced (pageOf false LoadExclusiveRow word .alignment) address k
   unfolding misaligned unaligned
   naturally k address = aligned-at address k
 
-  load-form : Form w m LoadExclusiveRow word (based n 0 false 32) true false false (strays m n) (base n s) 0
+  load-form : Form w m (pageOf false LoadExclusiveRow word) word (based n 0 false 64) true false false (strays m n) (base n s) 0
   unfolding based
   load-form =
       record {
-        placed = rw alone-is at (based-placed w m r LoadExclusiveRow word 0 false 32 true false refl (λ k x p q. naturally k x));
+        placed = rw alone-is at (based-placed w m r (pageOf false LoadExclusiveRow word) word 0 false 64 true false refl (λ k x p q. naturally k x));
         sum = refl;
         written = refl;
         back = refl;
@@ -167,13 +167,13 @@ module _ (w : Window) (m : Machine) (r : Ready w m) (word : ℕ) where
         apart = λ h. absurd (never h);
       }
 
-  store-placed : Placed w m StoreExclusiveRow word (based n 0 false (zeroSlot (field 20 16 word))) true false (strays m n) (base n s)
-  store-placed = rw alone-is at (based-placed w m r StoreExclusiveRow word 0 false (zeroSlot (field 20 16 word)) true false refl (λ k x p q. naturally k x))
+  store-placed : Placed w m (pageOf false StoreExclusiveRow word) word (based n 0 false (zeroSlot (field 20 16 word))) true false (strays m n) (base n s)
+  store-placed = rw alone-is at (based-placed w m r (pageOf false StoreExclusiveRow word) word 0 false (zeroSlot (field 20 16 word)) true false refl (λ k x p q. naturally k x))
 
-  other-form : Form w m AcquireReleaseRow word (based n 0 false 32) false true false (strays m n) (base n s) (base n s)
+  other-form : Form w m (pageOf false AcquireReleaseRow word) word (based n 0 false 64) false true false (strays m n) (base n s) (base n s)
   unfolding misaligned unaligned
   other-form =
-      rw alone-is at (based-form w m r AcquireReleaseRow word 0 false false true refl refl refl (λ h. absurd (never h)) (λ k x p q. rw or-false (same-block x k p q)))
+      rw alone-is at (based-form w m r (pageOf false AcquireReleaseRow word) word 0 false false true refl refl refl (λ h. absurd (never h)) (λ k x p q. rw or-false (same-block x k p q)))
 
   -- ---- load-exclusive
 
@@ -186,7 +186,7 @@ module _ (w : Window) (m : Machine) (r : Ready w m) (word : ℕ) where
 
   abbrev Loads : ℕ → Type 0
   Loads size =
-      2 ^ field 31 30 word ≡ 2 ^ size → wordAccess word ≡ Moves (monitoredTransfer false true (sizeAt size) (field 4 0 word)) (based n 0 false 32) → Steps w m LoadExclusiveRow word (loadPage size)
+      2 ^ field 31 30 word ≡ 2 ^ size → wordAccess word ≡ Moves (monitoredTransfer false true (sizeAt size) (field 4 0 word)) (based n 0 false 64) → Steps w m (pageOf false LoadExclusiveRow word) word (loadPage size)
 
   all-loads : (size : ℕ) → size < 4 → Loads size
   unfolding monitoredTransfer sizeAt
@@ -194,14 +194,14 @@ module _ (w : Window) (m : Machine) (r : Ready w m) (word : ℕ) where
       four Loads (λ x e. load 1 32 (omega arith) (omega arith) x e) (λ x e. load 2 32 (omega arith) (omega arith) x e)
       (λ x e. load 4 32 (omega arith) (omega arith) x e) (λ x e. load 8 64 (omega arith) (omega arith) x e)
     where
-      load : (k width : ℕ) → 0 < k → k ≤ 16 → 2 ^ field 31 30 word ≡ k → wordAccess word ≡ Moves (single true false false k k (field 4 0 word)) (based n 0 false 32)
-          → Steps w m LoadExclusiveRow word (CheckSPAlignment n s (loads (base n s) k (setX (field 4 0 word) width (ZeroExtend (8 * k) width (Mem (base n s) k (SetExclusiveMonitors (base n s) k s))) (SetExclusiveMonitors (base n s) k s))))
-      load k width p q x e = one-load w m r LoadExclusiveRow word _ true false false _ _ _ load-form refl k k width (Extend false (8 * k) width) p q (zeros k width) x e
+      load : (k width : ℕ) → 0 < k → k ≤ 32 → 2 ^ field 31 30 word ≡ k → wordAccess word ≡ Moves (single false true false false k k (field 4 0 word)) (based n 0 false 64)
+          → Steps w m (pageOf false LoadExclusiveRow word) word (CheckSPAlignment n s (loads (base n s) k (setX (field 4 0 word) width (ZeroExtend (8 * k) width (Mem (base n s) k (SetExclusiveMonitors (base n s) k s))) (SetExclusiveMonitors (base n s) k s))))
+      load k width p q x e = one-load w m r (pageOf false LoadExclusiveRow word) word _ true false false _ _ _ load-form refl k k width (Extend false (8 * k) width) p q (zeros k width) x e
 
   pub load-exclusive-step : Has word (columnsOf LoadExclusiveRow .fixed) → wordAccess word ≡ familyAccess (columnsOf LoadExclusiveRow .family word)
-      → Steps w m LoadExclusiveRow word (loadExclusive word (armOf w m))
+      → Steps w m (pageOf false LoadExclusiveRow word) word (loadExclusive word (armOf w m))
   unfolding loadExclusive exclusiveIn exclusiveAccess
-  load-exclusive-step h e = all-loads (field 31 30 word) size-lt refl (e ∙ ap (λ (t : Transfer). Moves t (based n 0 false 32)) (load-exclusive-transfer word h))
+  load-exclusive-step h e = all-loads (field 31 30 word) size-lt refl (e ∙ ap (λ (t : Transfer). Moves t (based n 0 false 64)) (load-exclusive-transfer word h))
 
   -- ---- store-exclusive
 
@@ -217,7 +217,7 @@ module _ (w : Window) (m : Machine) (r : Ready w m) (word : ℕ) where
   abbrev Stores : ℕ → Type 0
   Stores size =
       wordAccess word ≡ Moves (monitoredTransfer true true (sizeAt size) (field 4 0 word)) (based n 0 false (zeroSlot (field 20 16 word)))
-      → Steps w m StoreExclusiveRow word (storePage size)
+      → Steps w m (pageOf false StoreExclusiveRow word) word (storePage size)
 
   all-stores : (size : ℕ) → size < 4 → Stores size
   unfolding monitoredTransfer sizeAt
@@ -227,7 +227,7 @@ module _ (w : Window) (m : Machine) (r : Ready w m) (word : ℕ) where
       (λ e. store 4 (omega arith) (omega arith) e) (λ e. store 8 (omega arith) (omega arith) e)
 
   pub store-exclusive-step : wordAccess word ≡ familyAccess (columnsOf StoreExclusiveRow .family word)
-      → Steps w m StoreExclusiveRow word (storeExclusive word (armOf w m))
+      → Steps w m (pageOf false StoreExclusiveRow word) word (storeExclusive word (armOf w m))
   unfolding storeExclusive storeExclusiveIn storeExclusiveAccess
   store-exclusive-step e = all-stores (field 31 30 word) size-lt e
 
@@ -244,8 +244,8 @@ module _ (w : Window) (m : Machine) (r : Ready w m) (word : ℕ) where
 
   abbrev Others : ℕ → ℕ → Type 0
   Others L size =
-      2 ^ field 31 30 word ≡ 2 ^ size → wordAccess word ≡ Moves (exclusiveTransfer (exclusiveAt (5 + L * 2)) (sizeAt size) (field 4 0 word)) (based n 0 false 32)
-      → Steps w m AcquireReleaseRow word (otherPage L size)
+      2 ^ field 31 30 word ≡ 2 ^ size → wordAccess word ≡ Moves (exclusiveTransfer (exclusiveAt (5 + L * 2)) (sizeAt size) (field 4 0 word)) (based n 0 false 64)
+      → Steps w m (pageOf false AcquireReleaseRow word) word (otherPage L size)
 
   all-others : (L size : ℕ) → L < 2 → size < 4 → Others L size
   unfolding exclusiveTransfer exclusiveAt monitoredTransfer sizeAt
@@ -254,23 +254,23 @@ module _ (w : Window) (m : Machine) (r : Ready w m) (word : ℕ) where
       released : (size : ℕ) → size < 4 → Others 0 size
       released =
           four (Others 0)
-          (λ x e. one-store w m r AcquireReleaseRow word _ true false _ _ _ other-form refl 1 1 (omega arith) (omega arith) e)
-          (λ x e. one-store w m r AcquireReleaseRow word _ true false _ _ _ other-form refl 2 2 (omega arith) (omega arith) e)
-          (λ x e. one-store w m r AcquireReleaseRow word _ true false _ _ _ other-form refl 4 4 (omega arith) (omega arith) e)
-          (λ x e. one-store w m r AcquireReleaseRow word _ true false _ _ _ other-form refl 8 8 (omega arith) (omega arith) e)
+          (λ x e. one-store w m r (pageOf false AcquireReleaseRow word) word _ true false _ _ _ other-form refl 1 1 (omega arith) (omega arith) e)
+          (λ x e. one-store w m r (pageOf false AcquireReleaseRow word) word _ true false _ _ _ other-form refl 2 2 (omega arith) (omega arith) e)
+          (λ x e. one-store w m r (pageOf false AcquireReleaseRow word) word _ true false _ _ _ other-form refl 4 4 (omega arith) (omega arith) e)
+          (λ x e. one-store w m r (pageOf false AcquireReleaseRow word) word _ true false _ _ _ other-form refl 8 8 (omega arith) (omega arith) e)
 
       acquired : (size : ℕ) → size < 4 → Others 1 size
       acquired =
           four (Others 1)
-          (λ x e. one-load w m r AcquireReleaseRow word _ false true false _ _ _ other-form refl 1 1 32 (Extend false 8 32) (omega arith) (omega arith) (zeros 1 32) x e)
-          (λ x e. one-load w m r AcquireReleaseRow word _ false true false _ _ _ other-form refl 2 2 32 (Extend false 16 32) (omega arith) (omega arith) (zeros 2 32) x e)
-          (λ x e. one-load w m r AcquireReleaseRow word _ false true false _ _ _ other-form refl 4 4 32 (Extend false 32 32) (omega arith) (omega arith) (zeros 4 32) x e)
-          (λ x e. one-load w m r AcquireReleaseRow word _ false true false _ _ _ other-form refl 8 8 64 (Extend false 64 64) (omega arith) (omega arith) (zeros 8 64) x e)
+          (λ x e. one-load w m r (pageOf false AcquireReleaseRow word) word _ false true false _ _ _ other-form refl 1 1 32 (Extend false 8 32) (omega arith) (omega arith) (zeros 1 32) x e)
+          (λ x e. one-load w m r (pageOf false AcquireReleaseRow word) word _ false true false _ _ _ other-form refl 2 2 32 (Extend false 16 32) (omega arith) (omega arith) (zeros 2 32) x e)
+          (λ x e. one-load w m r (pageOf false AcquireReleaseRow word) word _ false true false _ _ _ other-form refl 4 4 32 (Extend false 32 32) (omega arith) (omega arith) (zeros 4 32) x e)
+          (λ x e. one-load w m r (pageOf false AcquireReleaseRow word) word _ false true false _ _ _ other-form refl 8 8 64 (Extend false 64 64) (omega arith) (omega arith) (zeros 8 64) x e)
 
   pub acquire-release-step : field 23 23 word ≡ 1 → field 15 15 word ≡ 1 → wordAccess word ≡ familyAccess (columnsOf AcquireReleaseRow .family word)
-      → Steps w m AcquireReleaseRow word (acquireRelease word (armOf w m))
+      → Steps w m (pageOf false AcquireReleaseRow word) word (acquireRelease word (armOf w m))
   unfolding acquireRelease exclusiveOpIn exclusiveIn exclusiveAccess
   acquire-release-step h k e =
       let code : exclusiveBits word ≡ 5 + field 22 22 word * 2 = omega (arith, h, k) in
       all-others (field 22 22 word) (field 31 30 word) (part-lt 22 1 word) size-lt refl
-      (e ∙ ap (λ (c : ℕ). Moves (exclusiveTransfer (exclusiveAt c) (sizeAt (field 31 30 word)) (field 4 0 word)) (based n 0 false 32)) code)
+      (e ∙ ap (λ (c : ℕ). Moves (exclusiveTransfer (exclusiveAt c) (sizeAt (field 31 30 word)) (field 4 0 word)) (based n 0 false 64)) code)

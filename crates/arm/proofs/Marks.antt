@@ -19,8 +19,8 @@ use Rattle.memory.specs.Sources.{Source, cleared, sign, bytesFrom, signFrom, so
 use Rattle.access.specs.declared.transfer.Transfer.{Transfer}
 use Rattle.plan.specs.Operands.{usedOf}
 use Rattle.machine.specs.Rule.{Taints, moveRule}
-use Rattle.arm.specs.Marks.{marks, anyMarked, copied, marksAt, setMarks, usedBytes, repeated, loadMarks, storeMarks, marksOf}
-use Rattle.arm.proofs.Places.{next}
+use Rattle.arm.specs.Marks.{marks, anyMarked, copied, marksAt, setMarks, movedMarks, setMoved, usedBytes, repeated, loadMarks, storeMarks, marksOf}
+use Rattle.arm.proofs.Places.{slot, next}
 
 -- ---- a mark
 
@@ -32,26 +32,34 @@ copied-is : (x : ℕ) → normal x ≡ copied x
 copied-is zero = refl
 copied-is (suc x) = rw (eqb·suc-zero x)
 
--- ---- registers: a slot of 32 is none
+-- ---- registers: a slot of 64 is none
 
-module _ (u : List ℕ) (len : length u ≡ 32) where
+module _ (u : List ℕ) (len : length u ≡ 64) where
   pub set-marks : (n x : ℕ) → set u (zeroSlot n) x ≡ setMarks n x u
   set-marks n x = go (eqb n 31)
     where
-      go : (t : Bool) → set u (pick t 32 n) x ≡ pick t u (set u n x)
-      go true = set-out u 32 x (omega arith)
+      go : (t : Bool) → set u (pick t 64 n) x ≡ pick t u (set u n x)
+      go true = set-out u 64 x (omega arith)
       go false = refl
 
   pub marks-at : (n : ℕ) → getD u (zeroSlot n) 0 ≡ marksAt n u
   marks-at n = go (eqb n 31)
     where
-      go : (t : Bool) → getD u (pick t 32 n) 0 ≡ pick t 0 (getD u n 0)
-      go true = rw (List·getD-eq-default u 0 {n = 32} (omega arith))
+      go : (t : Bool) → getD u (pick t 64 n) 0 ≡ pick t 0 (getD u n 0)
+      go true = rw (List·getD-eq-default u 0 {n = 64} (omega arith))
       go false = refl
 
-  base-mark : (wback : Bool) (n : ℕ) → set u (pick wback n 32) 0 ≡ pick wback (set u n 0) u
+  pub set-moved : (vector : Bool) (n x : ℕ) → set u (slot vector n) x ≡ setMoved vector n x u
+  set-moved true n x = refl
+  set-moved false n x = set-marks n x
+
+  moved-at : (vector : Bool) (n : ℕ) → getD u (slot vector n) 0 ≡ movedMarks vector n u
+  moved-at true n = refl
+  moved-at false n = marks-at n
+
+  base-mark : (wback : Bool) (n : ℕ) → set u (pick wback n 64) 0 ≡ pick wback (set u n 0) u
   base-mark true n = refl
-  base-mark false n = set-out u 32 0 (omega arith)
+  base-mark false n = set-out u 64 0 (omega arith)
 
 -- ---- the low bytes of a register
 
@@ -127,13 +135,13 @@ store-is origin address (suc n) x k h =
 -- ---- the rule
 
 -- the transfers of one register and of two
-abbrev pub single : Bool → Bool → Bool → ℕ → ℕ → ℕ → Transfer
-single exclusive store ordered k extent t =
-    record { store = store; ordered = ordered; bytes = k; more = 0; extent = extent; target = zeroSlot t; second = 32; exclusive = exclusive }
+abbrev pub single : Bool → Bool → Bool → Bool → ℕ → ℕ → ℕ → Transfer
+single vector exclusive store ordered k extent t =
+    record { store = store; ordered = ordered; bytes = k; more = 0; extent = extent; target = slot vector t; second = 64; exclusive = exclusive }
 
-abbrev pub double : Bool → ℕ → ℕ → ℕ → ℕ → Transfer
-double store k extent t t2 =
-    record { store = store; ordered = false; bytes = k; more = k; extent = extent; target = zeroSlot t; second = zeroSlot t2; exclusive = false }
+abbrev pub double : Bool → Bool → ℕ → ℕ → ℕ → ℕ → Transfer
+double vector store k extent t t2 =
+    record { store = store; ordered = false; bytes = k; more = k; extent = extent; target = slot vector t; second = slot vector t2; exclusive = false }
 
 abbrev taints : List ℕ → List ℕ → Taints
 taints r b = record { registers = r; bytes = b }
@@ -141,7 +149,7 @@ taints r b = record { registers = r; bytes = b }
 same : {a b c d : List ℕ} → a ≡ b → c ≡ d → taints a c ≡ taints b d
 same e f = rw (e, f)
 
-module _ (wback : Bool) (origin word address : ℕ) (p : Taints) (len : length (p .registers) ≡ 32) (h : origin ≤ address) where
+module _ (vector wback : Bool) (origin word address : ℕ) (p : Taints) (len : length (p .registers) ≡ 64) (h : origin ≤ address) where
   abbrev t : ℕ
   t = field 4 0 word
 
@@ -151,37 +159,37 @@ module _ (wback : Bool) (origin word address : ℕ) (p : Taints) (len : length (
   abbrev based : List ℕ
   based = pick wback (set (p .registers) (field 9 5 word) 0) (p .registers)
 
-  based-is : set (p .registers) (pick wback (field 9 5 word) 32) 0 ≡ based
+  based-is : set (p .registers) (pick wback (field 9 5 word) 64) 0 ≡ based
   based-is = base-mark (p .registers) len wback (field 9 5 word)
 
-  based-length : length based ≡ 32
+  based-length : length based ≡ 64
   based-length = rw (← based-is) (simp length-set len)
 
   -- the bytes of one register
   stored : (n k a : ℕ) (bytes : List ℕ) → origin ≤ a
-      → sets bytes (a - origin) (map normal (bytesOf k (getD (p .registers) (zeroSlot n) 0))) ≡ storeMarks origin a k (marksAt n (p .registers)) bytes
-  stored n k a bytes l = rw (marks-at (p .registers) len n) (store-is origin a k (marksAt n (p .registers)) bytes l)
+      → sets bytes (a - origin) (map normal (bytesOf k (getD (p .registers) (slot vector n) 0))) ≡ storeMarks origin a k (movedMarks vector n (p .registers)) bytes
+  stored n k a bytes l = rw (moved-at (p .registers) len vector n) (store-is origin a k (movedMarks vector n (p .registers)) bytes l)
 
-  pub one-marks : (exclusive store ordered : Bool) (k extent filled written : ℕ) → (store ≡ false → filled ≡ extent) → written ≡ pick wback (field 9 5 word) 32
-      → moveRule (single exclusive store ordered k extent t) written (address - origin) p ≡ marksOf false wback false store 0 filled origin word address k p
+  pub one-marks : (exclusive store ordered : Bool) (k extent filled written : ℕ) → (store ≡ false → filled ≡ extent) → written ≡ pick wback (field 9 5 word) 64
+      → moveRule (single vector exclusive store ordered k extent t) written (address - origin) p ≡ marksOf vector false wback false store 0 filled origin word address k p
   unfolding moveRule marksOf bytesOf
   one-marks exclusive true ordered k extent filled written f e = rw e (same based-is (stored t k address (p .bytes) h))
   one-marks exclusive false ordered k extent filled written f e =
       let x : ℕ = loadedTaint (address - origin) k extent (p .bytes) in
-      let l : length (set based (zeroSlot t) x) ≤ 32 = simp length-set (omega (arith, based-length)) in
-      rw (f refl, e, based-is, set-out (set based (zeroSlot t) x) 32 _ l)
-      (same (ap (λ (y : ℕ). set based (zeroSlot t) y) (load-is origin address k extent (p .bytes) h) ∙ set-marks based based-length t (loadMarks origin address k (extent - k) 0 (p .bytes))) refl)
+      let l : length (set based (slot vector t) x) ≤ 64 = simp length-set (omega (arith, based-length)) in
+      rw (f refl, e, based-is, set-out (set based (slot vector t) x) 64 _ l)
+      (same (ap (λ (y : ℕ). set based (slot vector t) y) (load-is origin address k extent (p .bytes) h) ∙ set-moved based based-length vector t (loadMarks origin address k (extent - k) 0 (p .bytes))) refl)
 
   -- a store-exclusive, by its status: the bytes that are made are all or none
   pub status-marks : (k extent filled : ℕ) (failed : Bool)
-      → moveRule (single true true false (pick failed 0 k) extent t) (zeroSlot (field 20 16 word)) (address - origin) p
-      ≡ marksOf false false true true (pick failed 1 0) filled origin word address k p
+      → moveRule (single vector true true false (pick failed 0 k) extent t) (zeroSlot (field 20 16 word)) (address - origin) p
+      ≡ marksOf vector false false true true (pick failed 1 0) filled origin word address k p
   unfolding moveRule marksOf bytesOf
   status-marks k extent filled true = same (set-marks (p .registers) len (field 20 16 word) 0) refl
   status-marks k extent filled false = same (set-marks (p .registers) len (field 20 16 word) 0) (stored t k address (p .bytes) h)
 
-  pub two-marks : (store : Bool) (k extent filled written : ℕ) → (store ≡ false → filled ≡ extent) → written ≡ pick wback (field 9 5 word) 32
-      → moveRule (double store k extent t t2) written (address - origin) p ≡ marksOf true wback false store 0 filled origin word address (2 * k) p
+  pub two-marks : (store : Bool) (k extent filled written : ℕ) → (store ≡ false → filled ≡ extent) → written ≡ pick wback (field 9 5 word) 64
+      → moveRule (double vector store k extent t t2) written (address - origin) p ≡ marksOf vector true wback false store 0 filled origin word address (2 * k) p
   unfolding moveRule marksOf
   two-marks true k extent filled written f e =
       let half : 2 * k / 2 ≡ k = omega arith in
@@ -192,7 +200,7 @@ module _ (wback : Bool) (origin word address : ℕ) (p : Taints) (len : length (
       let far : address - origin + k ≡ address + k - origin = omega arith in
       let x : ℕ = loadMarks origin address k (extent - k) 0 (p .bytes) in
       let y : ℕ = loadMarks origin (address + k) k (extent - k) 0 (p .bytes) in
-      let one : set based (zeroSlot t) x ≡ setMarks t x based = set-marks based based-length t x in
-      let l : length (setMarks t x based) ≡ 32 = rw (← one) (simp length-set based-length) in
+      let one : set based (slot vector t) x ≡ setMoved vector t x based = set-moved based based-length vector t x in
+      let l : length (setMoved vector t x based) ≡ 64 = rw (← one) (simp length-set based-length) in
       rw (f refl, e, half, based-is, far, load-is origin address k extent (p .bytes) h, load-is origin (address + k) k extent (p .bytes) (omega arith))
-      (same (ap (λ (v : List ℕ). set v (zeroSlot t2) y) one ∙ set-marks (setMarks t x based) l t2 y) refl)
+      (same (ap (λ (v : List ℕ). set v (slot vector t2) y) one ∙ set-moved (setMoved vector t x based) l vector t2 y) refl)

@@ -21,29 +21,31 @@ use Rattle.bits.specs.Extension.{extendedOf}
 use Rattle.instruction.specs.declared.row.Row.the-variants.{PairRow}
 use Rattle.instruction.specs.Operations.{pairAt, modeAt, pairBytes}
 use Rattle.instruction.specs.Undefined.{undefinedPair}
-use Rattle.instruction.specs.Unpredictable.{baseIs, unpredictablePair}
+use Rattle.instruction.specs.Unpredictable.{baseIs, overBase, unpredictablePair}
 use Rattle.instruction.specs.Operands.{pairOpIn, pairIn}
 use Rattle.instruction.specs.Table.{columnsOf}
+use Rattle.access.specs.declared.transfer.Transfer.{Transfer}
 use Rattle.access.specs.declared.addressing.Addressing.{Addressing}
 use Rattle.access.specs.declared.Access.{Access}
 use Rattle.access.specs.declared.Access.the-variants.{Moves}
-use Rattle.access.specs.Transfers.{pairTransfer}
+use Rattle.access.specs.Transfers.{slotOf, pairTransfer}
 use Rattle.access.specs.Addressings.{based, pairedMode}
 use Rattle.access.specs.Accesses.{pairAccess, familyAccess, wordAccess}
 use Rattle.plan.specs.declared.window.Window.{Window}
 use Rattle.plan.specs.Admission.{misaligned, unaligned}
 use Rattle.machine.specs.Monitor.{statusOf, monitorAfter, writtenBack, fails}
 use Rattle.machine.specs.Machine.{Machine}
-use Rattle.arm.specs.Pseudocode.{Arm, LOAD, STORE, SignExtend, LSL, Add, X, setX, base, Mem, setMem, withRegisters, Operation, hint, CheckSPAlignment, loads, stores, case}
+use Rattle.arm.specs.Pseudocode.{Arm, LOAD, STORE, SignExtend, LSL, Add, X, setX, Vec, setVec, base, Mem, setMem, withRegisters, Operation, hint, CheckSPAlignment, loads, stores, case}
 use Rattle.arm.specs.Pair.{paired, pair}
+use Rattle.arm.specs.VectorPair.{vectorPaired, vectorPair}
 use Rattle.arm.specs.Choices.{armOf}
 use Rattle.arm.proofs.Bits.{add-small, offset-is, extended-is}
-use Rattle.arm.proofs.Places.{x-is, set-x, set-base, mem-is, withMemory, set-mem, mem-monitor, low-bytes}
+use Rattle.arm.proofs.Places.{slot, R, setR, r-is, set-r, r-memory, r-monitor, set-base, mem-is, withMemory, set-mem, mem-monitor, low-bytes}
 use Rattle.arm.proofs.Marks.{double, two-marks}
 use Rattle.arm.proofs.Steps.{Ready, Inside, Steps, faulty, access-step}
 use Rattle.arm.proofs.Singles.{two, four, back, back-registers, back-memory, back-monitor, Form, extended-none}
 use Rattle.arm.specs.Pages.{opcExtent, pageOf}
-use Rattle.arm.proofs.Families.{never, apart, strays, based-form}
+use Rattle.arm.proofs.Families.{never, apart, strays, based-form, behind, no-base}
 
 -- ---- two registers and two places
 
@@ -51,44 +53,44 @@ use Rattle.arm.proofs.Families.{never, apart, strays, based-form}
 second-is : {w : Window} (address k : ℕ) → 0 < k → Inside w address (2 * k) → Add address k ≡ address + k
 second-is address k p h = add-small address k (omega (arith, h .upto))
 
-module _ (s : Arm) (len : length (s .registers) ≡ 32) where
+module _ (vector : Bool) (s : Arm) (len : length (s .registers) ≡ 64) where
   -- the registers with two of them written
   abbrev written : ℕ → ℕ → ℕ → ℕ → List ℕ
-  written t t2 x y = set (set (s .registers) (zeroSlot t) x) (zeroSlot t2) y
+  written t t2 x y = set (set (s .registers) (slot vector t) x) (slot vector t2) y
 
-  two-registers : (wback : Bool) (n t t2 next width x y : ℕ) → (wback ≡ true → ¬ (n ≡ zeroSlot t)) → (wback ≡ true → ¬ (n ≡ zeroSlot t2))
-      → set (set (set (s .registers) (pick wback n 32) next) (zeroSlot t) x) (zeroSlot t2) y ≡ back wback n next (setX t2 width y (setX t width x s)) .registers
+  two-registers : (wback : Bool) (n t t2 next width x y : ℕ) → (wback ≡ true → ¬ (n ≡ slot vector t)) → (wback ≡ true → ¬ (n ≡ slot vector t2))
+      → set (set (set (s .registers) (pick wback n 64) next) (slot vector t) x) (slot vector t2) y ≡ back wback n next (setR vector t2 width y (setR vector t width x s)) .registers
   two-registers wback n t t2 next width x y h k =
-      let l : length (set (s .registers) (zeroSlot t) x) ≡ 32 = simp length-set len in
-      let o : length (written t t2 x y) ≡ 32 = simp length-set len in
-      rw (set-x s len t width x, set-x (withRegisters (set (s .registers) (zeroSlot t) x) s) l t2 width y) (go wback h k o)
+      let l : length (set (s .registers) (slot vector t) x) ≡ 64 = simp length-set len in
+      let o : length (written t t2 x y) ≡ 64 = simp length-set len in
+      rw (set-r s len vector t width x, set-r (withRegisters (set (s .registers) (slot vector t) x) s) l vector t2 width y) (go wback h k o)
     where
-      go : (wback : Bool) → (wback ≡ true → ¬ (n ≡ zeroSlot t)) → (wback ≡ true → ¬ (n ≡ zeroSlot t2)) → length (written t t2 x y) ≡ 32
-          → set (set (set (s .registers) (pick wback n 32) next) (zeroSlot t) x) (zeroSlot t2) y ≡ back wback n next (withRegisters (written t t2 x y) s) .registers
+      go : (wback : Bool) → (wback ≡ true → ¬ (n ≡ slot vector t)) → (wback ≡ true → ¬ (n ≡ slot vector t2)) → length (written t t2 x y) ≡ 64
+          → set (set (set (s .registers) (pick wback n 64) next) (slot vector t) x) (slot vector t2) y ≡ back wback n next (withRegisters (written t t2 x y) s) .registers
       go true h k o =
-          rw (set-base (withRegisters (written t t2 x y) s) o n next, set-comm (s .registers) n (zeroSlot t) next x (h refl))
-          (set-comm (set (s .registers) (zeroSlot t) x) n (zeroSlot t2) next y (k refl))
-      go false h k o = rw (set-out (s .registers) 32 next (omega (arith, len)))
+          rw (set-base (withRegisters (written t t2 x y) s) o n next, set-comm (s .registers) n (slot vector t) next x (h refl))
+          (set-comm (set (s .registers) (slot vector t) x) n (slot vector t2) next y (k refl))
+      go false h k o = rw (set-out (s .registers) 64 next (omega (arith, len)))
 
   -- the bytes of a register, and memory with those of two
   abbrev bytes : ℕ → ℕ → List ℕ
-  bytes k t = bytesOf k (getD (s .registers) (zeroSlot t) 0)
+  bytes k t = bytesOf k (getD (s .registers) (slot vector t) 0)
 
   abbrev filled : ℕ → ℕ → ℕ → ℕ → List ℕ
   filled k t t2 at = sets (sets (s .memory) at (bytes k t)) (at + k) (bytes k t2)
 
   two-places : (k t t2 address : ℕ) → 0 < k → s .origin ≤ address → address + 2 * k ≤ 2 ^ 64
-      → setMem (Add address k) k (X t2 (8 * k) s) (setMem address k (X t (8 * k) s) s) ≡ withMemory (filled k t t2 (address - s .origin)) s
+      → setMem (Add address k) k (R vector t2 (8 * k) s) (setMem address k (R vector t (8 * k) s) s) ≡ withMemory (filled k t t2 (address - s .origin)) s
   two-places k t t2 address p h u =
       let a : Add address k ≡ address + k = add-small address k (omega arith) in
       let e : address + k - s .origin ≡ address - s .origin + k = omega arith in
-      let b : List ℕ = sets (s .memory) (address - s .origin) (bytesOf k (X t (8 * k) s)) in
-      let one = set-mem s k address (X t (8 * k) s) h (omega arith) in
-      let two = set-mem (withMemory b s) k (address + k) (X t2 (8 * k) s) (omega arith) (omega arith) in
-      rw (a, one, two, e, x-is s len t (8 * k) (omega arith), x-is s len t2 (8 * k) (omega arith), low-bytes k (getD (s .registers) (zeroSlot t) 0), low-bytes k (getD (s .registers) (zeroSlot t2) 0))
+      let b : List ℕ = sets (s .memory) (address - s .origin) (bytesOf k (R vector t (8 * k) s)) in
+      let one = set-mem s k address (R vector t (8 * k) s) h (omega arith) in
+      let two = set-mem (withMemory b s) k (address + k) (R vector t2 (8 * k) s) (omega arith) (omega arith) in
+      rw (a, one, two, e, r-is s len vector t (8 * k) (omega arith), r-is s len vector t2 (8 * k) (omega arith), low-bytes k (getD (s .registers) (slot vector t) 0), low-bytes k (getD (s .registers) (slot vector t2) 0))
 
-module _ (w : Window) (m : Machine) (r : Ready w m) (word : ℕ) (a : Addressing) (wback stray : Bool) (address next : ℕ)
-    (f : Form w m PairRow word a false false wback stray address next) (other : wback ≡ true → ¬ (field 9 5 word ≡ zeroSlot (field 14 10 word))) where
+module _ (vector : Bool) (w : Window) (m : Machine) (r : Ready w m) (word : ℕ) (a : Addressing) (wback stray : Bool) (address next : ℕ)
+    (f : Form w m (pageOf vector PairRow word) word a false false wback stray address next) (other : wback ≡ true → ¬ (field 9 5 word ≡ slot vector (field 14 10 word))) where
   abbrev s : Arm
   s = armOf w m
 
@@ -102,16 +104,16 @@ module _ (w : Window) (m : Machine) (r : Ready w m) (word : ℕ) (a : Addressing
   t2 = field 14 10 word
 
   abbrev loaded : ℕ → ℕ → (ℕ → ℕ) → Arm
-  loaded k width g = back wback n next (setX t2 width (g (Mem (Add address k) k s)) (setX t width (g (Mem address k s)) s))
+  loaded k width g = back wback n next (setR vector t2 width (g (Mem (Add address k) k s)) (setR vector t width (g (Mem address k s)) s))
 
   abbrev stored : ℕ → Arm
-  stored k = back wback n next (setMem (Add address k) k (X t2 (8 * k) s) (setMem address k (X t (8 * k) s) s))
+  stored k = back wback n next (setMem (Add address k) k (R vector t2 (8 * k) s) (setMem address k (R vector t (8 * k) s) s))
 
-  two-loads : (k extent width : ℕ) (g : ℕ → ℕ) → 0 < k → k ≤ 8 → ((v : ℕ) → v < 256 ^ k → extendedOf k extent v ≡ g v)
-      → pageOf PairRow word .extent ≡ extent → wordAccess word ≡ Moves (double false k extent t t2) a → Steps w m PairRow word (faulty m stray (loads address (2 * k) (loaded k width g)))
-  unfolding setX statusOf fails writtenBack monitorAfter
+  two-loads : (k extent width : ℕ) (g : ℕ → ℕ) → 0 < k → k ≤ 16 → ((v : ℕ) → v < 256 ^ k → extendedOf k extent v ≡ g v)
+      → pageOf vector PairRow word .extent ≡ extent → wordAccess word ≡ Moves (double vector false k extent t t2) a → Steps w m (pageOf vector PairRow word) word (faulty m stray (loads address (2 * k) (loaded k width g)))
+  unfolding statusOf fails writtenBack monitorAfter
   two-loads k extent width g p q ext filled e =
-      access-step w m (r .top) PairRow word (double false k extent t t2) a stray address (2 * k) 0 (loaded k width g)
+      access-step w m (r .top) (pageOf vector PairRow word) word (double vector false k extent t t2) a stray address (2 * k) 0 (loaded k width g)
       (record {
         access = e;
         total = omega arith;
@@ -133,21 +135,21 @@ module _ (w : Window) (m : Machine) (r : Ready w m) (word : ℕ) (a : Addressing
             let x = ext _ (span-fits (m .memory) (r .real .bytes) at k) ∙ ap g (sym one) in
             let y = ext _ (span-fits (m .memory) (r .real .bytes) (at + k) k) ∙ ap g (sym two) in
             rw (f .sum, f .written, x, y)
-            (two-registers s (r .real .registers) wback n t t2 next width (g (Mem address k s)) (g (Mem (Add address k) k s)) (f .apart) other);
-        marks = λ h. rw (f .back, f .status) (two-marks wback (w .origin) word address (m .taints) (r .real .marks) (h .from) false k extent (pageOf PairRow word .extent) (a .written) (λ z. filled) (f .written));
-        memory = λ h. sym (back-memory wback n next (setX t2 width (g (Mem (Add address k) k s)) (setX t width (g (Mem address k s)) s)));
-        monitor = sym (back-monitor wback n next (setX t2 width (g (Mem (Add address k) k s)) (setX t width (g (Mem address k s)) s)));
+            (two-registers vector s (r .real .registers) wback n t t2 next width (g (Mem address k s)) (g (Mem (Add address k) k s)) (f .apart) other);
+        marks = λ h. rw (f .back, f .status) (two-marks vector wback (w .origin) word address (m .taints) (r .real .marks) (h .from) false k extent (pageOf vector PairRow word .extent) (a .written) (λ z. filled) (f .written));
+        memory = λ h. sym (back-memory wback n next _ ∙ r-memory vector t2 width _ _ ∙ r-memory vector t width _ s);
+        monitor = sym (back-monitor wback n next _ ∙ r-monitor vector t2 width _ _ ∙ r-monitor vector t width _ s);
       })
       false refl
 
-  two-stores : (k extent : ℕ) → 0 < k → k ≤ 8 → wordAccess word ≡ Moves (double true k extent t t2) a → Steps w m PairRow word (faulty m stray (stores address (2 * k) (stored k)))
+  two-stores : (k extent : ℕ) → 0 < k → k ≤ 16 → wordAccess word ≡ Moves (double vector true k extent t t2) a → Steps w m (pageOf vector PairRow word) word (faulty m stray (stores address (2 * k) (stored k)))
   unfolding statusOf fails writtenBack monitorAfter
   two-stores k extent p q e =
       let len = r .real .registers in
-      let after : Arm = withMemory (filled s len k t t2 (address - w .origin)) s in
-      let places : Inside w address (2 * k) → setMem (Add address k) k (X t2 (8 * k) s) (setMem address k (X t (8 * k) s) s) ≡ after =
-      λ h. two-places s len k t t2 address p (h .from) (h .upto) in
-      access-step w m (r .top) PairRow word (double true k extent t t2) a stray address (2 * k) 0 (stored k)
+      let after : Arm = withMemory (filled vector s len k t t2 (address - w .origin)) s in
+      let places : Inside w address (2 * k) → setMem (Add address k) k (R vector t2 (8 * k) s) (setMem address k (R vector t (8 * k) s) s) ≡ after =
+      λ h. two-places vector s len k t t2 address p (h .from) (h .upto) in
+      access-step w m (r .top) (pageOf vector PairRow word) word (double vector true k extent t t2) a stray address (2 * k) 0 (stored k)
       (record {
         access = e;
         total = omega arith;
@@ -158,7 +160,7 @@ module _ (w : Window) (m : Machine) (r : Ready w m) (word : ℕ) (a : Addressing
         block = f .placed .block (2 * k) (omega arith) (omega arith);
         told = refl;
         registers = λ h. rw (f .sum, f .written, places h) (sym (back-registers after len wback n next));
-        marks = λ h. rw (f .back, f .status) (two-marks wback (w .origin) word address (m .taints) (r .real .marks) (h .from) true k extent (pageOf PairRow word .extent) (a .written) (λ z. absurd (never (sym z))) (f .written));
+        marks = λ h. rw (f .back, f .status) (two-marks vector wback (w .origin) word address (m .taints) (r .real .marks) (h .from) true k extent (pageOf vector PairRow word .extent) (a .written) (λ z. absurd (never (sym z))) (f .written));
         memory = λ h. sym (back-memory wback n next _ ∙ ap (λ (x : Arm). x .memory) (places h));
         monitor = sym (back-monitor wback n next _ ∙ mem-monitor k (Add address k) _ _ ∙ mem-monitor k address _ s);
       })
@@ -190,62 +192,150 @@ module _ (w : Window) (m : Machine) (word : ℕ) (wback postindex : Bool) where
       (setX t2 datasize (Mem second dbytes s) (setX t datasize (Mem address dbytes s) s))))))
       hint
 
-  abbrev accessBy : ℕ → ℕ → ℕ → Access
-  accessBy opc L offset =
+  abbrev accessBy : ℕ → ℕ → ℕ → ℕ → Access
+  accessBy v opc L offset =
       let n = field 9 5 word in
-      Moves (pairTransfer (pairAt (opc * 2 + L)) (field 4 0 word) (field 14 10 word)) (based n offset postindex (pick wback n 32))
+      Moves (pairTransfer (pairAt (v * 8 + opc * 2 + L)) (field 4 0 word) (field 14 10 word)) (based n offset postindex (pick wback n 64))
 
   abbrev Paged : ℕ → ℕ → Type 0
   Paged opc L =
-      pageOf PairRow word .extent ≡ opcExtent opc → wordAccess word ≡ accessBy opc L (twosComplement (signedOf 64 (pairBytes (pairAt (opc * 2 + L))) (field 21 15 word)))
-      → Steps w m PairRow word (page opc L)
+      pageOf false PairRow word .extent ≡ opcExtent false opc → wordAccess word ≡ accessBy 0 opc L (twosComplement (signedOf 64 (pairBytes (pairAt (0 * 8 + opc * 2 + L))) (field 21 15 word)))
+      → Steps w m (pageOf false PairRow word) word (page opc L)
+
+  -- of vector registers
+  abbrev vectorPage : ℕ → ℕ → Operation
+  vectorPage opc L =
+      let s = armOf w m in
+      let t2 = field 14 10 word in
+      let n = field 9 5 word in
+      let t = field 4 0 word in
+      let scale = 2 + opc in
+      let datasize = 8 * 2 ^ scale in
+      let offset = LSL (SignExtend 7 64 (field 21 15 word)) scale in
+      let dbytes = datasize / 8 in
+      let address = pick postindex (base n s) (Add (base n s) offset) in
+      let next = Add (base n s) offset in
+      let second = Add address dbytes in
+      case (pick (eqb L 1) LOAD STORE)
+      (CheckSPAlignment n s (stores address (2 * dbytes) (back wback n next (setMem second dbytes (Vec t2 datasize s) (setMem address dbytes (Vec t datasize s) s)))))
+      (CheckSPAlignment n s (loads address (2 * dbytes) (back wback n next (setVec t2 datasize (Mem second dbytes s) (setVec t datasize (Mem address dbytes s) s)))))
+      hint
+
+  abbrev VectorPaged : ℕ → ℕ → Type 0
+  VectorPaged opc L =
+      pageOf true PairRow word .extent ≡ opcExtent true opc → wordAccess word ≡ accessBy 1 opc L (twosComplement (signedOf 64 (pairBytes (pairAt (1 * 8 + opc * 2 + L))) (field 21 15 word)))
+      → Steps w m (pageOf true PairRow word) word (vectorPage opc L)
 
 module _ (w : Window) (m : Machine) (r : Ready w m) (word : ℕ) where
   -- imm7 by its scale
   abbrev scaled : ℕ → ℕ
   scaled scale = LSL (SignExtend 7 64 (field 21 15 word)) scale
 
-  scaled-is : (scale : ℕ) → scale < 4 → twosComplement (signedOf 64 (2 ^ scale) (field 21 15 word)) ≡ scaled scale
+  scaled-is : (scale : ℕ) → scale < 5 → twosComplement (signedOf 64 (2 ^ scale) (field 21 15 word)) ≡ scaled scale
   scaled-is scale h = sym (offset-is 6 scale (field 21 15 word) (omega arith) (part-lt 15 7 word))
+
+  module _ (wback postindex : Bool) (writing : eqb (field 23 23 word) 1 ≡ wback) where
+    form : (vector : Bool) (offset : ℕ) → (wback ≡ true → ¬ (field 9 5 word ≡ slot vector (field 4 0 word)))
+        → let n = field 9 5 word in
+        let next = Add (base n (armOf w m)) offset in
+        Form w m (pageOf vector PairRow word) word (based n offset postindex (pick wback n 64)) false false wback (strays m n) (pick postindex (base n (armOf w m)) next) next
+    unfolding misaligned unaligned
+    form vector offset one = based-form w m r (pageOf vector PairRow word) word offset postindex wback false writing refl refl one (λ k x p q. refl)
+
+    -- ---- of vector registers
+
+    abbrev rt : ℕ
+    rt = field 4 0 word
+
+    abbrev rt2 : ℕ
+    rt2 = field 14 10 word
+
+    abbrev aimed : Bool → ℕ → ℕ → ℕ → Transfer
+    aimed store k target second = record { store = store; ordered = false; bytes = k; more = k; extent = k; target = target; second = second; exclusive = false }
+
+    abbrev moves : Bool → ℕ → ℕ → ℕ → ℕ → Access
+    moves store k target second offset = Moves (aimed store k target second) (based (field 9 5 word) offset postindex (pick wback (field 9 5 word) 64))
+
+    behind-t : 32 + rt % 32 ≡ slot true rt
+    behind-t = behind w m r word rt (part-lt 0 5 word)
+
+    behind-t2 : 32 + rt2 % 32 ≡ slot true rt2
+    behind-t2 = behind w m r word rt2 (part-lt 10 5 word)
+
+    abbrev next : ℕ → ℕ
+    next scale = Add (base (field 9 5 word) (armOf w m)) (scaled scale)
+
+    abbrev address : ℕ → ℕ
+    address scale = pick postindex (base (field 9 5 word) (armOf w m)) (next scale)
+
+    vector-form : (scale : ℕ)
+        → let n = field 9 5 word in
+        Form w m (pageOf true PairRow word) word (based n (scaled scale) postindex (pick wback n 64)) false false wback (strays m n) (address scale) (next scale)
+    vector-form scale = form true (scaled scale) (λ h. no-base w m r word rt)
+
+    -- the slots and the offset of the access are the page's
+    aims : (store : Bool) (k scale : ℕ) → 2 ^ scale ≡ k → scale < 5
+        → wordAccess word ≡ moves store k (32 + rt % 32) (32 + rt2 % 32) (twosComplement (signedOf 64 k (field 21 15 word)))
+        → wordAccess word ≡ moves store k (slot true rt) (slot true rt2) (scaled scale)
+    aims store k scale x l e =
+        e ∙ ap (λ (i : ℕ). moves store k i (32 + rt2 % 32) (twosComplement (signedOf 64 k (field 21 15 word)))) behind-t
+        ∙ ap (λ (i : ℕ). moves store k (slot true rt) i (twosComplement (signedOf 64 k (field 21 15 word)))) behind-t2
+        ∙ ap (λ (i : ℕ). moves store k (slot true rt) (slot true rt2) (twosComplement (signedOf 64 i (field 21 15 word)))) (sym x)
+        ∙ ap (moves store k (slot true rt) (slot true rt2)) (scaled-is scale l)
+
+    put : (k scale : ℕ) → 2 ^ scale ≡ k → scale < 5 → 0 < k → k ≤ 16
+        → wordAccess word ≡ moves true k (32 + rt % 32) (32 + rt2 % 32) (twosComplement (signedOf 64 k (field 21 15 word)))
+        → Steps w m (pageOf true PairRow word) word (faulty m (strays m (field 9 5 word)) (stores (address scale) (2 * k) (stored true w m r word _ wback _ (address scale) (next scale) (vector-form scale) (λ h. no-base w m r word rt2) k)))
+    put k scale x l p q e =
+        two-stores true w m r word _ wback _ _ _ (vector-form scale) (λ h. no-base w m r word rt2) k k p q (aims true k scale x l e)
+
+    take : (k scale : ℕ) → 2 ^ scale ≡ k → scale < 5 → 0 < k → k ≤ 16 → pageOf true PairRow word .extent ≡ k
+        → wordAccess word ≡ moves false k (32 + rt % 32) (32 + rt2 % 32) (twosComplement (signedOf 64 k (field 21 15 word)))
+        → Steps w m (pageOf true PairRow word) word (faulty m (strays m (field 9 5 word)) (loads (address scale) (2 * k) (loaded true w m r word _ wback _ (address scale) (next scale) (vector-form scale) (λ h. no-base w m r word rt2) k (8 * k) (λ v. v))))
+    take k scale x l p q filled e =
+        two-loads true w m r word _ wback _ _ _ (vector-form scale) (λ h. no-base w m r word rt2) k k (8 * k) (λ v. v) p q (λ v h. extended-none k v) filled (aims false k scale x l e)
+
+    all-vectors : (opc L : ℕ) → opc < 4 → L < 2 → ¬ (opc ≡ 0b11) → VectorPaged w m word wback postindex opc L
+    unfolding pairAt pairTransfer slotOf
+    all-vectors opc L h k =
+        four (λ opc. ¬ (opc ≡ 0b11) → VectorPaged w m word wback postindex opc L)
+        (λ p. two (VectorPaged w m word wback postindex 0) (λ x e. put 4 2 refl (omega arith) (omega arith) (omega arith) e) (λ x e. take 4 2 refl (omega arith) (omega arith) (omega arith) x e) L k)
+        (λ p. two (VectorPaged w m word wback postindex 1) (λ x e. put 8 3 refl (omega arith) (omega arith) (omega arith) e) (λ x e. take 8 3 refl (omega arith) (omega arith) (omega arith) x e) L k)
+        (λ p. two (VectorPaged w m word wback postindex 2) (λ x e. put 16 4 refl (omega arith) (omega arith) (omega arith) e) (λ x e. take 16 4 refl (omega arith) (omega arith) (omega arith) x e) L k)
+        (λ p. absurd (p refl))
+        opc h
 
   module _ (wback postindex : Bool) (writing : eqb (field 23 23 word) 1 ≡ wback)
       (one : wback ≡ true → ¬ (field 9 5 word ≡ zeroSlot (field 4 0 word))) (other : wback ≡ true → ¬ (field 9 5 word ≡ zeroSlot (field 14 10 word))) where
-    form : (offset : ℕ)
-        → let n = field 9 5 word in
-        let next = Add (base n (armOf w m)) offset in
-        Form w m PairRow word (based n offset postindex (pick wback n 32)) false false wback (strays m n) (pick postindex (base n (armOf w m)) next) next
-    unfolding misaligned unaligned
-    form offset = based-form w m r PairRow word offset postindex wback false writing refl refl one (λ k x p q. refl)
-
     store-words : Paged w m word wback postindex 0 0
-    unfolding pairAt pairTransfer part
+    unfolding pairAt pairTransfer slotOf part
     store-words x e =
-        two-stores w m r word _ wback _ _ _ (form (scaled 2)) other 4 4 (omega arith) (omega arith)
-        (e ∙ ap (accessBy w m word wback postindex 0 0) (scaled-is 2 (omega arith)))
+        two-stores false w m r word _ wback _ _ _ (form wback postindex writing false (scaled 2) one) other 4 4 (omega arith) (omega arith)
+        (e ∙ ap (accessBy w m word wback postindex 0 0 0) (scaled-is 2 (omega arith)))
 
     load-words : Paged w m word wback postindex 0 1
-    unfolding pairAt pairTransfer part
+    unfolding pairAt pairTransfer slotOf part
     load-words x e =
-        two-loads w m r word _ wback _ _ _ (form (scaled 2)) other 4 4 32 (λ v. v) (omega arith) (omega arith) (λ v h. extended-none 4 v) x
-        (e ∙ ap (accessBy w m word wback postindex 0 1) (scaled-is 2 (omega arith)))
+        two-loads false w m r word _ wback _ _ _ (form wback postindex writing false (scaled 2) one) other 4 4 32 (λ v. v) (omega arith) (omega arith) (λ v h. extended-none 4 v) x
+        (e ∙ ap (accessBy w m word wback postindex 0 0 1) (scaled-is 2 (omega arith)))
 
     load-signed : Paged w m word wback postindex 1 1
-    unfolding pairAt pairTransfer part
+    unfolding pairAt pairTransfer slotOf part
     load-signed x e =
-        two-loads w m r word _ wback _ _ _ (form (scaled 2)) other 4 8 64 (SignExtend 32 64) (omega arith) (omega arith) (λ v. extended-is 3 8 v (omega arith)) x
-        (e ∙ ap (accessBy w m word wback postindex 1 1) (scaled-is 2 (omega arith)))
+        two-loads false w m r word _ wback _ _ _ (form wback postindex writing false (scaled 2) one) other 4 8 64 (SignExtend 32 64) (omega arith) (omega arith) (λ v. extended-is 3 8 v (omega arith)) x
+        (e ∙ ap (accessBy w m word wback postindex 0 1 1) (scaled-is 2 (omega arith)))
 
     store-doubles : Paged w m word wback postindex 2 0
-    unfolding pairAt pairTransfer part
+    unfolding pairAt pairTransfer slotOf part
     store-doubles x e =
-        two-stores w m r word _ wback _ _ _ (form (scaled 3)) other 8 8 (omega arith) (omega arith)
-        (e ∙ ap (accessBy w m word wback postindex 2 0) (scaled-is 3 (omega arith)))
+        two-stores false w m r word _ wback _ _ _ (form wback postindex writing false (scaled 3) one) other 8 8 (omega arith) (omega arith)
+        (e ∙ ap (accessBy w m word wback postindex 0 2 0) (scaled-is 3 (omega arith)))
 
     load-doubles : Paged w m word wback postindex 2 1
-    unfolding pairAt pairTransfer part
+    unfolding pairAt pairTransfer slotOf part
     load-doubles x e =
-        two-loads w m r word _ wback _ _ _ (form (scaled 3)) other 8 8 64 (λ v. v) (omega arith) (omega arith) (λ v h. extended-none 8 v) x
-        (e ∙ ap (accessBy w m word wback postindex 2 1) (scaled-is 3 (omega arith)))
+        two-loads false w m r word _ wback _ _ _ (form wback postindex writing false (scaled 3) one) other 8 8 64 (λ v. v) (omega arith) (omega arith) (λ v h. extended-none 8 v) x
+        (e ∙ ap (accessBy w m word wback postindex 0 2 1) (scaled-is 3 (omega arith)))
 
     all : (opc L : ℕ) → opc < 4 → L < 2 → ¬ (opc ≡ 0b11) → (opc ≡ 0b01 → L ≡ 1) → Paged w m word wback postindex opc L
     all opc L h k =
@@ -258,26 +348,28 @@ module _ (w : Window) (m : Machine) (r : Ready w m) (word : ℕ) where
 
   -- ---- what the tests of a word say
 
-  known-pair : undefinedPair word ≡ false → ¬ (field 31 30 word ≡ 0b11) × (field 31 30 word ≡ 0b01 → field 22 22 word ≡ 1)
+  no-three : undefinedPair word ≡ false → ¬ (field 31 30 word ≡ 0b11)
   unfolding undefinedPair
-  known-pair h =
-      let p = neither (eqb (field 31 30 word) 0b11) _ h in (
-        eqb-false (field 31 30 word) 0b11 (p .0),
-        λ e. loading (eqb (field 22 22 word) 1) (not (eqb (field 24 23 word) 0b00)) refl (rw (eq-eqb (field 31 30 word) 0b01 e) at (p .1)),
-      )
+  no-three h = eqb-false (field 31 30 word) 0b11 (neither (eqb (field 31 30 word) 0b11) _ h .0)
+
+  known-pair : field 26 26 word ≡ 0 → undefinedPair word ≡ false → field 31 30 word ≡ 0b01 → field 22 22 word ≡ 1
+  unfolding undefinedPair
+  known-pair b h e =
+      let p = neither (eqb (field 31 30 word) 0b11) _ h in
+      loading (eqb (field 22 22 word) 1) (not (eqb (field 24 23 word) 0b00)) refl (rw (eq-eqb (field 26 26 word) 0 b, eq-eqb (field 31 30 word) 0b01 e) at (p .1))
     where
       loading : (a b : Bool) → eqb (field 22 22 word) 1 ≡ a → (true && not (a && b)) ≡ false → field 22 22 word ≡ 1
       loading true b e h = eqb-true (field 22 22 word) 1 e
       loading false b e h = absurd (never (sym h))
 
-  bases-apart : unpredictablePair word ≡ false → eqb (field 23 23 word) 1 ≡ true
+  bases-apart : field 26 26 word ≡ 0 → unpredictablePair word ≡ false → eqb (field 23 23 word) 1 ≡ true
       → ¬ (field 9 5 word ≡ zeroSlot (field 4 0 word)) × ¬ (field 9 5 word ≡ zeroSlot (field 14 10 word))
-  unfolding unpredictablePair baseIs
-  bases-apart h b =
-      let p = neither (eqb (field 23 23 word) 1 && (baseIs (field 4 0 word) word || baseIs (field 14 10 word) word)) _ h in
-      let q : (baseIs (field 4 0 word) word || baseIs (field 14 10 word) word) ≡ false = rw b at (p .0) in
-      let z = neither (baseIs (field 4 0 word) word) (baseIs (field 14 10 word) word) q in
-      (apart (field 9 5 word) (field 4 0 word) (part-lt 5 5 word) (z .0), apart (field 9 5 word) (field 14 10 word) (part-lt 5 5 word) (z .1))
+  unfolding unpredictablePair overBase baseIs
+  bases-apart g h b =
+      let p = neither (eqb (field 23 23 word) 1 && (overBase (field 4 0 word) word || overBase (field 14 10 word) word)) _ h in
+      let q : (overBase (field 4 0 word) word || overBase (field 14 10 word) word) ≡ false = rw b at (p .0) in
+      let z = neither (overBase (field 4 0 word) word) (overBase (field 14 10 word) word) q in
+      (apart (field 9 5 word) (field 4 0 word) (part-lt 5 5 word) (rw g at (z .0)), apart (field 9 5 word) (field 14 10 word) (part-lt 5 5 word) (rw g at (z .1)))
 
   -- bit 23 is the low bit of the mode
   low-mode : (mode : ℕ) → field 24 23 word ≡ mode → field 23 23 word ≡ mode % 2
@@ -286,34 +378,52 @@ module _ (w : Window) (m : Machine) (r : Ready w m) (word : ℕ) where
 
   -- ---- by mode
 
-  module _ (u : undefinedPair word ≡ false) (v : unpredictablePair word ≡ false) where
+  abbrev accessIn : ℕ → ℕ → Access
+  accessIn v mode =
+      let op = pairAt (v * 8 + field 31 30 word * 2 + field 22 22 word) in
+      Moves (pairTransfer op (field 4 0 word) (field 14 10 word)) (pairedMode (modeAt mode) (field 9 5 word) (twosComplement (signedOf 64 (pairBytes op) (field 21 15 word))))
+
+  in-word : (v : ℕ) → field 26 26 word ≡ v → wordAccess word ≡ familyAccess (columnsOf PairRow .family word) → wordAccess word ≡ accessIn v (field 24 23 word)
+  unfolding pairAccess pairIn pairOpIn
+  in-word v kind e = e ∙ ap (λ (b : ℕ). accessIn b (field 24 23 word)) kind
+
+  module _ (g : field 26 26 word ≡ 0) (u : undefinedPair word ≡ false) (v : unpredictablePair word ≡ false) where
     by : (wback postindex : Bool) → eqb (field 23 23 word) 1 ≡ wback → Paged w m word wback postindex (field 31 30 word) (field 22 22 word)
     by wback postindex h =
-        let k = known-pair u in
-        all wback postindex h (λ e. bases-apart v (h ∙ e) .0) (λ e. bases-apart v (h ∙ e) .1) (field 31 30 word) (field 22 22 word) (part-lt 30 2 word) (part-lt 22 1 word) (k .0) (k .1)
+        all wback postindex h (λ e. bases-apart g v (h ∙ e) .0) (λ e. bases-apart g v (h ∙ e) .1) (field 31 30 word) (field 22 22 word) (part-lt 30 2 word) (part-lt 22 1 word) (no-three u) (known-pair g u)
 
     -- as the four encodings share it
     shared : (wback postindex : Bool) → eqb (field 23 23 word) 1 ≡ wback
-        → wordAccess word ≡ accessBy w m word wback postindex (field 31 30 word) (field 22 22 word) (twosComplement (signedOf 64 (pairBytes (pairOpIn word)) (field 21 15 word)))
-        → Steps w m PairRow word (paired wback postindex word (armOf w m))
-    unfolding paired pairOpIn
+        → wordAccess word ≡ accessBy w m word wback postindex 0 (field 31 30 word) (field 22 22 word) (twosComplement (signedOf 64 (pairBytes (pairAt (0 * 8 + field 31 30 word * 2 + field 22 22 word))) (field 21 15 word)))
+        → Steps w m (pageOf false PairRow word) word (paired wback postindex word (armOf w m))
+    unfolding paired
     shared wback true h e = by wback true h refl e
     shared wback false h e = by wback false h refl e
 
-    abbrev accessIn : ℕ → Access
-    accessIn mode =
-        let op = pairOpIn word in
-        Moves (pairTransfer op (field 4 0 word) (field 14 10 word)) (pairedMode (modeAt mode) (field 9 5 word) (twosComplement (signedOf 64 (pairBytes op) (field 21 15 word))))
-
-    modes : (mode : ℕ) → mode < 4 → field 24 23 word ≡ mode → wordAccess word ≡ accessIn mode → Steps w m PairRow word (pair word (armOf w m))
-    unfolding pair pairOpIn modeAt part
+    modes : (mode : ℕ) → mode < 4 → field 24 23 word ≡ mode → wordAccess word ≡ accessIn 0 mode → Steps w m (pageOf false PairRow word) word (pair word (armOf w m))
+    unfolding pair modeAt part
     modes =
-        four (λ mode. field 24 23 word ≡ mode → wordAccess word ≡ accessIn mode → Steps w m PairRow word (pair word (armOf w m)))
+        four (λ mode. field 24 23 word ≡ mode → wordAccess word ≡ accessIn 0 mode → Steps w m (pageOf false PairRow word) word (pair word (armOf w m)))
         (λ f e. rw f (shared false false (rw (low-mode 0 f)) e))
         (λ f e. rw f (shared true true (rw (low-mode 1 f)) e))
         (λ f e. rw f (shared false false (rw (low-mode 2 f)) e))
         (λ f e. rw f (shared true false (rw (low-mode 3 f)) e))
 
-    pub pair-step : wordAccess word ≡ familyAccess (columnsOf PairRow .family word) → Steps w m PairRow word (pair word (armOf w m))
-    unfolding pairAccess pairIn
-    pair-step e = modes (field 24 23 word) (part-lt 23 2 word) refl e
+    pub pair-step : wordAccess word ≡ familyAccess (columnsOf PairRow .family word) → Steps w m (pageOf false PairRow word) word (pair word (armOf w m))
+    pair-step e = modes (field 24 23 word) (part-lt 23 2 word) refl (in-word 0 g e)
+
+  module _ (g : field 26 26 word ≡ 1) (u : undefinedPair word ≡ false) where
+    vector-by : (wback postindex : Bool) → eqb (field 23 23 word) 1 ≡ wback → VectorPaged w m word wback postindex (field 31 30 word) (field 22 22 word)
+    vector-by wback postindex h = all-vectors wback postindex h (field 31 30 word) (field 22 22 word) (part-lt 30 2 word) (part-lt 22 1 word) (no-three u)
+
+    vector-modes : (mode : ℕ) → mode < 4 → field 24 23 word ≡ mode → wordAccess word ≡ accessIn 1 mode → Steps w m (pageOf true PairRow word) word (vectorPair word (armOf w m))
+    unfolding vectorPair vectorPaired modeAt
+    vector-modes =
+        four (λ mode. field 24 23 word ≡ mode → wordAccess word ≡ accessIn 1 mode → Steps w m (pageOf true PairRow word) word (vectorPair word (armOf w m)))
+        (λ f e. rw f (vector-by false false (rw (low-mode 0 f)) refl e))
+        (λ f e. rw f (vector-by true true (rw (low-mode 1 f)) refl e))
+        (λ f e. rw f (vector-by false false (rw (low-mode 2 f)) refl e))
+        (λ f e. rw f (vector-by true false (rw (low-mode 3 f)) refl e))
+
+    pub vector-pair-step : wordAccess word ≡ familyAccess (columnsOf PairRow .family word) → Steps w m (pageOf true PairRow word) word (vectorPair word (armOf w m))
+    vector-pair-step e = vector-modes (field 24 23 word) (part-lt 23 2 word) refl (in-word 1 g e)

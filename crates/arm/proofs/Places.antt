@@ -16,26 +16,26 @@ use Rattle.bits.specs.Bytes.{bytesOf, joined, spanOf}
 use Rattle.bits.proofs.Bytes.{bytes-low}
 use Rattle.registers.specs.File.{zeroSlot}
 use Rattle.bits.proofs.Extensions.{two-256}
-use Rattle.arm.specs.Pseudocode.{Arm, Add, X, setX, SP, setSP, base, setBase, Mem, setMem, withRegisters, setByte}
+use Rattle.arm.specs.Pseudocode.{Arm, Add, X, setX, Vec, setVec, SP, setSP, base, setBase, Mem, setMem, withRegisters, setByte}
 use Rattle.arm.proofs.Bits.{low-bits, full, add-small, zero-extend}
 
 -- ---- registers
 
-module _ (s : Arm) (l : length (s .registers) ≡ 32) where
+module _ (s : Arm) (l : length (s .registers) ≡ 64) where
   pub x-is : (n width : ℕ) → 0 < width → X n width s ≡ getD (s .registers) (zeroSlot n) 0 % 2 ^ width
   unfolding X
   x-is n width h = rw (low-bits width (getD (s .registers) n 0) h) (go (eqb n 31))
     where
-      go : (t : Bool) → pick t 0 (getD (s .registers) n 0 % 2 ^ width) ≡ getD (s .registers) (pick t 32 n) 0 % 2 ^ width
-      go true = rw (List·getD-eq-default (s .registers) 0 {n = 32} (omega arith), zero-mod)
+      go : (t : Bool) → pick t 0 (getD (s .registers) n 0 % 2 ^ width) ≡ getD (s .registers) (pick t 64 n) 0 % 2 ^ width
+      go true = rw (List·getD-eq-default (s .registers) 0 {n = 64} (omega arith), zero-mod)
       go false = refl
 
   pub set-x : (n width v : ℕ) → setX n width v s ≡ withRegisters (set (s .registers) (zeroSlot n) v) s
   unfolding setX
   set-x n width v = rw (zero-extend width 64 v) (ap (λ (r : List ℕ). withRegisters r s) (go (eqb n 31)))
     where
-      go : (t : Bool) → pick t (s .registers) (set (s .registers) n v) ≡ set (s .registers) (pick t 32 n) v
-      go true = sym (set-out (s .registers) 32 v (omega arith))
+      go : (t : Bool) → pick t (s .registers) (set (s .registers) n v) ≡ set (s .registers) (pick t 64 n) v
+      go true = sym (set-out (s .registers) 64 v (omega arith))
       go false = refl
 
   pub set-base : (n v : ℕ) → setBase n v s ≡ withRegisters (set (s .registers) n v) s
@@ -47,13 +47,45 @@ module _ (s : Arm) (l : length (s .registers) ≡ 32) where
       go true e = rw (eqb-true n 31 e)
       go false e = refl
 
-  pub base-is : ((n : ℕ) → getD (s .registers) n 0 < 2 ^ 64) → (n : ℕ) → base n s ≡ getD (s .registers) n 0
+  pub base-is : (n : ℕ) → getD (s .registers) n 0 < 2 ^ 64 → base n s ≡ getD (s .registers) n 0
   unfolding base X
-  base-is b n = rw (full (getD (s .registers) n 0) (b n)) (go (eqb n 31) refl)
+  base-is n b = rw (full (getD (s .registers) n 0) b) (go (eqb n 31) refl)
     where
       go : (t : Bool) → eqb n 31 ≡ t → pick t (SP s) (pick t 0 (getD (s .registers) n 0)) ≡ getD (s .registers) n 0
       go true e = rw (eqb-true n 31 e)
       go false e = refl
+
+-- ---- a register that is moved, of either kind
+
+abbrev pub slot : Bool → ℕ → ℕ
+slot vector n = pick vector (32 + n) (zeroSlot n)
+
+abbrev pub R : Bool → ℕ → ℕ → Arm → ℕ
+R vector n width s = pick vector (Vec n width s) (X n width s)
+
+abbrev pub setR : Bool → ℕ → ℕ → ℕ → Arm → Arm
+setR vector n width v s = pick vector (setVec n width v s) (setX n width v s)
+
+module _ (s : Arm) (l : length (s .registers) ≡ 64) where
+  pub r-is : (vector : Bool) (n width : ℕ) → 0 < width → R vector n width s ≡ getD (s .registers) (slot vector n) 0 % 2 ^ width
+  unfolding Vec
+  r-is true n width h = low-bits width (getD (s .registers) (32 + n) 0) h
+  r-is false n width h = x-is s l n width h
+
+  pub set-r : (vector : Bool) (n width v : ℕ) → setR vector n width v s ≡ withRegisters (set (s .registers) (slot vector n) v) s
+  unfolding setVec
+  set-r true n width v = rw (zero-extend width 128 v)
+  set-r false n width v = set-x s l n width v
+
+pub r-memory : (vector : Bool) (n width v : ℕ) (s : Arm) → setR vector n width v s .memory ≡ s .memory
+unfolding setVec setX
+r-memory true n width v s = refl
+r-memory false n width v s = refl
+
+pub r-monitor : (vector : Bool) (n width v : ℕ) (s : Arm) → setR vector n width v s .monitor ≡ s .monitor
+unfolding setVec setX
+r-monitor true n width v s = refl
+r-monitor false n width v s = refl
 
 -- ---- memory
 

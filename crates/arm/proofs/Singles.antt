@@ -1,6 +1,6 @@
 -- The pages of one register: what a load and a store leave, once over the width (`one-load`, `one-store`), and then every
 -- size and opc, where both decodes compute (`all-sizes`). Assumes nothing.
-use Prim.Native.Nat.{ℕ, zero, suc, _+_, _-_, _*_, _/_, _^_, _≤_, _<_}
+use Prim.Native.Nat.{ℕ, zero, suc, _+_, _-_, _*_, _/_, _%_, _^_, _≤_, _<_}
 use mathlib.Core.Path.{_≡_, refl, sym, ap, _∙_}
 use mathlib.Core.Bool.{Bool, true, false, _||_}
 use mathlib.Core.List.{List}
@@ -9,17 +9,18 @@ use native.Mathlib.Omega.{arith}
 use lib.Dec.{ltb, eqb}
 use lib.ListN.{length, getD, set, length-set}
 use lib.Seq.{sets, set-out, set-comm}
-use Rattle.bits.specs.Choice.{pick}
+use Rattle.bits.specs.Choice.{pick, any}
 use Rattle.bits.specs.Fields.{part, field}
 use Rattle.bits.specs.Bytes.{bytesOf, joined, spanOf}
 use Rattle.memory.proofs.Sources.{span-fits}
 use Rattle.registers.specs.File.{zeroSlot}
 use Rattle.bits.specs.Extension.{largest, extendedOf}
-use Rattle.instruction.specs.declared.row.Row.{Row}
 use Rattle.instruction.specs.Operations.{sizedAt}
+use Rattle.instruction.specs.Undefined.{undefinedCodes}
+use Rattle.access.specs.declared.transfer.Transfer.{Transfer}
 use Rattle.access.specs.declared.addressing.Addressing.{Addressing}
 use Rattle.access.specs.declared.Access.the-variants.{Moves}
-use Rattle.access.specs.Transfers.{extentOf, sizedTransfer}
+use Rattle.access.specs.Transfers.{slotOf, extentOf, sizedTransfer}
 use Rattle.access.specs.Accesses.{isPrefetch, sizedAccess, wordAccess}
 use Rattle.plan.specs.declared.window.Window.{Window}
 use Rattle.plan.specs.Address.{sumOf, addressOf}
@@ -28,10 +29,11 @@ use Rattle.plan.specs.Plans.{misalignedStack}
 use Rattle.machine.specs.Monitor.{statusOf, monitorAfter, writtenBack, fails}
 use Rattle.machine.specs.Machine.{Machine, operandsOf}
 use Rattle.arm.specs.Pseudocode.{Arm, MemOp, LOAD, STORE, PREFETCH, Extend, X, setX, setSP, setBase, Mem, setMem, withRegisters, withMonitor, Operation, hint, loads, stores, case}
-use Rattle.arm.specs.Pages.{sizedExtent, pageOf}
+use Rattle.arm.specs.VectorImmediate.{vectorScale}
+use Rattle.arm.specs.Pages.{Page, sizedExtent}
 use Rattle.arm.specs.Choices.{marked, misplaced, armOf}
 use Rattle.arm.proofs.Bits.{zero-extend, extended-is}
-use Rattle.arm.proofs.Places.{x-is, set-x, set-base, mem-is, withMemory, set-mem, mem-monitor, low-bytes}
+use Rattle.arm.proofs.Places.{slot, R, setR, r-is, set-r, r-memory, r-monitor, set-base, mem-is, withMemory, set-mem, mem-monitor, low-bytes}
 use Rattle.arm.proofs.Marks.{single, one-marks}
 use Rattle.arm.proofs.Steps.{Ready, Steps, hints-step, faulty, access-step}
 
@@ -54,9 +56,9 @@ two P a b (suc (suc k)) h = absurd (omega arith)
 abbrev pub back : Bool → ℕ → ℕ → Arm → Arm
 back wback n next after = pick wback (setBase n next after) after
 
-pub back-registers : (s : Arm) → length (s .registers) ≡ 32 → (wback : Bool) (n next : ℕ) → back wback n next s .registers ≡ set (s .registers) (pick wback n 32) next
+pub back-registers : (s : Arm) → length (s .registers) ≡ 64 → (wback : Bool) (n next : ℕ) → back wback n next s .registers ≡ set (s .registers) (pick wback n 64) next
 back-registers s len true n next = rw (set-base s len n next)
-back-registers s len false n next = sym (set-out (s .registers) 32 next (omega arith))
+back-registers s len false n next = sym (set-out (s .registers) 64 next (omega arith))
 
 pub back-memory : (wback : Bool) (n next : ℕ) (s : Arm) → back wback n next s .memory ≡ s .memory
 unfolding setBase setX
@@ -78,30 +80,30 @@ back-monitor true n next s = go (eqb n 31)
 
 -- ---- registers and memory after an access
 
-module _ (s : Arm) (len : length (s .registers) ≡ 32) where
-  load-registers : (wback : Bool) (n t next width loaded : ℕ) → (wback ≡ true → ¬ (n ≡ zeroSlot t))
-      → set (set (s .registers) (pick wback n 32) next) (zeroSlot t) loaded ≡ back wback n next (setX t width loaded s) .registers
+module _ (vector : Bool) (s : Arm) (len : length (s .registers) ≡ 64) where
+  load-registers : (wback : Bool) (n t next width loaded : ℕ) → (wback ≡ true → ¬ (n ≡ slot vector t))
+      → set (set (s .registers) (pick wback n 64) next) (slot vector t) loaded ≡ back wback n next (setR vector t width loaded s) .registers
   load-registers true n t next width loaded h =
-      let r : List ℕ = set (s .registers) (zeroSlot t) loaded in
-      let l : length r ≡ 32 = simp length-set len in
-      rw (set-x s len t width loaded, set-base (withRegisters r s) l n next) (set-comm (s .registers) n (zeroSlot t) next loaded (h refl))
-  load-registers false n t next width loaded h = rw (set-x s len t width loaded, set-out (s .registers) 32 next (omega arith))
+      let r : List ℕ = set (s .registers) (slot vector t) loaded in
+      let l : length r ≡ 64 = simp length-set len in
+      rw (set-r s len vector t width loaded, set-base (withRegisters r s) l n next) (set-comm (s .registers) n (slot vector t) next loaded (h refl))
+  load-registers false n t next width loaded h = rw (set-r s len vector t width loaded, set-out (s .registers) 64 next (omega arith))
 
   -- with the machine's own numbers, and its second register, which is none
-  load-all : (wback : Bool) (n t next width : ℕ) {written sum loaded extended : ℕ} (more : ℕ) → written ≡ pick wback n 32 → sum ≡ next → extended ≡ loaded
-      → (wback ≡ true → ¬ (n ≡ zeroSlot t))
-      → set (set (set (s .registers) written sum) (zeroSlot t) extended) 32 more ≡ back wback n next (setX t width loaded s) .registers
+  load-all : (wback : Bool) (n t next width : ℕ) {written sum loaded extended : ℕ} (more : ℕ) → written ≡ pick wback n 64 → sum ≡ next → extended ≡ loaded
+      → (wback ≡ true → ¬ (n ≡ slot vector t))
+      → set (set (set (s .registers) written sum) (slot vector t) extended) 64 more ≡ back wback n next (setR vector t width loaded s) .registers
   load-all wback n t next width {written} {sum} {loaded} {extended} more p q e h =
-      let all : List ℕ = set (set (s .registers) written sum) (zeroSlot t) extended in
-      let l : length all ≡ 32 = simp length-set len in
-      let o : length all ≤ 32 = omega arith in
-      set-out all 32 more o ∙ rw (p, q, e) (load-registers wback n t next width loaded h)
+      let all : List ℕ = set (set (s .registers) written sum) (slot vector t) extended in
+      let l : length all ≡ 64 = simp length-set len in
+      let o : length all ≤ 64 = omega arith in
+      set-out all 64 more o ∙ rw (p, q, e) (load-registers wback n t next width loaded h)
 
   module _ (k address : ℕ) (h : s .origin ≤ address) (u : address + k ≤ 2 ^ 64) where
-    pub store-memory : (t : ℕ) → 0 < k → sets (s .memory) (address - s .origin) (bytesOf k (getD (s .registers) (zeroSlot t) 0)) ≡ setMem address k (X t (8 * k) s) s .memory
-    store-memory t p = rw (set-mem s k address (X t (8 * k) s) h u, x-is s len t (8 * k) (omega arith), low-bytes k)
+    pub store-memory : (t : ℕ) → 0 < k → sets (s .memory) (address - s .origin) (bytesOf k (getD (s .registers) (slot vector t) 0)) ≡ setMem address k (R vector t (8 * k) s) s .memory
+    store-memory t p = rw (set-mem s k address (R vector t (8 * k) s) h u, r-is s len vector t (8 * k) (omega arith), low-bytes k)
 
-    store-registers : (wback : Bool) (n next v : ℕ) {written sum : ℕ} → written ≡ pick wback n 32 → sum ≡ next
+    store-registers : (wback : Bool) (n next v : ℕ) {written sum : ℕ} → written ≡ pick wback n 64 → sum ≡ next
         → set (s .registers) written sum ≡ back wback n next (setMem address k v s) .registers
     store-registers wback n next v p q =
         let b : List ℕ = sets (s .memory) (address - s .origin) (bytesOf k v) in
@@ -122,21 +124,21 @@ zeros k width v h = rw (zero-extend (8 * k) width v) (extended-none k v)
 -- ---- one access
 
 -- what the addressing of an access and a page agree on, with the address
-pub record Placed (w : Window) (m : Machine) (l : Row) (word : ℕ) (a : Addressing) (exclusive ordered stray : Bool) (address : ℕ) : Type 0 where
-  pub mark : operandsOf a m .tainted ≡ marked (pageOf l word) word m
+pub record Placed (w : Window) (m : Machine) (l : Page) (word : ℕ) (a : Addressing) (exclusive ordered stray : Bool) (address : ℕ) : Type 0 where
+  pub mark : operandsOf a m .tainted ≡ marked l word m
   pub stack : misalignedStack (a .base) (operandsOf a m .base) ≡ stray
   pub pointer : stray ≡ true → operandsOf a m .base ≡ getD (m .values) 31 0
   pub first : addressOf a (operandsOf a m) ≡ address
-  pub block : (k : ℕ) → 0 < k → k ≤ 16 → (misaligned ordered k address || unaligned exclusive k address) ≡ misplaced (pageOf l word .alignment) address k
+  pub block : (k : ℕ) → 0 < k → k ≤ 32 → (misaligned ordered k address || unaligned exclusive k address) ≡ misplaced (l .alignment) address k
 
 -- and on the number to write back, which an exclusive access has none of; the page has no status
-pub record Form (w : Window) (m : Machine) (l : Row) (word : ℕ) (a : Addressing) (exclusive ordered wback stray : Bool) (address next : ℕ) : Type 0 where
+pub record Form (w : Window) (m : Machine) (l : Page) (word : ℕ) (a : Addressing) (exclusive ordered wback stray : Bool) (address next : ℕ) : Type 0 where
   pub placed : Placed w m l word a exclusive ordered stray address
   pub sum : pick exclusive 0 (sumOf a (operandsOf a m)) ≡ next
-  pub written : a .written ≡ pick wback (field 9 5 word) 32
-  pub back : pageOf l word .wback ≡ wback
-  pub status : pageOf l word .status ≡ false
-  pub apart : wback ≡ true → ¬ (field 9 5 word ≡ zeroSlot (field 4 0 word))
+  pub written : a .written ≡ pick wback (field 9 5 word) 64
+  pub back : l .wback ≡ wback
+  pub status : l .status ≡ false
+  pub apart : wback ≡ true → ¬ (field 9 5 word ≡ slot (l .vector) (field 4 0 word))
 
 no-load : _≡_ {A = Bool} true false → ⊥
 no-load e = let z : _≡_ {A = ℕ} 0 1 = cc in omega arith
@@ -146,23 +148,23 @@ no-store : (b : Bool) → pick b false false ≡ false
 no-store true = refl
 no-store false = refl
 
-module _ (w : Window) (m : Machine) (r : Ready w m) (l : Row) (word : ℕ) (a : Addressing) (exclusive ordered wback stray : Bool) (address next : ℕ)
-    (f : Form w m l word a exclusive ordered wback stray address next) (alone : pageOf l word .paired ≡ false) where
+module _ (w : Window) (m : Machine) (r : Ready w m) (l : Page) (word : ℕ) (a : Addressing) (exclusive ordered wback stray : Bool) (address next : ℕ)
+    (f : Form w m l word a exclusive ordered wback stray address next) (alone : l .paired ≡ false) where
   -- with the monitor that an exclusive load arms
   abbrev armed : ℕ → Arm
   armed k = withMonitor (pick exclusive (record { address = address; size = k }) (m .monitor)) (armOf w m)
 
   abbrev loaded : ℕ → ℕ → (ℕ → ℕ) → Arm
-  loaded k width g = back wback (field 9 5 word) next (setX (field 4 0 word) width (g (Mem address k (armed k))) (armed k))
+  loaded k width g = back wback (field 9 5 word) next (setR (l .vector) (field 4 0 word) width (g (Mem address k (armed k))) (armed k))
 
-  pub one-load : (k extent width : ℕ) (g : ℕ → ℕ) → 0 < k → k ≤ 16 → ((v : ℕ) → v < 256 ^ k → extendedOf k extent v ≡ g v)
-      → pageOf l word .extent ≡ extent → wordAccess word ≡ Moves (single exclusive false ordered k extent (field 4 0 word)) a
+  pub one-load : (k extent width : ℕ) (g : ℕ → ℕ) → 0 < k → k ≤ 32 → ((v : ℕ) → v < 256 ^ k → extendedOf k extent v ≡ g v)
+      → l .extent ≡ extent → wordAccess word ≡ Moves (single (l .vector) exclusive false ordered k extent (field 4 0 word)) a
       → Steps w m l word (faulty m stray (loads address k (loaded k width g)))
-  unfolding setX statusOf fails writtenBack monitorAfter
+  unfolding statusOf fails writtenBack monitorAfter
   one-load k extent width g p q ext filled e =
       let n = field 9 5 word in
       let t = field 4 0 word in
-      access-step w m (r .top) l word (single exclusive false ordered k extent t) a stray address k 0 (loaded k width g)
+      access-step w m (r .top) l word (single (l .vector) exclusive false ordered k extent t) a stray address k 0 (loaded k width g)
       (record {
         access = e;
         total = add-zero k;
@@ -178,18 +180,18 @@ module _ (w : Window) (m : Machine) (r : Ready w m) (l : Row) (word : ℕ) (a : 
             let v : ℕ = joined (spanOf (m .memory) at k) in
             let x : extendedOf k extent v ≡ g (Mem address k (armed k)) =
             ext v (span-fits (m .memory) (r .real .bytes) at k) ∙ ap g (sym (mem-is (armed k) k address (h .from) (h .upto))) in
-            rw (no-store exclusive) (load-all (armed k) (r .real .registers) wback n t next width _ (f .written) (f .sum) x (f .apart));
+            rw (no-store exclusive) (load-all (l .vector) (armed k) (r .real .registers) wback n t next width _ (f .written) (f .sum) x (f .apart));
         marks =
             λ h.
             rw (no-store exclusive, alone, f .back, f .status)
-            (one-marks wback (w .origin) word address (m .taints) (r .real .marks) (h .from) exclusive false ordered k extent (pageOf l word .extent) (a .written) (λ z. filled) (f .written));
-        memory = λ h. sym (back-memory wback n next (setX t width (g (Mem address k (armed k))) (armed k)));
-        monitor = sym (back-monitor wback n next (setX t width (g (Mem address k (armed k))) (armed k)));
+            (one-marks (l .vector) wback (w .origin) word address (m .taints) (r .real .marks) (h .from) exclusive false ordered k extent (l .extent) (a .written) (λ z. filled) (f .written));
+        memory = λ h. sym (back-memory wback n next _ ∙ r-memory (l .vector) t width _ (armed k));
+        monitor = sym (back-monitor wback n next _ ∙ r-monitor (l .vector) t width _ (armed k));
       })
       false refl
 
-module _ (w : Window) (m : Machine) (r : Ready w m) (l : Row) (word : ℕ) (a : Addressing) (ordered wback stray : Bool) (address next : ℕ)
-    (f : Form w m l word a false ordered wback stray address next) (alone : pageOf l word .paired ≡ false) where
+module _ (w : Window) (m : Machine) (r : Ready w m) (l : Page) (word : ℕ) (a : Addressing) (ordered wback stray : Bool) (address next : ℕ)
+    (f : Form w m l word a false ordered wback stray address next) (alone : l .paired ≡ false) where
   abbrev s : Arm
   s = armOf w m
 
@@ -200,13 +202,13 @@ module _ (w : Window) (m : Machine) (r : Ready w m) (l : Row) (word : ℕ) (a : 
   t = field 4 0 word
 
   abbrev stored : ℕ → Arm
-  stored k = back wback n next (setMem address k (X t (8 * k) s) s)
+  stored k = back wback n next (setMem address k (R (l .vector) t (8 * k) s) s)
 
-  pub one-store : (k extent : ℕ) → 0 < k → k ≤ 16 → wordAccess word ≡ Moves (single false true ordered k extent t) a
+  pub one-store : (k extent : ℕ) → 0 < k → k ≤ 32 → wordAccess word ≡ Moves (single (l .vector) false true ordered k extent t) a
       → Steps w m l word (faulty m stray (stores address k (stored k)))
   unfolding bytesOf statusOf fails writtenBack monitorAfter
   one-store k extent p q e =
-      access-step w m (r .top) l word (single false true ordered k extent t) a stray address k 0 (stored k)
+      access-step w m (r .top) l word (single (l .vector) false true ordered k extent t) a stray address k 0 (stored k)
       (record {
         access = e;
         total = add-zero k;
@@ -216,22 +218,33 @@ module _ (w : Window) (m : Machine) (r : Ready w m) (l : Row) (word : ℕ) (a : 
         first = f .placed .first;
         block = f .placed .block k p q;
         told = refl;
-        registers = λ h. store-registers s (r .real .registers) k address (h .from) (h .upto) wback n next _ (f .written) (f .sum);
+        registers = λ h. store-registers (l .vector) s (r .real .registers) k address (h .from) (h .upto) wback n next _ (f .written) (f .sum);
         marks =
             λ h.
             rw (alone, f .back, f .status)
-            (one-marks wback (w .origin) word address (m .taints) (r .real .marks) (h .from) false true ordered k extent (pageOf l word .extent) (a .written) (λ z. absurd (no-load z)) (f .written));
-        memory = λ h. store-memory s (r .real .registers) k address (h .from) (h .upto) t p ∙ sym (back-memory wback n next _);
+            (one-marks (l .vector) wback (w .origin) word address (m .taints) (r .real .marks) (h .from) false true ordered k extent (l .extent) (a .written) (λ z. absurd (no-load z)) (f .written));
+        memory = λ h. store-memory (l .vector) s (r .real .registers) k address (h .from) (h .upto) t p ∙ sym (back-memory wback n next _);
         monitor = sym (back-monitor wback n next _ ∙ mem-monitor k address _ s);
       })
       true refl
 
   -- ---- all sizes and opcs
 
-  load : (k extent width : ℕ) (g : ℕ → ℕ) → 0 < k → k ≤ 16 → ((v : ℕ) → v < 256 ^ k → extendedOf k extent v ≡ g v)
-      → pageOf l word .extent ≡ extent → wordAccess word ≡ Moves (single false false ordered k extent t) a
-      → Steps w m l word (faulty m stray (loads address k (back wback n next (setX t width (g (Mem address k s)) s))))
-  load = one-load w m r l word a false ordered wback stray address next f alone
+  -- by the slot of the access, of either kind
+  abbrev aimed : Bool → ℕ → ℕ → ℕ → Transfer
+  aimed store k extent target =
+      record { store = store; ordered = ordered; bytes = k; more = 0; extent = extent; target = target; second = 64; exclusive = false }
+
+  module _ (target : ℕ) (at : target ≡ slot (l .vector) t) where
+    pub load : (k extent width : ℕ) (g : ℕ → ℕ) → 0 < k → k ≤ 32 → ((v : ℕ) → v < 256 ^ k → extendedOf k extent v ≡ g v)
+        → l .extent ≡ extent → wordAccess word ≡ Moves (aimed false k extent target) a
+        → Steps w m l word (faulty m stray (loads address k (back wback n next (setR (l .vector) t width (g (Mem address k s)) s))))
+    load k extent width g p q x filled e =
+        one-load w m r l word a false ordered wback stray address next f alone k extent width g p q x filled
+        (e ∙ ap (λ (i : ℕ). Moves (aimed false k extent i) a) at)
+
+    store : (k extent : ℕ) → 0 < k → k ≤ 32 → wordAccess word ≡ Moves (aimed true k extent target) a → Steps w m l word (faulty m stray (stores address k (stored k)))
+    store k extent p q e = one-store k extent p q (e ∙ ap (λ (i : ℕ). Moves (aimed true k extent i) a) at)
 
   -- the page, by size and opc
   abbrev page : ℕ → ℕ → Operation
@@ -241,47 +254,94 @@ module _ (w : Window) (m : Machine) (r : Ready w m) (l : Row) (word : ℕ) (a : 
       let regsize : ℕ = pick signed (pick (eqb (field 0 0 opc) 1) 32 64) (pick (eqb size 0b11) 64 32) in
       let datasize = 8 * 2 ^ size in
       case memop
-      (faulty m stray (stores address (datasize / 8) (back wback n next (setMem address (datasize / 8) (X t datasize s) s))))
-      (faulty m stray (loads address (datasize / 8) (back wback n next (setX t regsize (Extend signed datasize regsize (Mem address (datasize / 8) s)) s))))
+      (faulty m stray (stores address (datasize / 8) (back wback n next (setMem address (datasize / 8) (R (l .vector) t datasize s) s))))
+      (faulty m stray (loads address (datasize / 8) (back wback n next (setR (l .vector) t regsize (Extend signed datasize regsize (Mem address (datasize / 8) s)) s))))
       hint
 
   abbrev Paged : ℕ → ℕ → Type 0
   Paged size opc =
-      pageOf l word .extent ≡ sizedExtent size opc → ¬ (size * 4 + opc ≡ 0b10_11) → ¬ (size * 4 + opc ≡ 0b11_11)
-      → wordAccess word ≡ sizedAccess (sizedAt (size * 4 + opc)) t ordered a → Steps w m l word (page size opc)
+      l .extent ≡ sizedExtent false size opc → any (eqb (0 * 16 + size * 4 + opc)) undefinedCodes ≡ false
+      → wordAccess word ≡ sizedAccess (sizedAt (0 * 16 + size * 4 + opc)) t ordered a → Steps w m l word (page size opc)
 
-  pub all-sizes : (size opc : ℕ) → size < 4 → opc < 4 → Paged size opc
-  unfolding sizedAccess sizedTransfer extentOf sizedAt isPrefetch part
-  all-sizes size opc h k = four (λ s. Paged s opc) (bytes opc k) (halves opc k) (words opc k) (doubles opc k) size h
+  pub all-sizes : zeroSlot t ≡ slot (l .vector) t → (size opc : ℕ) → size < 4 → opc < 4 → Paged size opc
+  unfolding sizedAccess sizedTransfer slotOf extentOf sizedAt isPrefetch part
+  all-sizes at size opc h k = four (λ s. Paged s opc) (bytes opc k) (halves opc k) (words opc k) (doubles opc k) size h
     where
       bytes : (opc : ℕ) → opc < 4 → Paged 0 opc
       bytes =
           four (Paged 0)
-          (λ x p q e. one-store 1 1 (omega arith) (omega arith) e)
-          (λ x p q e. load 1 1 32 (Extend false 8 32) (omega arith) (omega arith) (zeros 1 32) x e)
-          (λ x p q e. load 1 8 64 (Extend true 8 64) (omega arith) (omega arith) (λ v. extended-is 0 8 v (omega arith)) x e)
-          (λ x p q e. load 1 4 32 (Extend true 8 32) (omega arith) (omega arith) (λ v. extended-is 0 4 v (omega arith)) x e)
+          (λ x u e. store (zeroSlot t) at 1 1 (omega arith) (omega arith) e)
+          (λ x u e. load (zeroSlot t) at 1 1 32 (Extend false 8 32) (omega arith) (omega arith) (zeros 1 32) x e)
+          (λ x u e. load (zeroSlot t) at 1 8 64 (Extend true 8 64) (omega arith) (omega arith) (λ v. extended-is 0 8 v (omega arith)) x e)
+          (λ x u e. load (zeroSlot t) at 1 4 32 (Extend true 8 32) (omega arith) (omega arith) (λ v. extended-is 0 4 v (omega arith)) x e)
 
       halves : (opc : ℕ) → opc < 4 → Paged 1 opc
       halves =
           four (Paged 1)
-          (λ x p q e. one-store 2 2 (omega arith) (omega arith) e)
-          (λ x p q e. load 2 2 32 (Extend false 16 32) (omega arith) (omega arith) (zeros 2 32) x e)
-          (λ x p q e. load 2 8 64 (Extend true 16 64) (omega arith) (omega arith) (λ v. extended-is 1 8 v (omega arith)) x e)
-          (λ x p q e. load 2 4 32 (Extend true 16 32) (omega arith) (omega arith) (λ v. extended-is 1 4 v (omega arith)) x e)
+          (λ x u e. store (zeroSlot t) at 2 2 (omega arith) (omega arith) e)
+          (λ x u e. load (zeroSlot t) at 2 2 32 (Extend false 16 32) (omega arith) (omega arith) (zeros 2 32) x e)
+          (λ x u e. load (zeroSlot t) at 2 8 64 (Extend true 16 64) (omega arith) (omega arith) (λ v. extended-is 1 8 v (omega arith)) x e)
+          (λ x u e. load (zeroSlot t) at 2 4 32 (Extend true 16 32) (omega arith) (omega arith) (λ v. extended-is 1 4 v (omega arith)) x e)
 
       words : (opc : ℕ) → opc < 4 → Paged 2 opc
       words =
           four (Paged 2)
-          (λ x p q e. one-store 4 4 (omega arith) (omega arith) e)
-          (λ x p q e. load 4 4 32 (Extend false 32 32) (omega arith) (omega arith) (zeros 4 32) x e)
-          (λ x p q e. load 4 8 64 (Extend true 32 64) (omega arith) (omega arith) (λ v. extended-is 3 8 v (omega arith)) x e)
-          (λ x p q e. absurd (p refl))
+          (λ x u e. store (zeroSlot t) at 4 4 (omega arith) (omega arith) e)
+          (λ x u e. load (zeroSlot t) at 4 4 32 (Extend false 32 32) (omega arith) (omega arith) (zeros 4 32) x e)
+          (λ x u e. load (zeroSlot t) at 4 8 64 (Extend true 32 64) (omega arith) (omega arith) (λ v. extended-is 3 8 v (omega arith)) x e)
+          (λ x u e. absurd (no-load u))
 
       doubles : (opc : ℕ) → opc < 4 → Paged 3 opc
       doubles =
           four (Paged 3)
-          (λ x p q e. one-store 8 8 (omega arith) (omega arith) e)
-          (λ x p q e. load 8 8 64 (Extend false 64 64) (omega arith) (omega arith) (zeros 8 64) x e)
-          (λ x p q e. hints-step w m l word e)
-          (λ x p q e. absurd (q refl))
+          (λ x u e. store (zeroSlot t) at 8 8 (omega arith) (omega arith) e)
+          (λ x u e. load (zeroSlot t) at 8 8 64 (Extend false 64 64) (omega arith) (omega arith) (zeros 8 64) x e)
+          (λ x u e. hints-step w m l word e)
+          (λ x u e. absurd (no-load u))
+
+  -- ---- of vector registers
+
+  abbrev vectorPage : ℕ → ℕ → Operation
+  vectorPage size opc =
+      let memop : MemOp = pick (eqb (field 0 0 opc) 1) LOAD STORE in
+      let datasize = 8 * 2 ^ vectorScale size opc in
+      case memop
+      (faulty m stray (stores address (datasize / 8) (back wback n next (setMem address (datasize / 8) (R (l .vector) t datasize s) s))))
+      (faulty m stray (loads address (datasize / 8) (back wback n next (setR (l .vector) t datasize (Mem address (datasize / 8) s) s))))
+      hint
+
+  abbrev VectorPaged : ℕ → ℕ → Type 0
+  VectorPaged size opc =
+      l .extent ≡ sizedExtent true size opc → any (eqb (1 * 16 + size * 4 + opc)) undefinedCodes ≡ false
+      → wordAccess word ≡ sizedAccess (sizedAt (1 * 16 + size * 4 + opc)) t ordered a → Steps w m l word (vectorPage size opc)
+
+  pub all-vectors : 32 + t % 32 ≡ slot (l .vector) t → (size opc : ℕ) → size < 4 → opc < 4 → VectorPaged size opc
+  unfolding sizedAccess sizedTransfer slotOf sizedAt isPrefetch part
+  all-vectors at size opc h k = four (λ s. VectorPaged s opc) (bytes opc k) (halves opc k) (words opc k) (doubles opc k) size h
+    where
+      put : (k : ℕ) → 0 < k → k ≤ 32 → wordAccess word ≡ Moves (aimed true k k (32 + t % 32)) a → Steps w m l word (faulty m stray (stores address k (stored k)))
+      put k p q e = store (32 + t % 32) at k k p q e
+
+      take : (k : ℕ) → 0 < k → k ≤ 32 → l .extent ≡ k → wordAccess word ≡ Moves (aimed false k k (32 + t % 32)) a
+          → Steps w m l word (faulty m stray (loads address k (back wback n next (setR (l .vector) t (8 * k) (Mem address k s) s))))
+      take k p q x e = load (32 + t % 32) at k k (8 * k) (λ v. v) p q (λ v h. extended-none k v) x e
+
+      bytes : (opc : ℕ) → opc < 4 → VectorPaged 0 opc
+      bytes =
+          four (VectorPaged 0) (λ x u e. put 1 (omega arith) (omega arith) e) (λ x u e. take 1 (omega arith) (omega arith) x e)
+          (λ x u e. put 16 (omega arith) (omega arith) e) (λ x u e. take 16 (omega arith) (omega arith) x e)
+
+      halves : (opc : ℕ) → opc < 4 → VectorPaged 1 opc
+      halves =
+          four (VectorPaged 1) (λ x u e. put 2 (omega arith) (omega arith) e) (λ x u e. take 2 (omega arith) (omega arith) x e)
+          (λ x u e. absurd (no-load u)) (λ x u e. absurd (no-load u))
+
+      words : (opc : ℕ) → opc < 4 → VectorPaged 2 opc
+      words =
+          four (VectorPaged 2) (λ x u e. put 4 (omega arith) (omega arith) e) (λ x u e. take 4 (omega arith) (omega arith) x e)
+          (λ x u e. absurd (no-load u)) (λ x u e. absurd (no-load u))
+
+      doubles : (opc : ℕ) → opc < 4 → VectorPaged 3 opc
+      doubles =
+          four (VectorPaged 3) (λ x u e. put 8 (omega arith) (omega arith) e) (λ x u e. take 8 (omega arith) (omega arith) x e)
+          (λ x u e. absurd (no-load u)) (λ x u e. absurd (no-load u))

@@ -10,7 +10,6 @@ use borrow.Author.Tests.{ltb-true, ltb-false, lt-ltb, le-ltb, leb-true, leb-fals
 use Rattle.bits.specs.Choice.{pick}
 use Rattle.bits.proofs.Choices.{both}
 use Rattle.instruction.specs.declared.answer.Answer.the-variants.{TaintedAddress, Misaligned, OutOfWindow, ReadOnly}
-use Rattle.instruction.specs.declared.row.Row.{Row}
 use Rattle.access.specs.declared.transfer.Transfer.{Transfer}
 use Rattle.access.specs.declared.addressing.Addressing.{Addressing}
 use Rattle.access.specs.declared.Access.the-variants.{Nothing, Moves}
@@ -27,7 +26,7 @@ use Rattle.machine.specs.Step.{shown, Step, stopped, moved}
 use Rattle.machine.specs.route.Parts.{accessStep}
 use Rattle.arm.specs.Pseudocode.{Arm, Operation, hint, spFault, access}
 use Rattle.arm.specs.Marks.{marksOf}
-use Rattle.arm.specs.Pages.{pageOf}
+use Rattle.arm.specs.Pages.{Page}
 use Rattle.arm.specs.Choices.{marked, misplaced, outOf, shut, afterPage, chosen}
 use Rattle.machine.specs.Real.{Real}
 
@@ -73,7 +72,7 @@ unfolding guarded
 guard-is w false address h = refl
 guard-is w true address h = same-test address (w .origin + w .readonly) (address - w .origin) (w .readonly) (λ k. omega arith) (λ k. omega arith)
 
-pub same-block : (a n : ℕ) → 0 < n → n ≤ 16 → ltb 16 (a % 16 + n) ≡ not (eqb (a / 16) ((a + n - 1) / 16))
+pub same-block : (a n : ℕ) → 0 < n → n ≤ 32 → ltb 16 (a % 16 + n) ≡ not (eqb (a / 16) ((a + n - 1) / 16))
 same-block a n h k = go (ltb 16 (a % 16 + n)) refl (eqb (a / 16) ((a + n - 1) / 16)) refl
   where
     go : (t : Bool) → ltb 16 (a % 16 + n) ≡ t → (b : Bool) → eqb (a / 16) ((a + n - 1) / 16) ≡ b → t ≡ not b
@@ -112,10 +111,10 @@ same-plan : (F : Bool → Bool → Bool → Bool → ℕ → Step Machine) {p p�
 same-plan F e f g k h = rw (e, f, g, k, h)
 
 -- the step of a word is that of its page
-abbrev pub Steps : Window → Machine → Row → ℕ → Operation → Type 0
-Steps w m l word o = accessStep (w .origin) (admitOf w (length (m .memory))) (wordAccess word) m ≡ chosen w word m (pageOf l word) o
+abbrev pub Steps : Window → Machine → Page → ℕ → Operation → Type 0
+Steps w m l word o = accessStep (w .origin) (admitOf w (length (m .memory))) (wordAccess word) m ≡ chosen w word m l o
 
-pub hints-step : (w : Window) (m : Machine) (l : Row) (word : ℕ) → wordAccess word ≡ Nothing → Steps w m l word hint
+pub hints-step : (w : Window) (m : Machine) (l : Page) (word : ℕ) → wordAccess word ≡ Nothing → Steps w m l word hint
 unfolding accessStep
 hints-step w m l word e = rw e
 
@@ -124,31 +123,31 @@ abbrev pub faulty : Machine → Bool → Operation → Operation
 faulty m stray o = pick stray (spFault (getD (m .values) 31 0)) o
 
 -- what an access and a page agree on
-pub record Agreed (w : Window) (m : Machine) (l : Row) (word : ℕ) (t : Transfer) (a : Addressing) (stray : Bool) (address size status : ℕ) (after : Arm) : Type 0 where
+pub record Agreed (w : Window) (m : Machine) (l : Page) (word : ℕ) (t : Transfer) (a : Addressing) (stray : Bool) (address size status : ℕ) (after : Arm) : Type 0 where
   pub access : wordAccess word ≡ Moves t a
   pub total : totalOf t ≡ size
-  pub mark : operandsOf a m .tainted ≡ marked (pageOf l word) word m
+  pub mark : operandsOf a m .tainted ≡ marked l word m
   pub stack : misalignedStack (a .base) (operandsOf a m .base) ≡ stray
   pub pointer : stray ≡ true → operandsOf a m .base ≡ getD (m .values) 31 0
   pub first : addressOf a (operandsOf a m) ≡ address
-  pub block : (misaligned (t .ordered) size address || unaligned (t .exclusive) size address) ≡ misplaced (pageOf l word .alignment) address size
+  pub block : (misaligned (t .ordered) size address || unaligned (t .exclusive) size address) ≡ misplaced (l .alignment) address size
   pub told : statusOf t address (m .monitor) ≡ status
   pub registers : Inside w address size
       → let based = basedValues (a .written) (writtenBack t status (sumOf a (operandsOf a m))) (m .values) in
       pick (t .store) based (loadedValues (madeOf t status) (address - w .origin) based (m .memory)) ≡ after .registers
   pub marks : Inside w address size
       → moveRule (madeOf t status) (a .written) (address - w .origin) (m .taints)
-      ≡ marksOf (pageOf l word .paired) (pageOf l word .wback) (pageOf l word .status) (t .store) status (pageOf l word .extent) (w .origin) word address size (m .taints)
+      ≡ marksOf (l .vector) (l .paired) (l .wback) (l .status) (t .store) status (l .extent) (w .origin) word address size (m .taints)
   pub memory : Inside w address size → pick (t .store) (storedBytes (madeOf t status) (address - w .origin) (m .values) (m .memory)) (m .memory) ≡ after .memory
   pub monitor : monitorAfter t address (m .monitor) ≡ after .monitor
 
-module _ (w : Window) (m : Machine) (top : w .origin + length (m .memory) ≤ 2 ^ 64) (l : Row) (word : ℕ) (t : Transfer) (a : Addressing) (stray : Bool)
+module _ (w : Window) (m : Machine) (top : w .origin + length (m .memory) ≤ 2 ^ 64) (l : Page) (word : ℕ) (t : Transfer) (a : Addressing) (stray : Bool)
     (address size status : ℕ) (after : Arm) (g : Agreed w m l word t a stray address size status after) where
   abbrev o : Bool
   o = outOf w m address size
 
   abbrev left : Machine
-  left = afterPage w word m (pageOf l word) (t .store) address size status after
+  left = afterPage w word m l (t .store) address size status after
 
   -- what the machine leaves of an access at x with a status
   abbrev made : ℕ → ℕ → Machine
@@ -168,7 +167,7 @@ module _ (w : Window) (m : Machine) (top : w .origin + length (m .memory) ≤ 2 
   abbrev displaced : ℕ → ℕ → Bool
   displaced k x = misaligned (t .ordered) k x || unaligned (t .exclusive) k x
 
-  across : displaced (totalOf t) (addressOf a (operandsOf a m)) ≡ misplaced (pageOf l word .alignment) address size
+  across : displaced (totalOf t) (addressOf a (operandsOf a m)) ≡ misplaced (l .alignment) address size
   across = ap (displaced (totalOf t)) (g .first) ∙ ap (λ (k : ℕ). displaced k address) (g .total) ∙ g .block
 
   out : outside (totalOf t) (addressOf a (operandsOf a m)) (w .origin) (length (m .memory)) ≡ o
@@ -178,7 +177,7 @@ module _ (w : Window) (m : Machine) (top : w .origin + length (m .memory) ≤ 2 
       ∙ out-is w m address size
 
   step : accessStep (w .origin) (admitOf w (length (m .memory))) (wordAccess word) m
-      ≡ tested (marked (pageOf l word) word m) stray (misplaced (pageOf l word .alignment) address size) o (shut w (t .store) address) (getD (m .values) 31 0) address (codeOf t) status left
+      ≡ tested (marked l word m) stray (misplaced (l .alignment) address size) o (shut w (t .store) address) (getD (m .values) 31 0) address (codeOf t) status left
   unfolding accessStep admitOf
   step =
       let x = addressOf a (operandsOf a m) in
@@ -186,9 +185,9 @@ module _ (w : Window) (m : Machine) (top : w .origin + length (m .memory) ≤ 2 
       ∙ ap (λ (s : Step Machine). pick (operandsOf a m .tainted) (stopped TaintedAddress 0) (pick (misalignedStack (a .base) (operandsOf a m .base)) (stopped Misaligned (operandsOf a m .base)) s))
       (twice (misaligned (t .ordered) (totalOf t) x) (unaligned (t .exclusive) (totalOf t) x) x _)
       ∙ same-plan (λ tainted stray across out x. tested tainted stray across out (guarded (t .store) x w) (operandsOf a m .base) x (codeOf t) (statusOf t x (m .monitor)) (made x (statusOf t x (m .monitor)))) (g .mark) (g .stack) across out (g .first)
-      ∙ ap (λ (status : ℕ). tested (marked (pageOf l word) word m) stray (misplaced (pageOf l word .alignment) address size) o (guarded (t .store) address w) (operandsOf a m .base) address (codeOf t) status (made address status)) (g .told)
-      ∙ planned (operandsOf a m .base) (getD (m .values) 31 0) address (codeOf t) status (made address status) left (marked (pageOf l word) word m) stray
-      (misplaced (pageOf l word .alignment) address size) o (guarded (t .store) address w) (shut w (t .store) address) (g .pointer) guard effect
+      ∙ ap (λ (status : ℕ). tested (marked l word m) stray (misplaced (l .alignment) address size) o (guarded (t .store) address w) (operandsOf a m .base) address (codeOf t) status (made address status)) (g .told)
+      ∙ planned (operandsOf a m .base) (getD (m .values) 31 0) address (codeOf t) status (made address status) left (marked l word m) stray
+      (misplaced (l .alignment) address size) o (guarded (t .store) address w) (shut w (t .store) address) (g .pointer) guard effect
 
   -- with the test of the stack pointer, and what the page then does
   paged : (b store : Bool) → t .store ≡ store → stray ≡ b → Steps w m l word (faulty m b (access store address size status after))

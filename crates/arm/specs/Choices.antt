@@ -55,7 +55,7 @@ afterPage w word m page store address size status s =
       values = s .registers;
       pc = after (m .pc);
       memory = s .memory;
-      taints = marksOf (page .paired) (page .wback) (page .status) store status (page .extent) (w .origin) word address size (m .taints);
+      taints = marksOf (page .vector) (page .paired) (page .wback) (page .status) store status (page .extent) (w .origin) word address size (m .taints);
       monitor = s .monitor;
     }
 
@@ -76,10 +76,10 @@ chosen w word m page (access store address size status s) =
 abbrev pub armOf : Window → Machine → Arm
 armOf w m = record { registers = m .values; pc = m .pc; origin = w .origin; memory = m .memory; monitor = m .monitor }
 
--- 1 to 4, then the page of the word's row
+-- 1 to 4, then the page of the word's row, of vector registers where bit 26 is 1
 unfoldable pub armStep : Window → ℕ → Machine → Step Machine
 armStep w word m =
-    let page = pageOf (rowOf word) word in
+    let page = pageOf (eqb (field 26 26 word) 1) (rowOf word) word in
     pick (badStart w m) (stopped BadWindow 0)
     (pick (not (inSet word)) (stopped NotInSet 0)
     (pick (undefined word) (stopped Undefined 0)

@@ -5,6 +5,11 @@ pub mod Immediate
 pub mod Indexed
 pub mod Literal
 pub mod Pair
+pub mod VectorImmediate
+pub mod VectorUnscaled
+pub mod VectorIndexed
+pub mod VectorLiteral
+pub mod VectorPair
 pub mod Exclusive
 pub mod AcquireRelease
 pub mod Marks

@@ -28,6 +28,13 @@ marksAt n u = pick (eqb n 31) 0 (getD u n 0)
 abbrev pub setMarks : ℕ → ℕ → List ℕ → List ℕ
 setMarks n x u = pick (eqb n 31) u (set u n x)
 
+-- those of Rt and Rt2 of a page that moves vector registers: V0 to V31 stand behind SP, and each has marks
+abbrev pub movedMarks : Bool → ℕ → List ℕ → ℕ
+movedMarks vector n u = pick vector (getD u (32 + n) 0) (marksAt n u)
+
+abbrev pub setMoved : Bool → ℕ → ℕ → List ℕ → List ℕ
+setMoved vector n x u = pick vector (set u (32 + n) x) (setMarks n x u)
+
 -- the bytes in "the used part of the index (its low four for uxtw and sxtw)": options 010 and 110
 abbrev pub usedBytes : ℕ → ℕ
 usedBytes option = pick (eqb option 0b010 || eqb option 0b110) 4 8
@@ -51,16 +58,16 @@ storeMarks origin address (suc n) x k = storeMarks origin (address + 1) n (x / 2
 
 -- writeback leaves the base unmarked. A pair has half the bytes for each register, Rt first; what is loaded is extended with its
 -- sign to so many bytes. A store-exclusive unmarks Rs, and a status of 1 "changes no byte's mark"
-unfoldable pub marksOf : Bool → Bool → Bool → Bool → ℕ → ℕ → ℕ → ℕ → ℕ → ℕ → Taints → Taints
-marksOf paired wback hasStatus store status extent origin word address size p =
+unfoldable pub marksOf : Bool → Bool → Bool → Bool → Bool → ℕ → ℕ → ℕ → ℕ → ℕ → ℕ → Taints → Taints
+marksOf vector paired wback hasStatus store status extent origin word address size p =
     let t = field 4 0 word in
     let t2 = field 14 10 word in
     let each = pick paired (size / 2) size in
     let based = pick wback (set (p .registers) (field 9 5 word) 0) (p .registers) in
     let u = pick hasStatus (setMarks (field 20 16 word) 0 based) based in
-    let loaded = setMarks t (loadMarks origin address each (extent - each) 0 (p .bytes)) u in
-    let stored = storeMarks origin address each (marksAt t (p .registers)) (p .bytes) in
+    let loaded = setMoved vector t (loadMarks origin address each (extent - each) 0 (p .bytes)) u in
+    let stored = storeMarks origin address each (movedMarks vector t (p .registers)) (p .bytes) in
     record {
-      registers = pick store u (pick paired (setMarks t2 (loadMarks origin (address + each) each (extent - each) 0 (p .bytes)) loaded) loaded);
-      bytes = pick (store && eqb status 0) (pick paired (storeMarks origin (address + each) each (marksAt t2 (p .registers)) stored) stored) (p .bytes);
+      registers = pick store u (pick paired (setMoved vector t2 (loadMarks origin (address + each) each (extent - each) 0 (p .bytes)) loaded) loaded);
+      bytes = pick (store && eqb status 0) (pick paired (storeMarks origin (address + each) each (movedMarks vector t2 (p .registers)) stored) stored) (p .bytes);
     }

@@ -1,5 +1,5 @@
 -- The page of each row of the table, and what 01's and 02's rules ask of its registers and its address.
-use Prim.Native.Nat.{ℕ, _^_}
+use Prim.Native.Nat.{ℕ, _*_, _^_}
 use mathlib.Core.Bool.{Bool, true, false}
 use lib.Dec.{eqb}
 use Rattle.bits.specs.Choice.{pick}
@@ -13,6 +13,11 @@ use Rattle.arm.specs.Immediate.{postIndex, preIndex, unsigned}
 use Rattle.arm.specs.Indexed.{indexed}
 use Rattle.arm.specs.Literal.{literal}
 use Rattle.arm.specs.Pair.{pair}
+use Rattle.arm.specs.VectorImmediate.{vectorScale, vectorPostIndex, vectorPreIndex, vectorUnsigned}
+use Rattle.arm.specs.VectorUnscaled.{vectorUnscaled}
+use Rattle.arm.specs.VectorIndexed.{vectorIndexed}
+use Rattle.arm.specs.VectorLiteral.{vectorLiteral}
+use Rattle.arm.specs.VectorPair.{vectorPair}
 use Rattle.arm.specs.Exclusive.{loadExclusive, storeExclusive}
 use Rattle.arm.specs.AcquireRelease.{acquireRelease}
 
@@ -22,10 +27,11 @@ pub data Alignment : Type 0 where
   oneBlock : Alignment
   multiple : Alignment
 
--- whether Rn is a base, Rm an index and Rt2 a second register; whether the base is written back; whether Rs gets a status; to how
--- many bytes what is loaded is extended with its sign
+-- whether Rt and Rt2 are vector registers; whether Rn is a base, Rm an index and Rt2 a second register; whether the base is written
+-- back; whether Rs gets a status; to how many bytes what is loaded is extended with its sign
 pub record Page : Type 0 where
   pub operation : ℕ → Arm → Operation
+  pub vector : Bool
   pub based : Bool
   pub indexed : Bool
   pub paired : Bool
@@ -34,29 +40,39 @@ pub record Page : Type 0 where
   pub alignment : Alignment
   pub extent : ℕ
 
-abbrev page : (ℕ → Arm → Operation) → Bool → Bool → Bool → Bool → Bool → Alignment → ℕ → Page
-page operation based indexed paired wback status alignment extent =
-    record { operation = operation; based = based; indexed = indexed; paired = paired; wback = wback; status = status; alignment = alignment; extent = extent }
+abbrev page : Bool → (ℕ → Arm → Operation) → Bool → Bool → Bool → Bool → Bool → Alignment → ℕ → Page
+page vector operation based indexed paired wback status alignment extent =
+    record {
+      operation = operation;
+      vector = vector;
+      based = based;
+      indexed = indexed;
+      paired = paired;
+      wback = wback;
+      status = status;
+      alignment = alignment;
+      extent = extent;
+    }
 
 -- size and opc, "opc 01 loads with zeros above, 10 loads signed to 64 bits, 11 loads signed to 32 bits", and of literals and pairs,
--- whose opc 00 has 4 bytes, 01 4 that are signed to 64 bits, or 8, and 10 8, or those
-abbrev pub sizedExtent : ℕ → ℕ → ℕ
-sizedExtent size opc = pick (eqb (field 1 1 opc) 1) (pick (eqb (field 0 0 opc) 1) 4 8) (2 ^ size)
+-- whose opc 00 has 4 bytes, 01 4 that are signed to 64 bits, or 8, and 10 8, or those. A vector is not extended: those are its bytes
+abbrev pub sizedExtent : Bool → ℕ → ℕ → ℕ
+sizedExtent vector size opc = pick vector (2 ^ vectorScale size opc) (pick (eqb (field 1 1 opc) 1) (pick (eqb (field 0 0 opc) 1) 4 8) (2 ^ size))
 
-abbrev pub opcExtent : ℕ → ℕ
-opcExtent opc = pick (eqb opc 0b00) 4 8
+abbrev pub opcExtent : Bool → ℕ → ℕ
+opcExtent vector opc = pick vector (4 * 2 ^ opc) (pick (eqb opc 0b00) 4 8)
 
--- the two modes of a pair that write back have bit 23 in common
-abbrev pub pageOf : Row → ℕ → Page
-pageOf NoRow word = page (λ word s. hint) false false false false false anywhere 0
-pageOf LiteralRow word = page literal false false false false false anywhere (opcExtent (field 31 30 word))
-pageOf PairRow word = page pair true false true (eqb (field 23 23 word) 1) false anywhere (opcExtent (field 31 30 word))
-pageOf OrderedRow word = page ordered true false false false false oneBlock (sizedExtent (field 31 30 word) (field 23 22 word))
-pageOf UnscaledRow word = page unscaled true false false false false anywhere (sizedExtent (field 31 30 word) (field 23 22 word))
-pageOf PostRow word = page postIndex true false false true false anywhere (sizedExtent (field 31 30 word) (field 23 22 word))
-pageOf PreRow word = page preIndex true false false true false anywhere (sizedExtent (field 31 30 word) (field 23 22 word))
-pageOf RegisterRow word = page indexed true true false false false anywhere (sizedExtent (field 31 30 word) (field 23 22 word))
-pageOf UnsignedRow word = page unsigned true false false false false anywhere (sizedExtent (field 31 30 word) (field 23 22 word))
-pageOf LoadExclusiveRow word = page loadExclusive true false false false false multiple (2 ^ field 31 30 word)
-pageOf StoreExclusiveRow word = page storeExclusive true false false false true multiple (2 ^ field 31 30 word)
-pageOf AcquireReleaseRow word = page acquireRelease true false false false false oneBlock (2 ^ field 31 30 word)
+-- by bit 26. The two modes of a pair that write back have bit 23 in common
+abbrev pub pageOf : Bool → Row → ℕ → Page
+pageOf vector NoRow word = page vector (λ word s. hint) false false false false false anywhere 0
+pageOf vector LiteralRow word = page vector (pick vector vectorLiteral literal) false false false false false anywhere (opcExtent vector (field 31 30 word))
+pageOf vector PairRow word = page vector (pick vector vectorPair pair) true false true (eqb (field 23 23 word) 1) false anywhere (opcExtent vector (field 31 30 word))
+pageOf vector OrderedRow word = page false ordered true false false false false oneBlock (sizedExtent false (field 31 30 word) (field 23 22 word))
+pageOf vector UnscaledRow word = page vector (pick vector vectorUnscaled unscaled) true false false false false anywhere (sizedExtent vector (field 31 30 word) (field 23 22 word))
+pageOf vector PostRow word = page vector (pick vector vectorPostIndex postIndex) true false false true false anywhere (sizedExtent vector (field 31 30 word) (field 23 22 word))
+pageOf vector PreRow word = page vector (pick vector vectorPreIndex preIndex) true false false true false anywhere (sizedExtent vector (field 31 30 word) (field 23 22 word))
+pageOf vector RegisterRow word = page vector (pick vector vectorIndexed indexed) true true false false false anywhere (sizedExtent vector (field 31 30 word) (field 23 22 word))
+pageOf vector UnsignedRow word = page vector (pick vector vectorUnsigned unsigned) true false false false false anywhere (sizedExtent vector (field 31 30 word) (field 23 22 word))
+pageOf vector LoadExclusiveRow word = page false loadExclusive true false false false false multiple (2 ^ field 31 30 word)
+pageOf vector StoreExclusiveRow word = page false storeExclusive true false false false true multiple (2 ^ field 31 30 word)
+pageOf vector AcquireReleaseRow word = page false acquireRelease true false false false false oneBlock (2 ^ field 31 30 word)

@@ -39,7 +39,7 @@ Add x y = field 63 0 (x + y)
 
 -- ---- registers and memory
 
--- what the pages read and write: X0 to X30 and then SP; the program counter; bytes, the first at address `origin`; and the
+-- what the pages read and write: X0 to X30, then SP, and behind it the vector registers; the program counter; bytes, the first at address `origin`; and the
 -- exclusives monitor
 pub record Arm : Type 0 where
   pub registers : List ℕ
@@ -58,6 +58,14 @@ X n width s = pick (eqb n 31) 0 (field (width - 1) 0 (getD (s .registers) n 0))
 -- writing fewer than 64 bits clears those above; what is written to 31 is dropped
 unfoldable pub setX : ℕ → ℕ → ℕ → Arm → Arm
 setX n width v s = withRegisters (pick (eqb n 31) (s .registers) (set (s .registers) n (ZeroExtend width 64 v))) s
+
+-- V[n] of Arm: the low bits of V0 to V31, which stand behind SP
+unfoldable pub Vec : ℕ → ℕ → Arm → ℕ
+Vec n width s = field (width - 1) 0 (getD (s .registers) (32 + n) 0)
+
+-- writing fewer than 128 bits clears those above
+unfoldable pub setVec : ℕ → ℕ → ℕ → Arm → Arm
+setVec n width v s = withRegisters (set (s .registers) (32 + n) (ZeroExtend width 128 v)) s
 
 abbrev pub SP : Arm → ℕ
 SP s = getD (s .registers) 31 0

@@ -15,39 +15,67 @@ ghost use Rattle.execution.specs.Run.{result};
 ghost use Rattle.arm.specs.Choices.{badStart, armStep};
 
 // The machine's step, with a contract in Arm's terms.
-pub fn step(word: u32, state: State, window: Window, memory: &mut [u8], taint: &mut [u8]) -> Stepped
-    ensures { λ r. ⌜ outcome r (now (memory .exit)) (now (taint .exit)) ≡ leaves (armStep window word) (machineOf state (now (memory .entry)) (now (taint .entry))) ⌝ }
+pub fn step(
+    word: u32,
+    state: State,
+    vectors: [[u64; 2]; 32],
+    vector_taint: [[u64; 2]; 32],
+    window: Window,
+    memory: &mut [u8],
+    taint: &mut [u8],
+) -> Stepped
+    ensures { λ r. ⌜ outcome r vectors «vector_taint» (now (memory .exit)) (now (taint .exit)) ≡ leaves (armStep window word) (machineOf state vectors «vector_taint» (now (memory .entry)) (now (taint .entry))) ⌝ }
 {
-    real(state, memory, taint);
-    machine::step(word, state, window, memory, taint)
+    real(state, vectors, vector_taint, memory, taint);
+    machine::step(word, state, vectors, vector_taint, window, memory, taint)
 }
 
 // The run, with a contract in Arm's terms.
 pub fn run(
     words: &[u32],
     state: State,
+    vectors: &mut [[u64; 2]; 32],
+    vector_taint: &mut [[u64; 2]; 32],
     window: Window,
     memory: &mut [u8],
     taint: &mut [u8],
     trace: &mut [u64],
     statuses: &mut [u8],
 ) -> Ran
-    ensures { λ r. ⌜ result r (now (memory .exit)) (now (taint .exit)) (now (trace .exit)) (now (statuses .exit)) ≡ runOf (badStart window) (armStep window) (now (words .entry)) (machineOf state (now (memory .entry)) (now (taint .entry))) (log (now (trace .entry)) (now (statuses .entry))) ⌝ }
+    ensures { λ r. ⌜ result r (now (vectors .exit)) (now («vector_taint» .exit)) (now (memory .exit)) (now (taint .exit)) (now (trace .exit)) (now (statuses .exit)) ≡ runOf (badStart window) (armStep window) (now (words .entry)) (machineOf state (now (vectors .entry)) (now («vector_taint» .entry)) (now (memory .entry)) (now (taint .entry))) (log (now (trace .entry)) (now (statuses .entry))) ⌝ }
 {
-    real(state, memory, taint);
-    execution::run(words, state, window, memory, taint, trace, statuses)
+    real(state, *vectors, *vector_taint, memory, taint);
+    execution::run(
+        words,
+        state,
+        vectors,
+        vector_taint,
+        window,
+        memory,
+        taint,
+        trace,
+        statuses,
+    )
 }
 
 // The theorems are of machines that are `Real`. This says that whatever a step or a run can be handed is one: its types
 // hold no other.
-pub fn real(state: State, memory: &[u8], taint: &[u8])
-    ensures { λ r. ⌜ Real (machineOf state (now (memory .entry)) (now (taint .entry))) ⌝ }
+pub fn real(
+    state: State,
+    vectors: [[u64; 2]; 32],
+    vector_taint: [[u64; 2]; 32],
+    memory: &[u8],
+    taint: &[u8],
+)
+    ensures { λ r. ⌜ Real (machineOf state vectors «vector_taint» (now (memory .entry)) (now (taint .entry))) ⌝ }
 {
     let file = state.registers;
     let value = file.value;
     let marks = file.taint;
     values(&value);
     values(&marks);
+    vectors::held(vectors);
+    vectors::held(vector_taint);
     bytes(memory);
 }
 

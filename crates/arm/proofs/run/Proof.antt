@@ -17,7 +17,7 @@ run-spec =
     (λ c. search needs)
     (λ c. search needs)
     (λ c.
-    let a = c .before .before .before .before .before .before .before .before .before .before .before .before .before .before .before .before .before .before .before .before .before .args in
-    let m = machineOf (a .state) (a .memory .now) (a .taint .now) in
-    let real = c .before .before .before .before .before .before .before .before .before .before .before .before .before .real .ensures in
+    let a = c .before .before .before .before .before .before .before .before .before .before .before .before .before .before .before .before .before .before .before .before .before .before .before .before .before .args in
+    let m = machineOf (a .state) (a .vectors .now) (a .vector-taint .now) (a .memory .now) (a .taint .now) in
+    let real = c .before .before .before .before .before .before .before .before .before .before .before .before .before .before .before .real .ensures in
     rw (← run-as-arm (a .window) (a .words .now) m (log (a .trace .now) (a .statuses .now)) real) (c .before .before .before .before .before .before .before .before .run .ensures .0)))

@@ -15,6 +15,6 @@ step-spec =
     (λ c. search needs)
     (λ c.
     let a = c .before .before .before .before .before .before .before .before .before .before .before .before .args in
-    let m = machineOf (a .state) (a .memory .now) (a .taint .now) in
+    let m = machineOf (a .state) (a .vectors) (a .vector-taint) (a .memory .now) (a .taint .now) in
     let real = c .before .before .before .before .before .before .before .real .ensures in
     rw (← step-as-arm (a .window) (a .word) m real) (c .before .before .before .before .step .ensures)))
