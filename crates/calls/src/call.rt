@@ -22,6 +22,8 @@ pub fn put_call(
         7 => sessions::put_set_register(output, at, start, given),
         8 => sessions::put_opened(output, at, start, given),
         9 => sessions::put_observed(output, at, start, given),
+        10 => sessions::put_vector(output, at, start, given),
+        11 => sessions::put_set_vector(output, at, start, given),
         _ => ascii::put_text(output, at, b"no such call\n"),
     }
 }

@@ -3,8 +3,10 @@ use crate::call;
 use crate::head;
 ghost use Prim.Native.Nat.{_≤_};
 
-// What a case has at most, of either.
-const MOST: u64 = 512;
+// What a case has at most: bytes that are given, and of the lent buffer.
+const MOST_GIVEN: u64 = 1024;
+
+const MOST_ROOM: u64 = 512;
 
 // Answers the next case of the input, and says whether to go on: not where the input ends, nor after a case that is
 // cut short or too large, nor after a write that failed.
@@ -20,7 +22,7 @@ pub fn answer(number: u64, output: &mut [u8]) -> bool {
     }
     let given = head::given(&start);
     let room = head::room(&start);
-    if given > MOST || room > MOST {
+    if given > MOST_GIVEN || room > MOST_ROOM {
         fields::remark(output, number, b"too large");
         return false;
     }
@@ -29,9 +31,9 @@ pub fn answer(number: u64, output: &mut [u8]) -> bool {
 
 // A case within the limits.
 fn answer_sized(number: u64, start: &[u8], given: usize, room: usize, output: &mut [u8]) -> bool
-    requires { ⌜ (given ≤ 512) × (room ≤ 512) ⌝ }
+    requires { ⌜ (given ≤ 1024) × (room ≤ 512) ⌝ }
 {
-    let mut bytes = [0u8; 512];
+    let mut bytes = [0u8; 1024];
     let mut buffer = [u8::MAX; 512];
     answer_in(
         number,

@@ -1,5 +1,7 @@
 // Bytes of standard input, and the numbers in them, little-endian. Past the end of the bytes there is nothing but 0.
 use registers::Registers;
+use vectors::Halves;
+ghost use Prim.Native.Nat.{_≤_};
 
 // Says whether the input had as many.
 pub fn fill(bytes: &mut [u8]) -> bool {
@@ -24,6 +26,34 @@ pub fn registers(bytes: &[u8]) -> Registers {
     while n < 32 {
         let i = n as usize;
         let next = file.set(n, number(bytes, 8 * i, 8), number(bytes, 256 + 8 * i, 8));
+        file = next;
+        n += 1;
+    }
+    file
+}
+
+// The vector registers: 32 of two numbers each, the low half first.
+pub fn vectors(bytes: &[u8]) -> [[u64; 2]; 32] {
+    file_at(bytes, 0)
+}
+
+// And behind them their taints, likewise.
+pub fn vector_taint(bytes: &[u8]) -> [[u64; 2]; 32] {
+    file_at(bytes, 512)
+}
+
+fn file_at(bytes: &[u8], at: usize) -> [[u64; 2]; 32]
+    requires { ⌜ at ≤ 512 ⌝ }
+{
+    let mut file = [[0u64; 2]; 32];
+    let mut n = 0;
+    while n < 32 {
+        let low_at = at + 16 * (n as usize);
+        let halves = Halves {
+            low: number(bytes, low_at, 8),
+            high: number(bytes, low_at + 8, 8),
+        };
+        let next = vectors::set(file, n, halves);
         file = next;
         n += 1;
     }

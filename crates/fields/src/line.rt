@@ -1,6 +1,7 @@
 // Fields put into an output at a position, each behind its tab. They answer the position behind the field.
 use machine::Monitor;
 use registers::Registers;
+use vectors::Halves;
 
 // A line that says something of a case.
 pub fn remark(output: &mut [u8], number: u64, what: &[u8]) -> bool {
@@ -64,6 +65,39 @@ fn put_register(output: &mut [u8], at: usize, value: u64, taints: u64) -> usize 
     }
     let star_end = ascii::put_byte(output, value_end, b'*');
     put_taints(output, star_end, taints)
+}
+
+// A line of 32 fields likewise, the high half first.
+pub fn put_vectors(
+    output: &mut [u8],
+    at: usize,
+    vectors: [[u64; 2]; 32],
+    vector_taint: [[u64; 2]; 32],
+) -> usize {
+    let mut end = ascii::put_text(output, at, b"vectors");
+    let mut n = 0;
+    while n < 32 {
+        end = put_vector(
+            output,
+            end,
+            vectors::get(vectors, n),
+            vectors::get(vector_taint, n),
+        );
+        n += 1;
+    }
+    ascii::put_byte(output, end, b'\n')
+}
+
+fn put_vector(output: &mut [u8], at: usize, value: Halves, taint: Halves) -> usize {
+    let tab_end = ascii::put_byte(output, at, b'\t');
+    let high_end = put_hex(output, tab_end, value.high, 16);
+    let low_end = put_hex(output, high_end, value.low, 16);
+    if taint.high == 0 && taint.low == 0 {
+        return low_end;
+    }
+    let star_end = ascii::put_byte(output, low_end, b'*');
+    let high_taints_end = put_taints(output, star_end, taint.high);
+    put_taints(output, high_taints_end, taint.low)
 }
 
 // A digit for each byte, 1 where it is tainted, byte 7 first.

@@ -1,5 +1,6 @@
-// A case of the input, little-endian: ten numbers, the 32 registers and a number of taints for each, the words, memory, and
-// its taint bytes. It is read piece by piece into buffers that its sizes are tested against, and done twice from its start.
+// A case of the input, little-endian: ten numbers, the 32 registers and a number of taints for each, the 32 vector registers of
+// two numbers each and as many for their taints, the words, memory, and its taint bytes. It is read piece by piece into buffers
+// that its sizes are tested against, and done twice from its start.
 use crate::show;
 use crate::steps;
 use host::RunReply;
@@ -78,11 +79,11 @@ fn head_of(bytes: &[u8]) -> Head {
 fn replay_sized(number: u64, head: Head, output: &mut [u8], again: &mut [u8]) -> bool
     requires { ⌜ (head .words ≤ 512) × (head .memory ≤ 4096) × (head .taint ≤ 4096) × (head .trace ≤ 1024) × (head .statuses ≤ 512) ⌝ }
 {
-    // The registers with their taints, and 512 words.
-    let mut start = [0u8; 2560];
+    // The registers and the vector registers with their taints, and 512 words.
+    let mut start = [0u8; 3584];
     let mut memory = io::buffer();
     let mut taint = io::buffer();
-    let start_end = 512 + 4 * head.words;
+    let start_end = 1536 + 4 * head.words;
     let memory_end = head.memory;
     let taint_end = head.taint;
     if !read_rest(
@@ -111,7 +112,7 @@ fn read_rest(start: &mut [u8], memory: &mut [u8], taint: &mut [u8]) -> bool {
 fn replay_read(
     number: u64,
     head: Head,
-    start: [u8; 2560],
+    start: [u8; 3584],
     memory: [u8; 4096],
     taint: [u8; 4096],
     output: &mut [u8],
@@ -147,16 +148,18 @@ fn put_case(
     output: &mut [u8],
     number: u64,
     head: Head,
-    start: [u8; 2560],
+    start: [u8; 3584],
     mut memory: [u8; 4096],
     mut taint: [u8; 4096],
     by_steps: bool,
 ) -> usize
     requires { ⌜ (head .words ≤ 512) × (head .memory ≤ 4096) × (head .taint ≤ 4096) × (head .trace ≤ 1024) × (head .statuses ≤ 512) ⌝ }
 {
+    let mut vectors = fields::vectors(&start[512..1536]);
+    let mut vector_taint = fields::vector_taint(&start[512..1536]);
     let mut trace = [u64::MAX; 1024];
     let mut statuses = [u8::MAX; 512];
-    let start_end = 512 + 4 * head.words;
+    let start_end = 1536 + 4 * head.words;
     let memory_end = head.memory;
     let taint_end = head.taint;
     let trace_end = head.trace;
@@ -166,6 +169,8 @@ fn put_case(
         number,
         head,
         &start[0..start_end],
+        &mut vectors,
+        &mut vector_taint,
         &mut memory[0..memory_end],
         &mut taint[0..taint_end],
         &mut trace[0..trace_end],
@@ -180,6 +185,8 @@ fn put_done(
     number: u64,
     head: Head,
     start: &[u8],
+    vectors: &mut [[u64; 2]; 32],
+    vector_taint: &mut [[u64; 2]; 32],
     memory: &mut [u8],
     taint: &mut [u8],
     trace: &mut [u64],
@@ -188,13 +195,35 @@ fn put_done(
 ) -> usize
     requires { ⌜ head .words ≤ 512 ⌝ }
 {
-    let ran = done(head, start, memory, taint, trace, statuses, by_steps);
-    show::put_case(output, number, ran, memory, taint, trace, statuses)
+    let ran = done(
+        head,
+        start,
+        vectors,
+        vector_taint,
+        memory,
+        taint,
+        trace,
+        statuses,
+        by_steps,
+    );
+    show::put_case(
+        output,
+        number,
+        ran,
+        *vectors,
+        *vector_taint,
+        memory,
+        taint,
+        trace,
+        statuses,
+    )
 }
 
 fn done(
     head: Head,
     start: &[u8],
+    vectors: &mut [[u64; 2]; 32],
+    vector_taint: &mut [[u64; 2]; 32],
     memory: &mut [u8],
     taint: &mut [u8],
     trace: &mut [u64],
@@ -219,6 +248,8 @@ fn done(
         return steps::run(
             &words[0..count],
             state,
+            vectors,
+            vector_taint,
             origin,
             readonly,
             memory,
@@ -230,6 +261,8 @@ fn done(
     host::milestarling_run(
         &words[0..count],
         state,
+        vectors,
+        vector_taint,
         origin,
         readonly,
         memory,
@@ -239,7 +272,7 @@ fn done(
     )
 }
 
-// The words behind the registers, as many as said.
+// The words behind the registers of both kinds, as many as said.
 fn words_of(start: &[u8], count: usize) -> [u32; 512]
     requires { ⌜ count ≤ 512 ⌝ }
     ensures { λ r. ⌜ 512 ≡ length r ⌝ }
@@ -247,7 +280,7 @@ fn words_of(start: &[u8], count: usize) -> [u32; 512]
     let mut words = [0u32; 512];
     let mut i = 0;
     while i < count {
-        words[i] = (fields::number(start, 512 + 4 * i, 4) % 0x1_0000_0000) as u32;
+        words[i] = (fields::number(start, 1536 + 4 * i, 4) % 0x1_0000_0000) as u32;
         i += 1;
     }
     words

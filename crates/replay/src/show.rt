@@ -1,4 +1,4 @@
-// The lines of a case, put into an output one behind the other. The largest case takes less than 40,000 bytes, for which
+// The lines of a case, put into an output one behind the other. The largest case takes less than 42,000 bytes, for which
 // an output has room.
 use host::RunReply;
 
@@ -6,17 +6,17 @@ pub fn put_case(
     output: &mut [u8],
     number: u64,
     ran: RunReply,
+    vectors: [[u64; 2]; 32],
+    vector_taint: [[u64; 2]; 32],
     memory: &[u8],
     taint: &[u8],
     trace: &[u64],
     statuses: &[u8],
 ) -> usize {
     let state = ran.session;
-    let registers = state.registers;
     let monitor = state.monitor;
-    let ran_end = put_ran(output, number, ran);
-    let registers_end = fields::put_registers(output, ran_end, registers);
-    let memory_end = fields::put_bytes(output, registers_end, b"memory", memory);
+    let vectors_end = put_registers(output, number, ran, vectors, vector_taint);
+    let memory_end = fields::put_bytes(output, vectors_end, b"memory", memory);
     let taint_end = fields::put_bytes(output, memory_end, b"taint", taint);
     let trace_end = fields::put_numbers(output, taint_end, b"trace", trace);
     let monitor_end = fields::put_monitor(output, trace_end, monitor);
@@ -32,6 +32,21 @@ pub fn is_same(one: &[u8], one_end: usize, other: &[u8], other_end: usize) -> bo
         return false;
     }
     check::same(&one[0..one_end], &other[0..other_end])
+}
+
+// The first line, and those of the registers of both kinds.
+fn put_registers(
+    output: &mut [u8],
+    number: u64,
+    ran: RunReply,
+    vectors: [[u64; 2]; 32],
+    vector_taint: [[u64; 2]; 32],
+) -> usize {
+    let state = ran.session;
+    let registers = state.registers;
+    let ran_end = put_ran(output, number, ran);
+    let registers_end = fields::put_registers(output, ran_end, registers);
+    fields::put_vectors(output, registers_end, vectors, vector_taint)
 }
 
 fn put_ran(output: &mut [u8], number: u64, ran: RunReply) -> usize {

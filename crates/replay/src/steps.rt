@@ -8,6 +8,8 @@ use session::StepReply;
 pub fn run(
     words: &[u32],
     start: State,
+    vectors: &mut [[u64; 2]; 32],
+    vector_taint: &mut [[u64; 2]; 32],
     origin: u64,
     readonly: u64,
     memory: &mut [u8],
@@ -19,7 +21,16 @@ pub fn run(
     let mut i = 0;
     while i < words.len() {
         let state = lent.state;
-        let next = lending::step(words[i], state, origin, readonly, memory, taint);
+        let next = lending::step(
+            words[i],
+            state,
+            vectors,
+            vector_taint,
+            origin,
+            readonly,
+            memory,
+            taint,
+        );
         lent = next;
         if !note(trace, statuses, i, next) {
             return reply_of(i, next);
