@@ -22,6 +22,9 @@ are `case` with its number from 0, then fields parted by tabs:
     7, 8, 9             set_register, opened or observed, program counter; registers; monitor; as in replay_format.py. The
                         numbers are program counter, monitor, and then register, value, marks, or code, address, status;
                         the bytes are the registers and a number of taints for each
+    10                  vector, low and high half, taints of each; the number is the register's
+    11                  set_vector; vectors, as in replay_format.py; the numbers are the register's, both halves, their taints;
+                        either has the bytes of 32 vector registers, the low half first, and as many of their taints
 
 Numbers below 0 are shown in two's complement. Input that ends inside a case gives the one line `case`, number, `cut short`.
 """
@@ -33,12 +36,12 @@ from typing import NamedTuple
 
 from aarch64_reader import read_line, record_of
 from aarch64_rules import is_valid, packed, path_of, write
-from aarch64_text import EXCLUSIVE, EXCLUSIVES, LITERAL, PAIR, REGISTER, Record
+from aarch64_text import EXCLUSIVE, EXCLUSIVES, LITERAL, LITERAL_NAMES, PAIR, PAIR_NAMES, REGISTER, SIZED_NAMES, Record
 from replay_states import MODEL, access_of, is_unpredictable
 
 SEED = 9
 SPACE, UNTOUCHED = 1 << 64, 255
-WORD, READ, ENCODE, LIST, PUSH, CLOSE, SET, OPENED, OBSERVED = range(1, 10)
+WORD, READ, ENCODE, LIST, PUSH, CLOSE, SET, OPENED, OBSERVED, VECTOR, SET_VECTOR = range(1, 12)
 # A text as long as any.
 LONGEST = 0xf8aa5940
 # The data cache operations that set a block of memory or its tags, without their register.
@@ -94,6 +97,13 @@ class Session(NamedTuple):
     taints: tuple
 
 
+class Vectors(NamedTuple):
+    """Of each register two halves, the low one first."""
+    values: tuple
+    # Numbers likewise, a byte of them for each byte of the register.
+    taints: tuple
+
+
 def plain_of(record):
     access = access_of(packed(record))
     by_family = {PAIR: dict(second=record.second, mode=record.mode),
@@ -114,12 +124,12 @@ def record_from(plain):
 
 def is_operation(family, operation, mode):
     if family == LITERAL:
-        return operation < 4
+        return operation in LITERAL_NAMES
     if family == PAIR:
-        return operation in (0, 1, 3, 4, 5) and mode < 4
+        return operation in PAIR_NAMES and mode < 4
     if family == EXCLUSIVE:
         return operation < 32 and operation % 8 in EXCLUSIVES
-    return LITERAL < family < EXCLUSIVE and operation < 15 and operation != 11
+    return LITERAL < family < EXCLUSIVE and operation in SIZED_NAMES
 
 
 class Library:
@@ -196,6 +206,18 @@ class Library:
         registers[n], taints[n] = value, marks
         return session._replace(registers=tuple(registers), taints=tuple(taints))
 
+    # Vector registers: one above 31 reads 0, untainted, and sets nothing.
+
+    def vector(self, vectors, n):
+        return (*vectors.values[n], *vectors.taints[n]) if n < 32 else (0, 0, 0, 0)
+
+    def set_vector(self, vectors, n, *numbers):
+        if n > 31:
+            return vectors
+        values, taints = list(vectors.values), list(vectors.taints)
+        values[n], taints[n] = numbers[:2], numbers[2:]
+        return Vectors(tuple(values), tuple(taints))
+
     def opened(self, session):
         return session._replace(address=0, size=0)
 
@@ -229,8 +251,28 @@ def session_of(case):
     return Session(*case.numbers[:3], numbers[:32], numbers[32:])
 
 
-def taints_text(marks):
-    return '*' + ''.join('01'[byte != 0] for byte in marks.to_bytes(8, 'big')) if marks else ''
+def vectors_bytes(vectors):
+    return struct.pack('<128Q', *[half for halves in vectors.values + vectors.taints for half in halves])
+
+
+def vectors_of(case):
+    numbers = struct.unpack('<128Q', case.given)
+    halves = tuple(zip(numbers[::2], numbers[1::2]))
+    return Vectors(halves[:32], halves[32:])
+
+
+def taints_text(marks, width=8):
+    return '*' + ''.join('01'[byte != 0] for byte in marks.to_bytes(width, 'big')) if marks else ''
+
+
+def number_of(halves):
+    low, high = halves
+    return high << 64 | low
+
+
+def vectors_lines(name, vectors):
+    registers = ['%032x%s' % (number_of(value), taints_text(number_of(taint), 16)) for value, taint in zip(*vectors)]
+    return [[name], ['vectors', *registers]]
 
 
 def session_lines(name, session):
@@ -270,6 +312,10 @@ def lines_of(library, case):
         return lister_lines('push', library.push(Lister(*case.numbers), case.given, buffer))
     if case.what == CLOSE:
         return lister_lines('close', library.close(Lister(*case.numbers), buffer))
+    if case.what == VECTOR:
+        return [['vector', *library.vector(vectors_of(case), *case.numbers)]]
+    if case.what == SET_VECTOR:
+        return vectors_lines('set_vector', library.set_vector(vectors_of(case), *case.numbers))
     session, arguments = session_of(case), case.numbers[3:]
     if case.what == SET:
         return session_lines('set_register', library.set_register(session, *arguments))
@@ -391,9 +437,13 @@ def lister_cases(rng):
         yield Case('listers with other bytes', CLOSE, room=12, numbers=lister)
 
 
+def any_marks(rng):
+    return rng.getrandbits(64) & rng.choice((0, SPACE - 1, 0xff, 0xff << 56, 0x0101010101010101))
+
+
 def any_session(rng, address=0, size=0):
     return Session(rng.getrandbits(64), address, size, tuple(rng.getrandbits(64) for _ in range(32)),
-                   tuple(rng.getrandbits(64) & rng.choice((0, SPACE - 1, 0xff, 0xff << 56, 0x0101010101010101)) for _ in range(32)))
+                   tuple(any_marks(rng) for _ in range(32)))
 
 
 def session_case(group, what, session, *arguments):
@@ -405,6 +455,20 @@ def register_cases(rng):
         for marks in (0, 1, 0x0101010101010101, 0x80 << 56, SPACE - 1):
             value = rng.choice((0, SPACE - 1, rng.getrandbits(64)))
             yield session_case('registers', SET, any_session(rng, rng.getrandbits(64), rng.getrandbits(3)), n, value, marks)
+
+
+def any_vectors(rng):
+    return Vectors(tuple((rng.getrandbits(64), rng.getrandbits(64)) for _ in range(32)),
+                   tuple((any_marks(rng), any_marks(rng)) for _ in range(32)))
+
+
+def vector_cases(rng):
+    for n in (0, 1, 15, 30, 31, 32, 33, 63, 64, 1 << 31, (1 << 32) - 1):
+        for _ in range(3):
+            yield Case('vectors read', VECTOR, vectors_bytes(any_vectors(rng)), numbers=(n,))
+        for marks in ((0, 0), (1, 0), (0, 1), (0x0101010101010101, 0x80 << 56), (SPACE - 1, SPACE - 1)):
+            halves = rng.choice(((0, SPACE - 1), (SPACE - 1, 0), (rng.getrandbits(64), rng.getrandbits(64))))
+            yield Case('vectors set', SET_VECTOR, vectors_bytes(any_vectors(rng)), numbers=(n, *halves, *marks))
 
 
 def monitor_cases(rng):
@@ -431,7 +495,7 @@ def monitor_cases(rng):
 
 def all_cases():
     rng = random.Random(SEED)
-    makers = word_cases, read_cases, encode_cases, list_cases, lister_cases, register_cases, monitor_cases
+    makers = word_cases, read_cases, encode_cases, list_cases, lister_cases, register_cases, monitor_cases, vector_cases
     return [case for maker in makers for case in maker(rng)]
 
 
@@ -512,6 +576,43 @@ def always_opened(reply, arguments):
     return Library().opened(arguments[0])
 
 
+def halves_exchanged(reply, _):
+    return (reply[1], reply[0], reply[3], reply[2])
+
+
+def marks_for_value(reply, _):
+    return reply[2:] + reply[:2]
+
+
+def marks_of_a_half(reply, _):
+    return (*reply[:3], reply[2])
+
+
+def by_32(reply, arguments):
+    return Library().vector(arguments[0], arguments[1] % 32)
+
+
+def set_by_32(reply, arguments):
+    return Library().set_vector(arguments[0], arguments[1] % 32, *arguments[2:])
+
+
+def halves_set_exchanged(reply, arguments):
+    vectors, n, low, high, *marks = arguments
+    return Library().set_vector(vectors, n, high, low, *marks)
+
+
+def vector_marks_kept(reply, arguments):
+    return reply._replace(taints=arguments[0].taints)
+
+
+def vectors_as_they_were(reply, arguments):
+    return arguments[0]
+
+
+def set_31_as_zero(reply, arguments):
+    return arguments[0] if arguments[1] == 31 else reply
+
+
 WRONG = [replying(done_always, name) for name in REFUSING] + [replying(refused_says_more, name) for name in ('encode', *BUFFERED)]
 WRONG += [replying(change, name) for change in (refused_changes_the_buffer, answer_for_length, rest_cleared) for name in BUFFERED]
 WRONG += [replying(answer_for_length, name) for name in ('encode', 'word')]
@@ -521,6 +622,11 @@ WRONG += [replying(change, name) for change in (monitor_exchanged, counter_lost)
           if (change, name) != (monitor_exchanged, 'opened')]
 WRONG += [replying(session_as_it_was, name) for name in ('set_register', 'opened', 'observed')]
 WRONG += [replying(change, 'set_register') for change in (marks_kept, lowest_mark_alone)] + [replying(always_opened, 'observed')]
+
+
+WRONG += [replying(change, 'vector') for change in (halves_exchanged, marks_for_value, marks_of_a_half, by_32)]
+WRONG += [replying(change, 'set_vector')
+          for change in (set_by_32, halves_set_exchanged, vector_marks_kept, vectors_as_they_were, set_31_as_zero)]
 
 
 class WrapsRound(Library):
