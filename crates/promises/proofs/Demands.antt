@@ -69,6 +69,7 @@ use Rattle.stream.proofs.Calls.{streamed, call-answer, call-closed, call-open, 
 use Rattle.promises.specs.Answered.{oneOf, Each}
 use Rattle.promises.specs.Demands.{NotBegun, Demand1, Demand2, Demand3, Requests}
 use Rattle.promises.proofs.Answered.{by-definition, step-number, run-number, encode-number, read-answered}
+use Rattle.promises.proofs.Vectors.{vector-four, load-clears}
 
 decode-answer : (member wrong : Bool) → answerNumber (pick member (pick wrong Undefined Done) NotInSet) ≡ answerNumber (pick (not member) NotInSet (pick wrong Undefined Done))
 decode-answer true true = refl
@@ -323,4 +324,6 @@ requests =
       decimal-hints = decimal-hints;
       lent-step = step-exact;
       lent-register = register-exact;
+      vector-four = vector-four;
+      load-clears = load-clears;
     }

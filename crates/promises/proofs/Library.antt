@@ -1,14 +1,15 @@
 -- What the library promises: a contract is an equation between what a call returns and leaves and what a definition gives, and
 -- each line is a part of it, or a theorem of the machine carried over it. Assumes nothing.
-use Prim.Native.Nat.{ℕ, _*_}
+use Prim.Native.Nat.{ℕ, _*_, _≤_, _<_}
 use mathlib.Core.Path.{_≡_, refl, sym, ap, subst, _∙_}
 use mathlib.Core.Bool.{Bool, true, false, _||_}
-use mathlib.Core.List.{List, [], _∷_}
+use mathlib.Core.List.{List, [], _∷_, _++_, map}
 use mathlib.Core.Logic.{_↔_, _⊎_, inl, inr}
 use native.Mathlib.Omega.{arith}
 use borrow.Author.Tests.{eqb-true, eq-eqb}
 use lib.Dec.{eqb}
-use lib.ListN.{take}
+use lib.ListN.{length, take, drop, List·getD-eq-default}
+use lib.Seq.{take-at, drop-at, set-out, getD-set-same, getD-set-other}
 use Rattle.bits.specs.Choice.{pick, any}
 use Rattle.bits.specs.Fields.{field, bits}
 use Rattle.bits.proofs.Choices.{both}
@@ -16,8 +17,11 @@ use Rattle.bits.proofs.Parts.{has-true}
 use Rattle.instruction.specs.declared.answer.Answer.{Answer}
 use Rattle.instruction.specs.Answers.{answerNumber}
 use Rattle.instruction.specs.Table.{inSet}
+use Rattle.vectors.specs.declared.Halves.{Halves}
+use Rattle.vectors.specs.File.{wide, withVector, Held}
 use Rattle.plan.specs.declared.window.Window.{Window}
 use Rattle.machine.specs.declared.Shown.{Shown}
+use Rattle.machine.specs.declared.State.{State}
 use Rattle.machine.specs.Rule.{wordRule}
 use Rattle.machine.specs.Machine.{Machine, machineOf}
 use Rattle.machine.specs.Refusals.{bad}
@@ -25,8 +29,9 @@ use Rattle.machine.specs.Step.{Step, stopped, moved, Outcome, stepOf, performed
 use Rattle.machine.proofs.Answers.{answers-exact, refused-unchanged, step-refuses}
 use Rattle.machine.proofs.Taints.{taints-by-rule}
 use Rattle.session.specs.declared.StepReply.{StepReply}
-use Rattle.session.specs.Lent.{Lent, replyOf}
-use Rattle.session.proofs.Exact.{stateIn}
+use Rattle.session.specs.Vector.{vectorAt}
+use Rattle.session.specs.Lent.{Lent, Holding, replyOf}
+use Rattle.session.proofs.Exact.{state-same, vectors-same, vector-taint-same}
 use Rattle.secrecy.specs.Shows.{Shows}
 use Rattle.secrecy.proofs.Halves.{secret}
 use Rattle.execution.specs.Walk.{Log, log, Result, notBegun, runOf, afterSteps}
@@ -56,17 +61,26 @@ use Rattle.promises.proofs.Demands.{not-both, step-marks}
 carried : {A : Type 0} (R : A → A → Type 0) {x y t u : A} → x ≡ t → y ≡ u → R t u → R x y
 carried R e f h = rw (e, f) h
 
+-- ---- what is held of the machine's registers
+
+held-part : {xs : List ℕ} (x : List ℕ) (vs : List (List ℕ)) → length x ≡ 32 → x ++ map wide vs ≡ xs → (x ≡ take 32 xs) × (map wide vs ≡ drop 32 xs)
+held-part x vs l e = (sym (take-at x (map wide vs) 32 l) ∙ ap (take 32) e, sym (drop-at x (map wide vs) 32 l) ∙ ap (drop 32) e)
+
 -- ---- a step
 
 step-gives : (c : StepCall) → StepGives c (performed (stepStart c) (stepOf (c .window) (c .word) (stepStart c)))
 step-gives c =
+    let (values, vectors) = held-part (c .session′ .registers .value) (c .vectors′) (c .held′ .values) (ap (λ (l : Lent). l .machine .values) (c .allowed)) in
+    let (marks, vector-marks) = held-part (c .session′ .registers .taint) (c .vector-taint′) (c .held′ .taints) (ap (λ (l : Lent). l .machine .taints .registers) (c .allowed)) in
     record {
       answer = omega (arith, ap (λ (l : Lent). l .reply .answer) (c .allowed));
       code = omega (arith, ap (λ (l : Lent). l .reply .code) (c .allowed));
       address = omega (arith, ap (λ (l : Lent). l .reply .address) (c .allowed));
       status = omega (arith, ap (λ (l : Lent). l .reply .status) (c .allowed));
-      values = ap (λ (l : Lent). l .machine .values) (c .allowed);
-      marks = ap (λ (l : Lent). l .machine .taints .registers) (c .allowed);
+      values = values;
+      marks = marks;
+      vectors = vectors;
+      vector-marks = vector-marks;
       pc = ap (λ (l : Lent). l .machine .pc) (c .allowed);
       monitor = ap (λ (l : Lent). l .machine .monitor) (c .allowed);
       memory = ap (λ (l : Lent). l .machine .memory) (c .allowed);
@@ -75,6 +89,17 @@ step-gives c =
 
 step-unchanged : (c : StepCall) → ¬ (c .reply .answer ≡ 0) → stepEnd c ≡ stepStart c
 step-unchanged c h = ap (λ (l : Lent). l .machine) (c .allowed) ∙ refused-unchanged (c .window) (c .word) (stepStart c) (λ e. h (step-gives c .answer ∙ e))
+
+step-kept : (c : StepCall) → ¬ (c .reply .answer ≡ 0)
+    → (c .session′ ≡ c .session) × (c .vectors′ ≡ c .vectors) × (c .vector-taint′ ≡ c .vector-taint) × (c .memory′ ≡ c .memory) × (c .taint′ ≡ c .taint)
+step-kept c h =
+    let same = step-unchanged c h in (
+      state-same (c .held′) (c .held) same,
+      vectors-same (c .held′) (c .held) same,
+      vector-taint-same (c .held′) (c .held) same,
+      ap (λ (m : Machine). m .memory) same,
+      ap (λ (m : Machine). m .taints .bytes) same,
+    )
 
 record ShowsLent (l k : Lent) : Type 0 where
   reply : l .reply ≡ k .reply
@@ -109,17 +134,44 @@ done-marks c e =
     ∙ step-marks (wordRule (c .window .origin) (c .word)) m s (step-refuses (c .window) (c .word) m) (taints-by-rule (c .window) (c .word) m)
     ∙ rw done (ap (λ (s : Shown). wordRule (c .window .origin) (c .word) s (m .taints)) shown)
 
+-- ---- a vector register
+
+vector-set : (vectors vector-taint : List (List ℕ)) (n : ℕ) (value marks : Halves) → Held vectors → Held vector-taint → n < 32
+    → vectorAt (withVector vectors n value) (withVector vector-taint n marks) n ≡ record { low = value .low; high = value .high; «taint_low» = marks .low; «taint_high» = marks .high }
+vector-set vectors vector-taint n value marks h g l =
+    rw (getD-set-same vectors n (value .low ∷ value .high ∷ []) [] (omega (arith, h .count)), getD-set-same vector-taint n (marks .low ∷ marks .high ∷ []) [] (omega (arith, g .count)))
+
+vector-other : (vectors vector-taint : List (List ℕ)) (n i : ℕ) (value marks : Halves) → ¬ (i ≡ n)
+    → vectorAt (withVector vectors n value) (withVector vector-taint n marks) i ≡ vectorAt vectors vector-taint i
+vector-other vectors vector-taint n i value marks h =
+    rw (getD-set-other vectors n i (value .low ∷ value .high ∷ []) [] h, getD-set-other vector-taint n i (marks .low ∷ marks .high ∷ []) [] h)
+
+vector-above : (vectors vector-taint : List (List ℕ)) (n : ℕ) (value marks : Halves) → Held vectors → Held vector-taint → 31 < n
+    → (withVector vectors n value ≡ vectors) × (withVector vector-taint n marks ≡ vector-taint)
+    × (vectorAt vectors vector-taint n ≡ record { low = 0; high = 0; «taint_low» = 0; «taint_high» = 0 })
+vector-above vectors vector-taint n value marks h g l =
+    let out : length vectors ≤ n = omega (arith, h .count) in
+    let also : length vector-taint ≤ n = omega (arith, g .count) in (
+      set-out vectors n (value .low ∷ value .high ∷ []) out,
+      set-out vector-taint n (marks .low ∷ marks .high ∷ []) also,
+      rw (List·getD-eq-default vectors [] out, List·getD-eq-default vector-taint [] also),
+    )
+
 -- ---- a run
 
 run-gives : (c : RunCall) → RunGives c (machineRun (c .window) (c .words) (runStart c) (lentLog c))
 run-gives c =
+    let (values, vectors) = held-part (c .reply .session .registers .value) (c .after .vectors) (c .held′ .values) (ap (λ (h : Hosted). h .machine .values) (c .allowed)) in
+    let (marks, vector-marks) = held-part (c .reply .session .registers .taint) (c .after .vector-taint) (c .held′ .taints) (ap (λ (h : Hosted). h .machine .taints .registers) (c .allowed)) in
     record {
       answer = ap (λ (h : Hosted). h .answer) (c .allowed);
       code = ap (λ (h : Hosted). h .code) (c .allowed);
       address = ap (λ (h : Hosted). h .address) (c .allowed);
       steps = ap (λ (h : Hosted). h .steps) (c .allowed);
-      values = ap (λ (h : Hosted). h .machine .values) (c .allowed);
-      marks = ap (λ (h : Hosted). h .machine .taints .registers) (c .allowed);
+      values = values;
+      marks = marks;
+      vectors = vectors;
+      vector-marks = vector-marks;
       pc = ap (λ (h : Hosted). h .machine .pc) (c .allowed);
       monitor = ap (λ (h : Hosted). h .machine .monitor) (c .allowed);
       memory = ap (λ (h : Hosted). h .machine .memory) (c .allowed);
@@ -128,8 +180,16 @@ run-gives c =
       statuses = ap (λ (h : Hosted). h .log .statuses) (c .allowed);
     }
 
-abbrev slicesIn : Hosted → Slices
-slicesIn h = record { memory = h .machine .memory; taint = h .machine .taints .bytes; trace = h .log .trace; statuses = h .log .statuses }
+abbrev slices : List (List ℕ) → List (List ℕ) → List ℕ → List ℕ → List ℕ → List ℕ → Slices
+slices v u m k t s = record { vectors = v; vector-taint = u; memory = m; taint = k; trace = t; statuses = s }
+
+slices-same : (a b : Slices) → a .vectors ≡ b .vectors → a .vector-taint ≡ b .vector-taint → a .memory ≡ b .memory → a .taint ≡ b .taint → a .trace ≡ b .trace → a .statuses ≡ b .statuses → a ≡ b
+slices-same a b e f g h i j = ap (λ (v : List (List ℕ)). slices v (a .vector-taint) (a .memory) (a .taint) (a .trace) (a .statuses)) e
+    ∙ ap (λ (u : List (List ℕ)). slices (b .vectors) u (a .memory) (a .taint) (a .trace) (a .statuses)) f
+    ∙ ap (λ (m : List ℕ). slices (b .vectors) (b .vector-taint) m (a .taint) (a .trace) (a .statuses)) g
+    ∙ ap (λ (k : List ℕ). slices (b .vectors) (b .vector-taint) (b .memory) k (a .trace) (a .statuses)) h
+    ∙ ap (λ (t : List ℕ). slices (b .vectors) (b .vector-taint) (b .memory) (b .taint) t (a .statuses)) i
+    ∙ ap (slices (b .vectors) (b .vector-taint) (b .memory) (b .taint) (b .trace)) j
 
 run-unbegun : (c : RunCall) → Early (c .reply .answer)
     → (c .reply .steps ≡ 0) × (c .reply .code ≡ 0) × (c .reply .address ≡ 0) × (c .reply .session ≡ c .session) × (c .after ≡ c .before)
@@ -137,12 +197,18 @@ run-unbegun c h =
     let m = runStart c in
     let l = lentLog c in
     let ran = early-unchanged (c .window) (c .words) m l (subst Early (run-gives c .answer) h) in
-    let same : hosted (c .reply) (c .after .memory) (c .after .taint) (c .after .trace) (c .after .statuses) ≡ _ = c .allowed ∙ ap hostedOf ran in (
+    let same = c .allowed ∙ ap hostedOf ran in
+    let machines = ap (λ (h : Hosted). h .machine) same in
+    let a = c .after in
+    let b = c .before in (
       ap (λ (h : Hosted). h .steps) same,
       ap (λ (h : Hosted). h .code) same,
       ap (λ (h : Hosted). h .address) same,
-      ap (λ (h : Hosted). stateIn (h .machine)) same,
-      ap slicesIn same,
+      state-same (c .held′) (c .held) machines,
+      slices-same a b
+          (vectors-same (c .held′) (c .held) machines)
+          (vector-taint-same (c .held′) (c .held) machines)
+          (ap (λ (m : Machine). m .memory) machines) (ap (λ (m : Machine). m .taints .bytes) machines) (ap (λ (h : Hosted). h .log .trace) same) (ap (λ (h : Hosted). h .log .statuses) same),
     )
 
 record ShowsHosted (R : Machine → Machine → Type 0) (t u : Hosted) : Type 0 where
@@ -250,12 +316,11 @@ never-stepped w word m t = ap answerNumber (answers-exact w word m) ∙ rw (outs
 pub library : Library
 library =
     record {
-      machine = λ s memory taint. refl;
+      machine = λ s vectors vector-taint memory taint. refl;
       step = step-gives;
       step-as-arm = λ c r. subst (λ (s : Step Machine). StepGives c (performed (stepStart c) s)) (step-as-arm (c .window) (c .word) (stepStart c) r) (step-gives c);
       step-answers = λ c. rw (step-gives c .answer) (step-number (c .window) (c .word) (stepStart c));
-      step-refused =
-          λ c h. let same = step-unchanged c h in (ap stateIn same, ap (λ (m : Machine). m .memory) same, ap (λ (m : Machine). m .taints .bytes) same);
+      step-refused = step-kept;
       two-steps = two-steps;
       step-marks = done-marks;
       run = run-gives;
@@ -265,6 +330,9 @@ library =
       two-runs = two-runs Same demand-3;
       two-fillings = two-runs Filled other-half;
       run-marks = run-marks;
+      vector-set = vector-set;
+      vector-other = vector-other;
+      vector-above = vector-above;
       text = λ word buffer buffer′ r e. (ap (λ (n : Numbered). n .answer) e, ap (λ (n : Numbered). n .length) e, ap (λ (n : Numbered). n .buffer) e);
       list = λ bytes output output′ r e. (ap (λ (n : Numbered). n .answer) e, ap (λ (n : Numbered). n .length) e, ap (λ (n : Numbered). n .buffer) e);
       lister =

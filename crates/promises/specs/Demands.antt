@@ -20,6 +20,8 @@ use Rattle.decoder.specs.Decoding.{decodeOf, classOf, empty}
 use Rattle.lookup.specs.Entries.{Allowed, familiesIn, codeIn, names, operationCode, entries}
 use Rattle.lookup.specs.Lookup.{decodeIn}
 use Rattle.encoder.specs.Encoding.{encodeOf}
+use Rattle.memory.specs.Taints.{byteAt}
+use Rattle.vectors.specs.File.{vectorSlot, filesAfter, taintsAfter}
 use Rattle.access.specs.declared.transfer.Transfer.{Transfer}
 use Rattle.access.specs.declared.addressing.Addressing.{Addressing}
 use Rattle.access.specs.declared.Access.the-variants.{Moves}
@@ -30,14 +32,15 @@ use Rattle.registers.specs.declared.Registers.{Registers}
 use Rattle.registers.specs.File.{zeroSlot, valueAt, taintsAt, setAt}
 use Rattle.machine.specs.declared.monitor.Monitor.{Monitor}
 use Rattle.machine.specs.Rule.{wordRule}
+use Rattle.machine.specs.declared.Shown.{Shown}
 use Rattle.machine.specs.declared.State.{State}
 use Rattle.machine.specs.declared.Stepped.{Stepped}
 use Rattle.machine.specs.Machine.{Machine, machineOf, opened, operandsOf}
 use Rattle.machine.specs.Refusals.{bad, classRefusals, refusals}
-use Rattle.machine.specs.Step.{shown, Outcome, outcome, stepOf, performed, leaves}
+use Rattle.machine.specs.Step.{shown, moved, Outcome, outcome, stepOf, performed, leaves}
 use Rattle.machine.specs.Exclusives.{StoresExclusive, withMonitor}
 use Rattle.session.specs.declared.StepReply.{StepReply}
-use Rattle.session.specs.Lent.{lentOutcome, lentStep, withRegister}
+use Rattle.session.specs.Lent.{Holding, LeftAs, lentOutcome, lentStep, withRegister}
 use Rattle.session.specs.Watch.{observed, Stored, Watched}
 use Rattle.secrecy.specs.Shows.{Shows}
 use Rattle.execution.specs.Walk.{Log, Result, short, runOf, afterSteps}
@@ -256,12 +259,21 @@ pub record Requests : Type 0 where
       (6 ∷ 7 ∷ 14 ∷ 15 ∷ 22 ∷ 23 ∷ 24 ∷ 25 ∷ 26 ∷ 27 ∷ 28 ∷ 29 ∷ 30 ∷ 31 ∷ [])
   -- CR 9: "lend it and have it changed in place by a step and by setting one register. By value stays; the lent form leaves exactly
   -- what it returns, refused or not": of a step by value that returns `r` and leaves memory and marks, and of the lent one, from one
-  -- record, memory and marks, by their contracts; what the lent one replies is what the other returns, the answer by its number
-  pub lent-step : (w : Window) (word : ℕ) (before after : State) (m k m′ k′ m″ k″ : List ℕ) (r : Stepped) (reply : StepReply)
-      → outcome r m′ k′ ≡ leaves (stepOf w word) (machineOf before m k)
-      → lentOutcome after reply m″ k″ ≡ lentStep w word before m k
-      → (after ≡ r .state) × (m″ ≡ m′) × (k″ ≡ k′)
-      × (reply .answer ≡ answerNumber (r .answer)) × (reply .code ≡ r .shown .code) × (reply .address ≡ r .shown .address) × (reply .status ≡ r .shown .status)
+  -- record, memory, vector registers and marks, by their contracts, where the records and files at the end are such as code holds
+  pub lent-step : (w : Window) (word : ℕ) (before after : State) (vs us vs″ us″ : List (List ℕ)) (m k m′ k′ m″ k″ : List ℕ) (r : Stepped) (reply : StepReply)
+      → Holding after vs″ us″ → Holding (r .state) (filesAfter (r .vectors) vs) (taintsAfter (r .vectors) us)
+      → outcome r vs us m′ k′ ≡ leaves (stepOf w word) (machineOf before vs us m k)
+      → lentOutcome after reply vs″ us″ m″ k″ ≡ lentStep w word before vs us m k
+      → LeftAs after r vs us vs″ us″ m′ k′ m″ k″ reply
   -- and of setting one register: the file is what setting by value returns, and program counter and monitor stay
   pub lent-register : (n value marks : ℕ) (before after : State) (file : Registers) → file ≡ setAt (before .registers) n value marks
       → after ≡ withRegister n value marks before → (after .registers ≡ file) × (after .pc ≡ before .pc) × (after .monitor ≡ before .monitor)
+  -- CR 12: "A vector register never collides with a base; a pair load into one register twice is still 4": where a word of vector
+  -- registers is answer 4, it is such a load
+  pub vector-four : (word : ℕ) → field 26 26 word ≡ 1 → answerNumber (classOf word) ≡ 4
+      → (matches word Row.PairRow ≡ true) × (field 22 22 word ≡ 1) × (field 4 0 word ≡ field 14 10 word)
+  -- "a load clears what it doesn't fill": after one that is done the bytes of the register behind those that were loaded are 0, and
+  -- unmarked; slots from 32 on are the vector registers
+  pub load-clears : (w : Window) (word : ℕ) (m n : Machine) (shown : Shown) (t : Transfer) (a : Addressing) → Real m → wordAccess word ≡ Moves t a → t .store ≡ false → vectorSlot (t .target) ≡ true
+      → stepOf w word m ≡ moved n shown → (i : ℕ) → t .bytes ≤ i
+      → (byteAt i (ListN.getD (n .values) (t .target) 0) ≡ 0) × (byteAt i (ListN.getD (n .taints .registers) (t .target) 0) ≡ 0)

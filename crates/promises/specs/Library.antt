@@ -1,10 +1,10 @@
 -- What the library for C and Rust promises: each field of a reply and each slice that a call leaves, by the definitions of the
 -- demands, and what of the demands a call carries over. A call is what is handed in and lent, and any reply and slices that
 -- the function's contract allows; so that a reply that says less than the machine did is one that no line here is proved of.
-use Prim.Native.Nat.{ℕ, _*_}
+use Prim.Native.Nat.{ℕ, _*_, _<_}
 use mathlib.Core.Path.{_≡_}
 use mathlib.Core.Bool.{Bool, true, false}
-use mathlib.Core.List.{List, [], _∷_}
+use mathlib.Core.List.{List, [], _∷_, _++_, map}
 use mathlib.Core.Logic.{_↔_, _⊎_}
 use lib.Dec.{eqb}
 use lib.ListN
@@ -12,6 +12,8 @@ use Rattle.bits.specs.Choice.{pick, any}
 use Rattle.bits.specs.Fields.{field}
 use Rattle.instruction.specs.Answers.{answerNumber}
 use Rattle.instruction.specs.Table.{inSet}
+use Rattle.vectors.specs.declared.Halves.{Halves}
+use Rattle.vectors.specs.File.{wide, withVector, Held}
 use Rattle.plan.specs.declared.window.Window.{Window}
 use Rattle.machine.specs.declared.State.{State}
 use Rattle.machine.specs.Rule.{wordRule}
@@ -19,7 +21,8 @@ use Rattle.machine.specs.Machine.{Machine, machineOf}
 use Rattle.machine.specs.Refusals.{bad}
 use Rattle.machine.specs.Step.{Step, Outcome, stepOf, leaves}
 use Rattle.session.specs.declared.StepReply.{StepReply}
-use Rattle.session.specs.Lent.{lentOutcome, lentStep}
+use Rattle.session.specs.Vector.{vectorAt}
+use Rattle.session.specs.Lent.{Holding, lentOutcome, lentStep}
 use Rattle.execution.specs.Walk.{Log, log, Result, runOf, afterSteps}
 use Rattle.execution.specs.Ends.{Early}
 use Rattle.execution.specs.Run.{machineRun}
@@ -42,27 +45,41 @@ use Rattle.records.specs.Space.{touchesMemory}
 use Rattle.promises.specs.Answered.{oneOf}
 use Rattle.promises.specs.Demands.{stepAnswer}
 
+-- of the machine's registers the thirty-two general ones, and the thirty-two vector registers behind them
+abbrev pub generalOf : List ℕ → List ℕ
+generalOf xs = ListN.take 32 xs
+
+abbrev pub vectorsOf : List ℕ → List ℕ
+vectorsOf xs = ListN.drop 32 xs
+
 -- ---- milestarling_step
 
 pub record StepCall : Type 0 where
   pub window : Window
   pub word : ℕ
-  -- lent: the record, memory and marks, before and after
+  -- lent: the record, the vector registers and their marks, memory and marks, before and after; of the registers as many as their
+  -- types say
   pub session : State
+  pub vectors : List (List ℕ)
+  pub vector-taint : List (List ℕ)
   pub memory : List ℕ
   pub taint : List ℕ
   pub session′ : State
+  pub vectors′ : List (List ℕ)
+  pub vector-taint′ : List (List ℕ)
   pub memory′ : List ℕ
   pub taint′ : List ℕ
+  pub held : Holding session vectors vector-taint
+  pub held′ : Holding session′ vectors′ vector-taint′
   pub reply : StepReply
-  pub allowed : lentOutcome session′ reply memory′ taint′ ≡ lentStep window word session memory taint
+  pub allowed : lentOutcome session′ reply vectors′ vector-taint′ memory′ taint′ ≡ lentStep window word session vectors vector-taint memory taint
 
 -- the machine that is handed in, and the one that is left
 abbrev pub stepStart : StepCall → Machine
-stepStart c = machineOf (c .session) (c .memory) (c .taint)
+stepStart c = machineOf (c .session) (c .vectors) (c .vector-taint) (c .memory) (c .taint)
 
 abbrev pub stepEnd : StepCall → Machine
-stepEnd c = machineOf (c .session′) (c .memory′) (c .taint′)
+stepEnd c = machineOf (c .session′) (c .vectors′) (c .vector-taint′) (c .memory′) (c .taint′)
 
 -- each field is that of a step's outcome
 pub record StepGives (c : StepCall) (o : Outcome Machine) : Type 0 where
@@ -70,8 +87,10 @@ pub record StepGives (c : StepCall) (o : Outcome Machine) : Type 0 where
   pub code : c .reply .code ≡ o .shown .code
   pub address : c .reply .address ≡ o .shown .address
   pub status : c .reply .status ≡ o .shown .status
-  pub values : c .session′ .registers .value ≡ o .machine .values
-  pub marks : c .session′ .registers .taint ≡ o .machine .taints .registers
+  pub values : c .session′ .registers .value ≡ generalOf (o .machine .values)
+  pub marks : c .session′ .registers .taint ≡ generalOf (o .machine .taints .registers)
+  pub vectors : map wide (c .vectors′) ≡ vectorsOf (o .machine .values)
+  pub vector-marks : map wide (c .vector-taint′) ≡ vectorsOf (o .machine .taints .registers)
   pub pc : c .session′ .pc ≡ o .machine .pc
   pub monitor : c .session′ .monitor ≡ o .machine .monitor
   pub memory : c .memory′ ≡ o .machine .memory
@@ -81,6 +100,8 @@ pub record StepGives (c : StepCall) (o : Outcome Machine) : Type 0 where
 
 -- what is lent to a run beside the words
 pub record Slices : Type 0 where
+  pub vectors : List (List ℕ)
+  pub vector-taint : List (List ℕ)
   pub memory : List ℕ
   pub taint : List ℕ
   pub trace : List ℕ
@@ -93,14 +114,16 @@ pub record RunCall : Type 0 where
   pub before : Slices
   pub after : Slices
   pub reply : RunReply
-  pub allowed : hosted reply (after .memory) (after .taint) (after .trace) (after .statuses)
-      ≡ hostRun window words (machineOf session (before .memory) (before .taint)) (log (before .trace) (before .statuses))
+  pub held : Holding session (before .vectors) (before .vector-taint)
+  pub held′ : Holding (reply .session) (after .vectors) (after .vector-taint)
+  pub allowed : hosted reply (after .vectors) (after .vector-taint) (after .memory) (after .taint) (after .trace) (after .statuses)
+      ≡ hostRun window words (machineOf session (before .vectors) (before .vector-taint) (before .memory) (before .taint)) (log (before .trace) (before .statuses))
 
 abbrev pub runStart : RunCall → Machine
-runStart c = machineOf (c .session) (c .before .memory) (c .before .taint)
+runStart c = machineOf (c .session) (c .before .vectors) (c .before .vector-taint) (c .before .memory) (c .before .taint)
 
 abbrev pub runEnd : RunCall → Machine
-runEnd c = machineOf (c .reply .session) (c .after .memory) (c .after .taint)
+runEnd c = machineOf (c .reply .session) (c .after .vectors) (c .after .vector-taint) (c .after .memory) (c .after .taint)
 
 abbrev pub lentLog : RunCall → Log
 lentLog c = log (c .before .trace) (c .before .statuses)
@@ -111,8 +134,10 @@ pub record RunGives (c : RunCall) (r : Result Machine) : Type 0 where
   pub code : c .reply .code ≡ r .shown .code
   pub address : c .reply .address ≡ r .shown .address
   pub steps : c .reply .steps ≡ r .steps
-  pub values : c .reply .session .registers .value ≡ r .machine .values
-  pub marks : c .reply .session .registers .taint ≡ r .machine .taints .registers
+  pub values : c .reply .session .registers .value ≡ generalOf (r .machine .values)
+  pub marks : c .reply .session .registers .taint ≡ generalOf (r .machine .taints .registers)
+  pub vectors : map wide (c .after .vectors) ≡ vectorsOf (r .machine .values)
+  pub vector-marks : map wide (c .after .vector-taint) ≡ vectorsOf (r .machine .taints .registers)
   pub pc : c .reply .session .pc ≡ r .machine .pc
   pub monitor : c .reply .session .monitor ≡ r .machine .monitor
   pub memory : c .after .memory ≡ r .machine .memory
@@ -133,15 +158,23 @@ pub record RunsShow (R : Machine → Machine → Type 0) (c d : RunCall) : Type 
 -- ---- all of it
 
 pub record Library : Type 0 where
-  -- a session's record and the lent memory and marks are a machine
-  pub machine : (s : State) (memory taint : List ℕ)
-      → machineOf s memory taint ≡ record { values = s .registers .value; pc = s .pc; memory = memory; taints = record { registers = s .registers .taint; bytes = taint }; monitor = s .monitor }
+  -- a session's record and the lent vector registers, memory and marks are a machine
+  pub machine : (s : State) (vectors vector-taint : List (List ℕ)) (memory taint : List ℕ)
+      → machineOf s vectors vector-taint memory taint
+      ≡ record {
+        values = s .registers .value ++ map wide vectors;
+        pc = s .pc;
+        memory = memory;
+        taints = record { registers = s .registers .taint ++ map wide vector-taint; bytes = taint };
+        monitor = s .monitor;
+      }
   -- a step of the library is demand 2's, and Arm's where the machine is one that there is, as all are that code holds
   pub step : (c : StepCall) → StepGives c (leaves (stepOf (c .window) (c .word)) (stepStart c))
   pub step-as-arm : (c : StepCall) → Real (stepStart c) → StepGives c (leaves (armStep (c .window) (c .word)) (stepStart c))
-  -- demand 1: it answers, and a refused one leaves record, memory and marks
+  -- demand 1: it answers, and a refused one leaves record, vector registers, memory and marks
   pub step-answers : (c : StepCall) → oneOf (0 ∷ 1 ∷ 2 ∷ 3 ∷ 4 ∷ 5 ∷ 6 ∷ 7 ∷ 8 ∷ []) (c .reply .answer) ≡ true
-  pub step-refused : (c : StepCall) → ¬ (c .reply .answer ≡ 0) → (c .session′ ≡ c .session) × (c .memory′ ≡ c .memory) × (c .taint′ ≡ c .taint)
+  pub step-refused : (c : StepCall) → ¬ (c .reply .answer ≡ 0)
+      → (c .session′ ≡ c .session) × (c .vectors′ ≡ c .vectors) × (c .vector-taint′ ≡ c .vector-taint) × (c .memory′ ≡ c .memory) × (c .taint′ ≡ c .taint)
   -- demand 3: two that differ only in what is marked reply the same and leave what differs only in what is marked; and the marks
   -- that a done one leaves
   pub two-steps : (c d : StepCall) → c .window ≡ d .window → c .word ≡ d .word → Same (stepStart c) (stepStart d) → (c .reply ≡ d .reply) × Same (stepEnd c) (stepEnd d)
@@ -150,7 +183,7 @@ pub record Library : Type 0 where
   -- a run of the library is demand 2's, and Arm's, likewise
   pub run : (c : RunCall) → RunGives c (machineRun (c .window) (c .words) (runStart c) (lentLog c))
   pub run-as-arm : (c : RunCall) → Real (runStart c) → RunGives c (runOf (badStart (c .window)) (armStep (c .window)) (c .words) (runStart c) (lentLog c))
-  -- it answers; with 1 and 10 steps, code and address are 0, and the record and every slice are as they were
+  -- it answers; with 1 and 10 steps, code and address are 0, and the record and all that is lent are as they were
   pub run-answers : (c : RunCall) → oneOf (0 ∷ 1 ∷ 2 ∷ 3 ∷ 4 ∷ 5 ∷ 6 ∷ 7 ∷ 8 ∷ 10 ∷ []) (c .reply .answer) ≡ true
   pub run-early : (c : RunCall) → Early (c .reply .answer)
       → (c .reply .steps ≡ 0) × (c .reply .code ≡ 0) × (c .reply .address ≡ 0) × (c .reply .session ≡ c .session) × (c .after ≡ c .before)
@@ -159,6 +192,15 @@ pub record Library : Type 0 where
   pub two-fillings : (c d : RunCall) → c .window ≡ d .window → c .words ≡ d .words → Filled (runStart c) (runStart d) → SameRoom (lentLog c) (lentLog d) → RunsShow Filled c d
   pub run-marks : (c : RunCall)
       → runEnd c .taints ≡ afterSteps (wordRule (c .window .origin)) (c .words) (log (c .after .trace) (c .after .statuses)) (c .reply .steps) (runStart c .taints)
+  -- one vector register with its marks, read and set: it reads what was set, the others are as they were, and "a vector register above
+  -- 31 reads 0, unmarked, and sets nothing"
+  pub vector-set : (vectors vector-taint : List (List ℕ)) (n : ℕ) (value marks : Halves) → Held vectors → Held vector-taint → n < 32
+      → vectorAt (withVector vectors n value) (withVector vector-taint n marks) n ≡ record { low = value .low; high = value .high; «taint_low» = marks .low; «taint_high» = marks .high }
+  pub vector-other : (vectors vector-taint : List (List ℕ)) (n i : ℕ) (value marks : Halves) → ¬ (i ≡ n)
+      → vectorAt (withVector vectors n value) (withVector vector-taint n marks) i ≡ vectorAt vectors vector-taint i
+  pub vector-above : (vectors vector-taint : List (List ℕ)) (n : ℕ) (value marks : Halves) → Held vectors → Held vector-taint → 31 < n
+      → (withVector vectors n value ≡ vectors) × (withVector vector-taint n marks ≡ vector-taint)
+      × (vectorAt vectors vector-taint n ≡ record { low = 0; high = 0; «taint_low» = 0; «taint_high» = 0 })
   -- a text and a listing, their length and what the buffer holds; refused or not
   pub text : (word : ℕ) (buffer buffer′ : List ℕ) (r : TextReply) → textOutcome r buffer′ ≡ numbered (writeOf word buffer) → let o = writeOf word buffer in
       (r .answer ≡ answerNumber (o .answer)) × (r .length ≡ o .length) × (buffer′ ≡ o .buffer)
