@@ -543,7 +543,7 @@ reply-is r w is = LL.owed O.the-type O′.the-laws r (w ∷ []) is .1 .0
         lines += [f'move ! ({n} ∷ []) $ split ! $ move ! (1 ∷ []) $ peeks ! {self.row}.the-row (Is {self.row}.the-row) (shows 𝓤 H A {self.row}.the-row) r (w ∷ []) (λ is. land ! (from ! (stop !)) '
                   f'(init ! {self.place(7 + n, self.at_result)} refl (LL.lawful {self.row}.the-type {self.row}′.the-laws 𝓤 H A W .typed r _ is .0))']
         opened += 1
-        lines += ["-- what the result owns, the other tokens, the last values, the record's cell, what it owned, the open borrow, obs, auth, then the locals"]
+        lines += ["-- what the result owns, the other tokens, the last values, the record's cell, what it owned, the borrow, obs, auth, then the locals"]
         lines += self.stored()
         lines += self.freed(f'exits r{lasts}', opened)
         return self.walked(lines, opened)

@@ -12,7 +12,7 @@ use borrow.Author.Tests.{eqb-true, eqb-false, eq-eqb, ne-eqb}
 use Rattle.bits.specs.Choice.{pick, any}
 use Rattle.bits.specs.Fields.{part, field}
 use Rattle.bits.specs.Signed.{signedOf, twosComplement}
-use Rattle.bits.proofs.Choices.{both, neither}
+use Rattle.bits.proofs.Choices.{both}
 use Rattle.bits.proofs.Parts.{part-lt}
 use Rattle.memory.specs.Taints.{tainted}
 use Rattle.registers.specs.File.{zeroSlot, taintIn}

@@ -28,7 +28,7 @@ use Rattle.plan.specs.Admission.{misaligned, unaligned}
 use Rattle.plan.specs.Plans.{misalignedStack}
 use Rattle.machine.specs.Monitor.{statusOf, monitorAfter, writtenBack, fails}
 use Rattle.machine.specs.Machine.{Machine, operandsOf}
-use Rattle.arm.specs.Pseudocode.{Arm, MemOp, LOAD, STORE, PREFETCH, Extend, X, setX, setSP, setBase, Mem, setMem, withRegisters, withMonitor, Operation, hint, loads, stores, case}
+use Rattle.arm.specs.Pseudocode.{Arm, MemOp, LOAD, STORE, PREFETCH, Extend, setX, setSP, setBase, Mem, setMem, withRegisters, withMonitor, Operation, hint, loads, stores, case}
 use Rattle.arm.specs.VectorImmediate.{vectorScale}
 use Rattle.arm.specs.Pages.{Page, sizedExtent}
 use Rattle.arm.specs.Choices.{marked, misplaced, armOf}

@@ -39,8 +39,8 @@ Add x y = field 63 0 (x + y)
 
 -- ---- registers and memory
 
--- what the pages read and write: X0 to X30, then SP, and behind it the vector registers; the program counter; bytes, the first at address `origin`; and the
--- exclusives monitor
+-- what the pages read and write: X0 to X30, then SP, and behind it the vector registers; the program counter; bytes, the first at
+-- address `origin`; and the exclusives monitor
 pub record Arm : Type 0 where
   pub registers : List ℕ
   pub pc : ℕ

@@ -4,7 +4,7 @@ use Prim.Native.Nat.{ℕ}
 use mathlib.Core.Bool.{Bool, false, _&&_, not}
 use mathlib.Core.List.{List, [], _∷_}
 use Rattle.bits.specs.Choice.{pick, any}
-use Rattle.bits.specs.Fields.{Bits, bits, field, has}
+use Rattle.bits.specs.Fields.{Bits, bits, has}
 use Rattle.instruction.specs.Types.{Row, Family, Instruction}
 use Rattle.instruction.specs.Operands.{sizedIn, literalOpIn, literalIn, pairOpIn, pairIn, signedIn, indexIn, unsignedIn, exclusiveOpIn, storeExclusiveOpIn, exclusiveIn, storeExclusiveIn}
 use Rattle.instruction.specs.Undefined.{undefinedSize, undefinedPrefetch, undefinedOption, undefinedLiteral, undefinedPair, undefinedSecond, undefinedUnused}

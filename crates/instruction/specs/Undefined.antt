@@ -1,5 +1,5 @@
--- When a word of a row is undefined: 01, "Undefined words of the set", in its order, and 02, CR 3 and CR 12. Which of these is a row's stands
--- in the table.
+-- When a word of a row is undefined: 01, "Undefined words of the set", in its order, and 02, CR 3 and CR 12. Which of these is a
+-- row's stands in the table.
 use Prim.Native.Nat.{ℕ, _+_, _*_}
 use mathlib.Core.Bool.{Bool, _&&_, _||_, not}
 use mathlib.Core.List.{List, [], _∷_}

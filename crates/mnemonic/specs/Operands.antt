@@ -2,7 +2,7 @@
 -- bytes of a vector register (b, h, s, d) or all 16 (q), or the hint of a prefetch.
 use Prim.Native.Nat.{ℕ, _+_}
 use mathlib.Core.Bool.{_||_}
-use mathlib.Core.List.{List, [], _∷_}
+use mathlib.Core.List.{[], _∷_}
 use lib.Dec.{eqb, ltb}
 use Rattle.bits.specs.Choice.{pick, lookup}
 use Rattle.instruction.specs.Operations.{sizedCode, vectorOf, sizeOf, opcOf, scaleOf, pairVector, pairOpc, accessScale}

@@ -21,40 +21,35 @@ use Rattle.vectors.specs.declared.Halves.{Halves}
 use Rattle.vectors.specs.File.{wide, withVector, Held}
 use Rattle.plan.specs.declared.window.Window.{Window}
 use Rattle.machine.specs.declared.Shown.{Shown}
-use Rattle.machine.specs.declared.State.{State}
 use Rattle.machine.specs.Rule.{wordRule}
-use Rattle.machine.specs.Machine.{Machine, machineOf}
+use Rattle.machine.specs.Machine.{Machine}
 use Rattle.machine.specs.Refusals.{bad}
-use Rattle.machine.specs.Step.{Step, stopped, moved, Outcome, stepOf, performed}
+use Rattle.machine.specs.Step.{Step, stopped, moved, stepOf, performed}
 use Rattle.machine.proofs.Answers.{answers-exact, refused-unchanged, step-refuses}
 use Rattle.machine.proofs.Taints.{taints-by-rule}
-use Rattle.session.specs.declared.StepReply.{StepReply}
 use Rattle.session.specs.Vector.{vectorAt}
-use Rattle.session.specs.Lent.{Lent, Holding, replyOf}
+use Rattle.session.specs.Lent.{Lent, replyOf}
 use Rattle.session.proofs.Exact.{state-same, vectors-same, vector-taint-same}
 use Rattle.secrecy.specs.Shows.{Shows}
 use Rattle.secrecy.proofs.Halves.{secret}
-use Rattle.execution.specs.Walk.{Log, log, Result, notBegun, runOf, afterSteps}
+use Rattle.execution.specs.Walk.{Log, log, afterSteps}
 use Rattle.execution.specs.Ends.{Early}
 use Rattle.execution.specs.Run.{machineRun}
 use Rattle.execution.specs.Secrecy.{Same, Filled, SameRoom, ShowsRun}
 use Rattle.execution.proofs.Refusals.{early-unchanged}
 use Rattle.execution.proofs.Secrecy.{step-related, demand-3, other-half, taints-of-run}
-use Rattle.machine.specs.Real.{Real}
 use Rattle.arm.proofs.Arm.{step-as-arm}
 use Rattle.arm.proofs.Runs.{run-as-arm}
 use Rattle.reader.specs.Reading.{LineOf}
-use Rattle.reader.proofs.RoundTrip.{read-some}
-use Rattle.stream.specs.Streams.{Call}
 use Rattle.host.specs.declared.WordReply.{WordReply}
 use Rattle.host.specs.Replies.{Numbered, ReadAs, ListerNumbered}
-use Rattle.host.specs.Hosting.{Hosted, hosted, hostedOf, hostRun}
+use Rattle.host.specs.Hosting.{Hosted, hostedOf, hostRun}
 use Rattle.records.specs.Replies.{touchesNumber}
 use Rattle.records.specs.Space.{loadOrStore, setsBlock, touchesMemory}
 use Rattle.records.proofs.Spaces.{set-touches}
 use Rattle.promises.specs.Answered.{oneOf}
 use Rattle.promises.specs.Library.{StepCall, stepStart, stepEnd, StepGives, Slices, RunCall, runStart, runEnd, lentLog, RunGives, RunsShow, Library}
-use Rattle.promises.proofs.Answered.{stepNumbers, runNumbers, step-number, run-number, word-some, word-number}
+use Rattle.promises.proofs.Answered.{step-number, run-number, word-some, word-number}
 use Rattle.promises.proofs.Demands.{not-both, step-marks}
 
 -- a relation carried over two equations

@@ -2,25 +2,25 @@
 -- nothing.
 use Prim.Native.Nat.{ℕ, zero, suc, _+_, _-_, _≤_, _<_}
 use mathlib.Core.Path.{_≡_, refl, sym, ap, subst, _∙_}
-use mathlib.Core.Bool.{Bool, true, false, not, _&&_, _||_}
+use mathlib.Core.Bool.{Bool, true, false, _&&_, _||_}
 use mathlib.Core.List.{List, [], _∷_}
 use mathlib.Core.Logic.{inl, inr}
 use native.Mathlib.Decide.{ℕ-discrete}
 use native.Mathlib.Omega.{arith}
-use borrow.Author.Tests.{eqb-true, eq-eqb}
+use borrow.Author.Tests.{eqb-true}
 use lib.Dec.{eqb}
 use lib.ListN.{getD, set}
 use lib.Seq.{getD-set-other}
 use Rattle.bits.specs.Choice.{pick}
 use Rattle.bits.specs.Fields.{field}
-use Rattle.bits.proofs.Choices.{pick-by, both}
-use Rattle.bits.proofs.Parts.{Has, has-true}
+use Rattle.bits.proofs.Choices.{both}
+use Rattle.bits.proofs.Parts.{Has}
 use Rattle.instruction.specs.declared.answer.Answer.{Answer}
 use Rattle.instruction.specs.declared.row.Row.{Row}
 use Rattle.instruction.specs.Answers.{answerNumber}
 use Rattle.instruction.specs.Unpredictable.{overBase, unpredictablePair}
-use Rattle.instruction.specs.Table.{columnsOf, matches, rowOf, inSet, undefined, allocated, unpredictable}
-use Rattle.instruction.proofs.Rows.{row-has, row-is, set-matches}
+use Rattle.instruction.specs.Table.{columnsOf, matches, rowOf, inSet, undefined, unpredictable}
+use Rattle.instruction.proofs.Rows.{row-has, set-matches}
 use Rattle.decoder.specs.Decoding.{classOf}
 use Rattle.memory.specs.Taints.{byteAt}
 use Rattle.memory.proofs.Taints.{no-byte}
@@ -28,7 +28,7 @@ use Rattle.vectors.specs.File.{vectorSlot}
 use Rattle.access.specs.declared.transfer.Transfer.{Transfer}
 use Rattle.access.specs.declared.addressing.Addressing.{Addressing}
 use Rattle.access.specs.declared.Access.{Access}
-use Rattle.access.specs.declared.Access.the-variants.{Nothing, Moves}
+use Rattle.access.specs.declared.Access.the-variants.{Moves}
 use Rattle.access.specs.Accesses.{wordAccess}
 use Rattle.access.proofs.Bounds.{Whole, Bounded, Within, bounded, Moving, moving}
 use Rattle.plan.specs.declared.window.Window.{Window}
@@ -36,7 +36,7 @@ use Rattle.plan.specs.Address.{sumOf, addressOf}
 use Rattle.plan.proofs.Refusals.{each, first-by}
 use Rattle.machine.specs.declared.monitor.Monitor.{Monitor}
 use Rattle.machine.specs.declared.Shown.{Shown}
-use Rattle.machine.specs.Monitor.{statusOf, monitorAfter, writtenBack, madeOf}
+use Rattle.machine.specs.Monitor.{statusOf, monitorAfter, writtenBack}
 use Rattle.machine.specs.Rule.{moveRule}
 use Rattle.machine.specs.Machine.{Machine, operandsOf, effectOf}
 use Rattle.machine.specs.Real.{Real}

@@ -3,7 +3,7 @@
 -- the function's contract allows; so that a reply that says less than the machine did is one that no line here is proved of.
 use Prim.Native.Nat.{ℕ, _*_, _<_}
 use mathlib.Core.Path.{_≡_}
-use mathlib.Core.Bool.{Bool, true, false}
+use mathlib.Core.Bool.{true, false}
 use mathlib.Core.List.{List, [], _∷_, _++_, map}
 use mathlib.Core.Logic.{_↔_, _⊎_}
 use lib.Dec.{eqb}
@@ -19,7 +19,7 @@ use Rattle.machine.specs.declared.State.{State}
 use Rattle.machine.specs.Rule.{wordRule}
 use Rattle.machine.specs.Machine.{Machine, machineOf}
 use Rattle.machine.specs.Refusals.{bad}
-use Rattle.machine.specs.Step.{Step, Outcome, stepOf, leaves}
+use Rattle.machine.specs.Step.{Outcome, stepOf, leaves}
 use Rattle.session.specs.declared.StepReply.{StepReply}
 use Rattle.session.specs.Vector.{vectorAt}
 use Rattle.session.specs.Lent.{Holding, lentOutcome, lentStep}

@@ -1,5 +1,5 @@
 -- Every mnemonic with its first operand names its operation again: one computed test over all names. Assumes nothing.
-use Prim.Native.Nat.{ℕ, _+_, _*_, _<_}
+use Prim.Native.Nat.{ℕ, _+_, _<_}
 use mathlib.Core.Path.{_≡_, refl, sym, ap, _∙_}
 use mathlib.Core.Bool.{Bool, _&&_, _||_, or-false}
 use mathlib.Core.List.{List, [], _∷_, _++_, foldl}

@@ -1,5 +1,5 @@
 -- General registers and vector registers as one list of 64: what is read and set at a slot. Assumes nothing.
-use Prim.Native.Nat.{ℕ, zero, suc, _+_, _-_, _*_, _/_, _^_, _≤_, _<_}
+use Prim.Native.Nat.{ℕ, zero, suc, _+_, _-_, _/_, _≤_, _<_}
 use mathlib.Core.Path.{_≡_, refl, sym, ap, _∙_}
 use mathlib.Core.Bool.{Bool, true, false}
 use mathlib.Core.List.{List, [], _∷_, _++_, map}
@@ -106,9 +106,6 @@ then-vectors v w a b c x y z h k p q r =
 -- ---- what is read at a slot
 
 module _ (v : List ℕ) (vs : List (List ℕ)) (slot : ℕ) (general : length v ≡ 32) where
-  pub read-vector : vectorSlot slot ≡ true → getD (v ++ map wide vs) slot 0 ≡ numberOf (halvesAt vs (slot - 32))
-  read-vector e = vector-get v (map wide vs) general slot (vector-low slot e .0) ∙ wide-get vs (slot - 32)
-
   pub read-general : length vs ≡ 32 → Plain slot → getD (v ++ map wide vs) slot 0 ≡ getD v slot 0
   read-general h e = plain-get v (map wide vs) general (length-map wide vs ∙ h) slot e
 

@@ -1,8 +1,7 @@
 -- `vectors::halves_in` meets its contract. Assumes nothing.
 use Prim.Native.Nat.{_≤_}
-use mathlib.Core.Path.{_≡_, sym, ap}
+use mathlib.Core.Path.{_≡_}
 use lib.ListN.{length, List·getD-eq-default}
-use lib.Seq.{set-out}
 use native.Mathlib.Omega.{arith}
 use borrow.Author.Needs.{needs}
 use Rattle.vectors.proofs.halves_in.Statement.{statement}

@@ -1,7 +1,7 @@
 -- `vectors::put` meets its contract. Assumes nothing.
 use Prim.Native.Nat.{_≤_}
-use mathlib.Core.Path.{_≡_, sym, ap}
-use lib.ListN.{length, List·getD-eq-default}
+use mathlib.Core.Path.{_≡_}
+use lib.ListN.{length}
 use lib.Seq.{set-out}
 use native.Mathlib.Omega.{arith}
 use borrow.Author.Needs.{needs}

@@ -1,9 +1,4 @@
 -- `vectors::written` meets its contract. Assumes nothing.
-use Prim.Native.Nat.{_≤_}
-use mathlib.Core.Path.{_≡_, sym, ap}
-use lib.ListN.{length, List·getD-eq-default}
-use lib.Seq.{set-out}
-use native.Mathlib.Omega.{arith}
 use borrow.Author.Needs.{needs}
 use Rattle.vectors.proofs.written.Statement.{statement}
 use Rattle.vectors.proofs.written.Tie as tie

@@ -4,8 +4,7 @@ use Rattle.bits.specs.Fields.{part}
 use Rattle.instruction.specs.Undefined.{undefinedSize}
 use Prim.Native.Nat.{ℕ}
 use mathlib.Core.Path.{_≡_}
-use mathlib.Core.Bool.{Bool, true, false}
-use mathlib.Core.List.{List, [], _∷_}
+use mathlib.Core.Bool.{false}
 use lib.Dec.{eqb}
 use borrow.Author.Tests.{ne-eqb}
 use Rattle.bits.specs.Choice.{any, byCode}

@@ -1,12 +1,11 @@
 -- `instruction::operation::sized_stores` meets its contract. Assumes nothing.
 use Prim.Native.Nat.{ℕ, _%_}
 use mathlib.Core.Path.{_≡_, refl, sym, _∙_}
-use mathlib.Core.Bool.{Bool}
 use lib.Dec.{eqb}
 use borrow.Author.Needs.{needs}
 use borrow.Author.Tests.{ne-eqb}
 use Rattle.bits.specs.Choice.{pick}
-use Rattle.instruction.specs.Operations.{vectorOf, opcOf}
+use Rattle.instruction.specs.Operations.{vectorOf}
 use Rattle.instruction.proofs.operation.sized_stores.Statement.{statement}
 use Rattle.instruction.proofs.operation.sized_stores.Tie as tie
 

@@ -1,10 +1,9 @@
 -- `machine::effect::load_halves` meets its contract. Assumes nothing.
-use Prim.Native.Nat.{_+_, _-_, min, _^_, _<_}
-use mathlib.Core.Path.{_≡_, sym, ap, _∙_}
+use Prim.Native.Nat.{_+_, _-_, min}
+use mathlib.Core.Path.{_≡_}
 use native.Mathlib.Omega.{arith}
-use Rattle.bits.specs.Bytes.{bytesOf, joined, spanOf}
-use Rattle.memory.proofs.Spans.{span-back, put-back}
-use Rattle.vectors.proofs.Wide.{sets-low, sets-both}
+use Rattle.bits.specs.Bytes.{joined, spanOf}
+use Rattle.memory.proofs.Spans.{span-back}
 use borrow.Author.Needs.{needs}
 use Rattle.machine.proofs.effect.load_halves.Statement.{statement}
 use Rattle.machine.proofs.effect.load_halves.Tie as tie

@@ -1,6 +1,6 @@
 -- `machine::effect::load_taints` meets its contract. Assumes nothing.
-use Prim.Native.Nat.{_+_, _-_, min, _^_, _<_}
-use mathlib.Core.Path.{_≡_, sym, ap, _∙_}
+use Prim.Native.Nat.{_+_, _-_, min}
+use mathlib.Core.Path.{_≡_}
 use native.Mathlib.Omega.{arith}
 use Rattle.bits.specs.Bytes.{joined, spanOf}
 use Rattle.memory.proofs.Spans.{span-back}

@@ -1,10 +1,7 @@
 -- `machine::effect::store_at` meets its contract. Assumes nothing.
-use Prim.Native.Nat.{_+_, _-_, min, _^_, _<_}
-use mathlib.Core.Path.{_≡_, sym, ap, _∙_}
-use native.Mathlib.Omega.{arith}
-use Rattle.bits.specs.Bytes.{bytesOf, joined, spanOf}
-use Rattle.memory.proofs.Spans.{span-back, put-back}
-use Rattle.vectors.proofs.Wide.{sets-low, sets-both}
+use Prim.Native.Nat.{_-_}
+use Rattle.bits.specs.Bytes.{bytesOf}
+use Rattle.memory.proofs.Spans.{put-back}
 use borrow.Author.Needs.{needs}
 use Rattle.machine.proofs.effect.store_at.Statement.{statement}
 use Rattle.machine.proofs.effect.store_at.Tie as tie

@@ -1,9 +1,7 @@
 -- `machine::effect::store_halves` meets its contract. Assumes nothing.
-use Prim.Native.Nat.{_+_, _-_, min, _^_, _<_}
-use mathlib.Core.Path.{_≡_, sym, ap, _∙_}
+use Prim.Native.Nat.{_-_, _^_, _<_}
+use mathlib.Core.Path.{_∙_}
 use native.Mathlib.Omega.{arith}
-use Rattle.bits.specs.Bytes.{bytesOf, joined, spanOf}
-use Rattle.memory.proofs.Spans.{span-back, put-back}
 use Rattle.vectors.proofs.Wide.{sets-low, sets-both}
 use borrow.Author.Needs.{needs}
 use Rattle.machine.proofs.effect.store_halves.Statement.{statement}

@@ -1,6 +1,6 @@
 -- `machine::effect::stored_vector` meets its contract. Assumes nothing.
 use Prim.Native.Nat.{_^_, _<_}
-use mathlib.Core.Path.{_≡_, ap, _∙_}
+use mathlib.Core.Path.{ap, _∙_}
 use mathlib.Core.List.{map}
 use lib.Seq.{sets}
 use Rattle.bits.specs.Bytes.{bytesOf}
