@@ -7,7 +7,7 @@ import re
 from aarch64_rules import is_valid, packed
 from aarch64_text import (
     EXCLUSIVE, LITERAL, PAIR, ORDERED, UNSCALED, POST, PRE, REGISTER, UNSIGNED, NO_ALLOCATE, PAIR_POST, PAIR_OFFSET,
-    PAIR_PRE, Record, text_of)
+    PAIR_PRE, Record, size_of, text_of)
 
 NO_LINE = 0, 9
 
@@ -22,24 +22,31 @@ def general(name, letters='wx'):
     return '(?P<%s>[%s](?:%s|zr))' % (name, letters, REGISTER_COUNT)
 
 
-TARGET = general('target')
+def data(name):
+    """A general or vector register."""
+    return '(?P<%s>[wx](?:%s|zr)|[bhsdq](?:%s|31))' % (name, REGISTER_COUNT, REGISTER_COUNT)
+
+
+TARGET = data('target')
 # 02's names, and the numbers that have none.
 HINT = '(?P<hint>p(?:ld|li|st)l[123](?:keep|strm)|#(?:6|7|14|15|22|23|2[4-9]|3[01]))'
 OFFSET = r'\[' + BASE + '(?:, ' + NOT_ZERO + r')?\]'
 AFTER = r'\[' + BASE + r'\], ' + NUMBER
 BEFORE = r'\[' + BASE + ', ' + NUMBER + r'\]!'
 INDEX = (r'\[' + BASE + ', (?:'
-         + general('plain', 'x') + '(?:, lsl #(?P<plain_amount>[0-3]))?|'
-         + general('narrow', 'w') + ', (?P<narrow_extend>uxtw|sxtw)(?: #(?P<narrow_amount>[0-3]))?|'
-         + general('wide', 'x') + r', sxtx(?: #(?P<wide_amount>[0-3]))?)\]')
+         + general('plain', 'x') + '(?:, lsl #(?P<plain_amount>[0-4]))?|'
+         + general('narrow', 'w') + ', (?P<narrow_extend>uxtw|sxtw)(?: #(?P<narrow_amount>[0-4]))?|'
+         + general('wide', 'x') + r', sxtx(?: #(?P<wide_amount>[0-4]))?)\]')
 
-# Mnemonic and letter of the target: size * 4 + opc.
+# Mnemonic and letter of the target: size * 4 + opc, and 16 more for vectors.
 PLAIN = {
     'strb w': 0, 'ldrb w': 1, 'ldrsb x': 2, 'ldrsb w': 3, 'strh w': 4, 'ldrh w': 5, 'ldrsh x': 6, 'ldrsh w': 7,
     'str w': 8, 'ldr w': 9, 'ldrsw x': 10, 'str x': 12, 'ldr x': 13, 'prfm #': 14,
+    'str b': 16, 'ldr b': 17, 'str q': 18, 'ldr q': 19, 'str h': 20, 'ldr h': 21, 'str s': 24, 'ldr s': 25, 'str d': 28,
+    'ldr d': 29,
 }
 NAMES = {
-    LITERAL: {'ldr w': 0, 'ldr x': 1, 'ldrsw x': 2, 'prfm #': 3},
+    LITERAL: {'ldr w': 0, 'ldr x': 1, 'ldrsw x': 2, 'prfm #': 3, 'ldr s': 4, 'ldr d': 5, 'ldr q': 6},
     ORDERED: {
         'stlurb w': 0, 'ldapurb w': 1, 'ldapursb x': 2, 'ldapursb w': 3, 'stlurh w': 4, 'ldapurh w': 5,
         'ldapursh x': 6, 'ldapursh w': 7, 'stlur w': 8, 'ldapur w': 9, 'ldapursw x': 10, 'stlur x': 12,
@@ -48,6 +55,8 @@ NAMES = {
     UNSCALED: {
         'sturb w': 0, 'ldurb w': 1, 'ldursb x': 2, 'ldursb w': 3, 'sturh w': 4, 'ldurh w': 5, 'ldursh x': 6,
         'ldursh w': 7, 'stur w': 8, 'ldur w': 9, 'ldursw x': 10, 'stur x': 12, 'ldur x': 13, 'prfum #': 14,
+        'stur b': 16, 'ldur b': 17, 'stur q': 18, 'ldur q': 19, 'stur h': 20, 'ldur h': 21, 'stur s': 24, 'ldur s': 25,
+        'stur d': 28, 'ldur d': 29,
     },
     POST: PLAIN, PRE: PLAIN, REGISTER: PLAIN, UNSIGNED: PLAIN,
 }
@@ -56,10 +65,16 @@ ONES = [(family, re.compile(ONE + place)) for family, place in (
     (LITERAL, NUMBER), (ORDERED, OFFSET), (UNSCALED, OFFSET), (POST, AFTER), (PRE, BEFORE), (REGISTER, INDEX),
     (UNSIGNED, OFFSET))]
 
-# Mnemonic and letter of both registers: opc * 2 + L.
-PAIRS = {'stp w': 0, 'ldp w': 1, 'ldpsw x': 3, 'stp x': 4, 'ldp x': 5}
-UNALLOCATING = {'stnp w': 0, 'ldnp w': 1, 'stnp x': 4, 'ldnp x': 5}
-TWO = '(?P<name>[a-z]+) ' + TARGET + ', ' + general('second') + ', '
+# Mnemonic and letter of both registers: opc * 2 + L, and 8 more for vectors.
+PAIRS = {
+    'stp w': 0, 'ldp w': 1, 'ldpsw x': 3, 'stp x': 4, 'ldp x': 5, 'stp s': 8, 'ldp s': 9, 'stp d': 10, 'ldp d': 11,
+    'stp q': 12, 'ldp q': 13,
+}
+UNALLOCATING = {
+    'stnp w': 0, 'ldnp w': 1, 'stnp x': 4, 'ldnp x': 5, 'stnp s': 8, 'ldnp s': 9, 'stnp d': 10, 'ldnp d': 11, 'stnp q': 12,
+    'ldnp q': 13,
+}
+TWO = '(?P<name>[a-z]+) ' + TARGET + ', ' + data('second') + ', '
 TWOS = [(mode, names, re.compile(TWO + place)) for mode, names, place in (
     (NO_ALLOCATE, UNALLOCATING, OFFSET), (PAIR_POST, PAIRS, AFTER), (PAIR_OFFSET, PAIRS, OFFSET),
     (PAIR_PRE, PAIRS, BEFORE))]
@@ -113,7 +128,7 @@ def index_record(record, found):
         name, amount, option = found['wide'], found['wide_amount'], 0b111
     else:
         name, amount, option = found['plain'], found['plain_amount'], 0b011
-    if amount is not None and int(amount) != record.operation // 4:
+    if amount is not None and int(amount) != size_of(record.operation):
         return None
     return record._replace(second=number_of(name), mode=option, scaled=int(amount is not None))
 

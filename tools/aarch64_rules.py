@@ -1,4 +1,4 @@
-"""The rules of 01, and of 02's ninth family, over words and records, and what LLVM's and GNU's tools say of words.
+"""The rules of 01, and of 02's ninth family and vectors, over words and records, and what LLVM's and GNU's tools say of words.
 
 Which words are of the set is decided by the rows of 01's table and of 02's, and what an allocated word says is read from
 the disassemblers' texts, which have to agree. RULES lists where the tools differ, or 01 or 02 decides otherwise.
@@ -7,23 +7,25 @@ import os
 
 from aarch64_text import (
     EMPTY, EXCLUSIVE, LITERAL, PAIR, ORDERED, UNSCALED, POST, PRE, REGISTER, UNSIGNED, NO_ALLOCATE, PAIR_POST, PAIR_PRE,
-    PREFETCH, Record, has_status, line_in, mnemonic_of, record_in, text_of)
+    PREFETCH, Record, has_status, is_vector, line_in, mnemonic_of, record_in, size_of, text_of)
 from aarch64_tools import ORIGIN, encoding_in, gnu_assembly, gnu_disassembly, llvm_disassembly
 
-# 01's table and 02's ninth family: the bits that each family fixes, as (high, low, value). Bit 26 is 0 in all.
+# 01's table and 02's ninth family: the bits that each family fixes, as (high, low, value). Bit 26 is 0 for general registers
+# and 1 for vectors, which ordered and the ninth family haven't got.
 TABLE = {
-    LITERAL: ((29, 27, 0b011), (26, 26, 0), (25, 24, 0b00)),
-    PAIR: ((29, 27, 0b101), (26, 26, 0), (25, 25, 0)),
+    LITERAL: ((29, 27, 0b011), (25, 24, 0b00)),
+    PAIR: ((29, 27, 0b101), (25, 25, 0)),
     ORDERED: ((29, 27, 0b011), (26, 26, 0), (25, 24, 0b01), (21, 21, 0), (11, 10, 0b00)),
-    UNSCALED: ((29, 27, 0b111), (26, 26, 0), (25, 24, 0b00), (21, 21, 0), (11, 10, 0b00)),
-    POST: ((29, 27, 0b111), (26, 26, 0), (25, 24, 0b00), (21, 21, 0), (11, 10, 0b01)),
-    PRE: ((29, 27, 0b111), (26, 26, 0), (25, 24, 0b00), (21, 21, 0), (11, 10, 0b11)),
-    REGISTER: ((29, 27, 0b111), (26, 26, 0), (25, 24, 0b00), (21, 21, 1), (11, 10, 0b10)),
-    UNSIGNED: ((29, 27, 0b111), (26, 26, 0), (25, 24, 0b01)),
+    UNSCALED: ((29, 27, 0b111), (25, 24, 0b00), (21, 21, 0), (11, 10, 0b00)),
+    POST: ((29, 27, 0b111), (25, 24, 0b00), (21, 21, 0), (11, 10, 0b01)),
+    PRE: ((29, 27, 0b111), (25, 24, 0b00), (21, 21, 0), (11, 10, 0b11)),
+    REGISTER: ((29, 27, 0b111), (25, 24, 0b00), (21, 21, 1), (11, 10, 0b10)),
+    UNSIGNED: ((29, 27, 0b111), (25, 24, 0b01)),
     # Of bits 23 and 15, 10 is left out as well.
     EXCLUSIVE: ((29, 27, 0b001), (26, 26, 0), (25, 24, 0b00), (21, 21, 0)),
 }
 WITH_IMM9 = (ORDERED, UNSCALED, POST, PRE)
+WITH_VECTORS = (LITERAL, PAIR, UNSCALED, POST, PRE, REGISTER, UNSIGNED)
 
 # 01's examples.
 EXAMPLES = [
@@ -96,6 +98,8 @@ def word_of_line(rng, family):
 
 def undefined_by_rule(line, word):
     """The undefined words of the set. What the tools say is compared with this."""
+    if field(word, 26, 26) == 1:
+        return undefined_vector(line, word)
     opc, load, mode = field(word, 31, 30), field(word, 22, 22), field(word, 24, 23)
     if line == LITERAL:
         return False
@@ -109,14 +113,24 @@ def undefined_by_rule(line, word):
             or line == REGISTER and field(word, 14, 14) == 0)
 
 
+def undefined_vector(line, word):
+    """Those with bit 26 = 1, by 02 in place of 01's."""
+    if line in (LITERAL, PAIR):
+        return field(word, 31, 30) == 0b11
+    return (field(word, 31, 30) != 0b00 and field(word, 23, 23) == 1
+            or line == REGISTER and field(word, 14, 14) == 0)
+
+
 def is_unpredictable(record):
-    """Answer 4 of 01 and 02."""
+    """Answer 4 of 01 and 02. A vector register never collides with a base."""
     if record.family == EXCLUSIVE:
         return has_status(record.operation) and (record.second == record.target or record.second == record.base != 31)
     pair = record.family == PAIR
+    loads_one_twice = pair and record.operation % 2 == 1 and record.target == record.second
+    if is_vector(record.family, record.operation):
+        return loads_one_twice
     writes_back = record.family in (POST, PRE) or pair and record.mode in (PAIR_POST, PAIR_PRE)
     written = (record.target, record.second) if pair else (record.target,)
-    loads_one_twice = pair and record.operation % 2 == 1 and record.target == record.second
     return writes_back and record.base != 31 and record.base in written or loads_one_twice
 
 
@@ -202,8 +216,8 @@ def scale_of(family, operation):
     if family == LITERAL:
         return 4
     if family == PAIR:
-        return 8 if operation // 2 == 2 else 4
-    return 1 << operation // 4 if family == UNSIGNED else 1
+        return 4 << operation // 2 % 4 if is_vector(family, operation) else 8 if operation // 2 == 2 else 4
+    return 1 << size_of(operation) if family == UNSIGNED else 1
 
 
 def range_of(family, operation):
@@ -222,25 +236,26 @@ def is_valid(record):
             and all(register < 32 for register in (record.target, record.base, record.second))
             and low <= record.offset <= high and record.offset % scale_of(family, operation) == 0
             and not (family in (ORDERED, POST, PRE) and operation == PREFETCH)
+            and not (family == ORDERED and operation >= 16)
             and not (family == PAIR and operation == 3 and record.mode == NO_ALLOCATE)
             and not (family == REGISTER and (record.mode not in (2, 3, 6, 7) or record.scaled > 1)))
 
 
 def packed(record):
     """The word of a valid record."""
-    word = fixed_bits(record.family) | record.target
+    word = fixed_bits(record.family) | is_vector(record.family, record.operation) << 26 | record.target
     quotient = record.offset // scale_of(record.family, record.operation)
     if record.family == LITERAL:
-        return word | record.operation << 30 | quotient % (1 << 19) << 5
+        return word | record.operation % 4 << 30 | quotient % (1 << 19) << 5
     word |= record.base << 5
     if record.family == PAIR:
-        opc, load = divmod(record.operation, 2)
+        opc, load = divmod(record.operation % 8, 2)
         return (word | opc << 30 | record.mode << 23 | load << 22 | quotient % 128 << 15 | record.second << 10)
     if record.family == EXCLUSIVE:
         size, code = divmod(record.operation, 8)
         word |= size << 30 | code >> 1 << 22 | (code & 1) << 15
         return word | unused_ones(word) | record.second << 16
-    size, opc = divmod(record.operation, 4)
+    size, opc = divmod(record.operation % 16, 4)
     word |= size << 30 | opc << 22
     if record.family == REGISTER:
         return word | record.second << 16 | record.mode << 13 | record.scaled << 12

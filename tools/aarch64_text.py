@@ -9,13 +9,14 @@ from typing import NamedTuple
 EMPTY, LITERAL, PAIR, ORDERED, UNSCALED, POST, PRE, REGISTER, UNSIGNED, EXCLUSIVE = range(10)
 NO_ALLOCATE, PAIR_POST, PAIR_OFFSET, PAIR_PRE = range(4)
 PREFETCH = 14
+VECTOR_LETTERS = 'bhsdq'
 
 
 class Record(NamedTuple):
     """A family's number in the order of 01's table, 02's ninth last, and its operands; unused numbers are 0.
 
-    operation: size * 4 + opc; for a literal opc; for a pair opc * 2 + L; for the ninth family size * 8 and bit 23, L and
-    bit 15 side by side.
+    operation: size * 4 + opc; for a literal opc; for a pair opc * 2 + L; before these, as the highest bit of five, three and
+    four, bit 26, which is 1 for vector registers; for the ninth family size * 8 and bit 23, L and bit 15 side by side.
     second: a pair's Rt2, an index's Rm, or a store-exclusive's Rs. mode: a pair's mode, or an index's option. scaled: S.
     """
     family: int
@@ -28,18 +29,26 @@ class Record(NamedTuple):
     offset: int = 0
 
 
-# Mnemonic and letter of the register: the operation with a size. The first register of a prefetch is a hint.
+# Mnemonic and letter of the register: the operation with a size. The first register of a prefetch is a hint. The size of a
+# vector register's operation is 0 for b and for q.
 SIZED = {
     ('strb', 'w'): 0, ('ldrb', 'w'): 1, ('ldrsb', 'x'): 2, ('ldrsb', 'w'): 3,
     ('strh', 'w'): 4, ('ldrh', 'w'): 5, ('ldrsh', 'x'): 6, ('ldrsh', 'w'): 7,
     ('str', 'w'): 8, ('ldr', 'w'): 9, ('ldrsw', 'x'): 10,
     ('str', 'x'): 12, ('ldr', 'x'): 13, ('prfm', '#'): PREFETCH,
+    ('str', 'b'): 16, ('ldr', 'b'): 17, ('str', 'q'): 18, ('ldr', 'q'): 19, ('str', 'h'): 20, ('ldr', 'h'): 21,
+    ('str', 's'): 24, ('ldr', 's'): 25, ('str', 'd'): 28, ('ldr', 'd'): 29,
 }
-LITERALS = {('ldr', 'w'): 0, ('ldr', 'x'): 1, ('ldrsw', 'x'): 2, ('prfm', '#'): 3}
+LITERALS = {
+    ('ldr', 'w'): 0, ('ldr', 'x'): 1, ('ldrsw', 'x'): 2, ('prfm', '#'): 3, ('ldr', 's'): 4, ('ldr', 'd'): 5, ('ldr', 'q'): 6,
+}
 PAIRS = {
     ('stp', 'w'): 0, ('ldp', 'w'): 1, ('ldpsw', 'x'): 3, ('stp', 'x'): 4, ('ldp', 'x'): 5,
-    ('stnp', 'w'): 0, ('ldnp', 'w'): 1, ('stnp', 'x'): 4, ('ldnp', 'x'): 5,
+    ('stp', 's'): 8, ('ldp', 's'): 9, ('stp', 'd'): 10, ('ldp', 'd'): 11, ('stp', 'q'): 12, ('ldp', 'q'): 13,
 }
+# As they are written from a record.
+SIZED_NAMES, LITERAL_NAMES, PAIR_NAMES = (
+    {operation: name for name, operation in names.items()} for names in (SIZED, LITERALS, PAIRS))
 # The ninth family, by bit 23, L and bit 15, without its size: store-exclusives have a status register.
 EXCLUSIVES = {0b000: 'stxr', 0b001: 'stlxr', 0b010: 'ldxr', 0b011: 'ldaxr', 0b101: 'stlr', 0b111: 'ldar'}
 EXCLUSIVE_NAMES = {
@@ -55,7 +64,7 @@ HINT = re.compile(r'p(ld|li|st)(l1|l2|l3|slc)(keep|strm)$')
 RANGE_HINTS = {'pldkeep': 0, 'pstkeep': 1, 'pldstrm': 4, 'pststrm': 5}
 
 NUMBER = r'#(-?\w+)'
-REGISTER_NAME = re.compile(r'([wx])(\d+|zr)$')
+REGISTER_NAME = re.compile(r'([wx])(\d+|zr)$|([bhsdq])(\d+)$')
 BASE = r'\[(x\d+|sp)'
 OFFSET_FORM = re.compile(BASE + r'(?:, ' + NUMBER + r')?\]$')
 PRE_FORM = re.compile(BASE + r', ' + NUMBER + r'\]!$')
@@ -78,8 +87,9 @@ def record_in(text, address):
     letter, target = first_operand(mnemonic, first)
     if letter is None:
         return None
-    if (mnemonic, letter) in PAIRS:
-        return pair_record(mnemonic, PAIRS[mnemonic, letter], target, rest)
+    allocating = {'stnp': 'stp', 'ldnp': 'ldp'}.get(mnemonic, mnemonic)
+    if (allocating, letter) in PAIRS:
+        return pair_record(mnemonic, PAIRS[allocating, letter], target, rest)
     if any(mnemonic == name for name, _ in EXCLUSIVE_NAMES):
         return exclusive_record(mnemonic, letter, target, rest)
     if not rest.startswith('['):
@@ -87,18 +97,22 @@ def record_in(text, address):
     for stem, plain, family in STEMS:
         if mnemonic.startswith(stem):
             operation = SIZED.get((plain + mnemonic[len(stem):], letter))
+            # Arm has ordered vector forms in another place than 01's ordered family.
+            if family == ORDERED and letter in VECTOR_LETTERS:
+                return None
             return offset_record(family, operation, target, rest)
     return sized_record(SIZED.get((mnemonic, letter)), target, rest)
 
 
 def first_operand(mnemonic, name):
-    """The letter and number of a general register, or '#' and the number of a prefetch's hint, named or not."""
+    """The letter and number of a register, or '#' and the number of a prefetch's hint, named or not."""
     if mnemonic in ('prfm', 'prfum'):
         return '#', hint_number(name)
     found = REGISTER_NAME.match(name)
     if not found:
         return None, None
-    return found[1], 31 if found[2] == 'zr' else int(found[2])
+    letter, number = found[1] or found[3], found[2] or found[4]
+    return letter, 31 if number == 'zr' else int(number)
 
 
 def hint_number(name):
@@ -132,6 +146,17 @@ def pair_record(mnemonic, operation, target, rest):
             offset = int(found[2] or '0', 0)
             return Record(PAIR, operation, target, base_number(found[1]), second, mode, offset=offset)
     return None
+
+
+def is_vector(family, operation):
+    """Whether an operation is one of vector registers."""
+    first = {LITERAL: 4, PAIR: 8}.get(family, 16)
+    return family not in (EMPTY, ORDERED, EXCLUSIVE) and operation >= first
+
+
+def size_of(operation):
+    """Of an operation with a size, the power of two that its bytes are; 02 has 4 for 16 bytes."""
+    return 4 if operation in (18, 19) else operation // 4 % 4
 
 
 def has_status(operation):
@@ -173,7 +198,7 @@ def sized_record(operation, target, place):
         return None
     base, letter, index, extend, amount = found.groups()
     option = EXTENDS[extend or 'lsl']
-    if (letter == 'x') != bool(option & 1) or amount not in (None, str(operation // 4)):
+    if (letter == 'x') != bool(option & 1) or amount not in (None, str(size_of(operation))):
         raise SystemExit('an index that no option gives: ' + place)
     second = 31 if index == 'zr' else int(index)
     return Record(REGISTER, operation, target, base_number(base), second, option, int(amount is not None))
@@ -213,7 +238,7 @@ def line_in(text, address):
 # To text.
 
 def register_text(letter, number):
-    return letter + ('zr' if number == 31 else str(number))
+    return letter + ('zr' if number == 31 and letter not in VECTOR_LETTERS else str(number))
 
 
 def base_text(number):
@@ -223,16 +248,13 @@ def base_text(number):
 def text_of(record, here='#'):
     """01's line of text. GNU's assembler takes a literal's offset only behind the name of the word's own place."""
     if record.family == LITERAL:
-        mnemonic, letter = (('ldr', 'w'), ('ldr', 'x'), ('ldrsw', 'x'), ('prfm', '#'))[record.operation]
+        mnemonic, letter = LITERAL_NAMES[record.operation]
         return '%s %s, %s%d' % (mnemonic, target_text(letter, record.target), here, record.offset)
     if record.family == PAIR:
         return pair_text(record)
     if record.family == EXCLUSIVE:
         return exclusive_text(record)
-    mnemonic, letter = (
-        ('strb', 'w'), ('ldrb', 'w'), ('ldrsb', 'x'), ('ldrsb', 'w'), ('strh', 'w'), ('ldrh', 'w'), ('ldrsh', 'x'),
-        ('ldrsh', 'w'), ('str', 'w'), ('ldr', 'w'), ('ldrsw', 'x'), None, ('str', 'x'), ('ldr', 'x'), ('prfm', '#'),
-    )[record.operation]
+    mnemonic, letter = SIZED_NAMES[record.operation]
     if record.family == UNSCALED:
         mnemonic = 'prfum' if mnemonic == 'prfm' else mnemonic[:2] + 'u' + mnemonic[2:]
     if record.family == ORDERED:
@@ -253,10 +275,9 @@ def hint_text(number):
 
 
 def pair_text(record):
-    mnemonic = {0: 'stp', 1: 'ldp', 3: 'ldpsw', 4: 'stp', 5: 'ldp'}[record.operation]
+    mnemonic, letter = PAIR_NAMES[record.operation]
     if record.mode == NO_ALLOCATE:
         mnemonic = mnemonic[:2] + 'n' + mnemonic[2:]
-    letter = 'w' if record.operation < 2 else 'x'
     names = register_text(letter, record.target), register_text(letter, record.second)
     form = {PAIR_POST: POST, PAIR_PRE: PRE}.get(record.mode, UNSIGNED)
     return '%s %s, %s, %s' % (mnemonic, *names, place_text(record._replace(family=form)))
@@ -279,6 +300,6 @@ def place_text(record):
         index = register_text('x' if record.mode & 1 else 'w', record.second)
         extend = {2: 'uxtw', 3: 'lsl', 6: 'sxtw', 7: 'sxtx'}[record.mode]
         if record.scaled:
-            return '[%s, %s, %s #%d]' % (base, index, extend, record.operation // 4)
+            return '[%s, %s, %s #%d]' % (base, index, extend, size_of(record.operation))
         return '[%s, %s]' % (base, index) if record.mode == 3 else '[%s, %s, %s]' % (base, index, extend)
     return '[%s, #%d]' % (base, record.offset) if record.offset else '[%s]' % base
