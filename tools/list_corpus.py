@@ -17,9 +17,8 @@ import struct
 from typing import NamedTuple, Optional
 
 from aarch64_rules import (
-    EXAMPLES, TABLE, WITH_IMM9, edges, field, judged_words, line_of, path_of, show, undefined_by_rule, word_of_line,
-    write)
-from aarch64_text import EXCLUSIVE, LITERAL, PAIR, REGISTER, UNSCALED, UNSIGNED, text_of
+    EXAMPLES, TABLE, edges, field, judged_words, line_of, path_of, show, undefined_by_rule, word_of_line, write)
+from aarch64_text import EXCLUSIVE, LITERAL, ORDERED, PAIR, POST, PRE, REGISTER, UNSCALED, UNSIGNED, text_of
 from exclusive_words import exclusive_words
 
 SEED = 2
@@ -44,13 +43,14 @@ class Layout(NamedTuple):
     immediate: Optional[tuple]
 
 
-SIZE, OPC, RN, RT = (31, 30), (23, 22), (9, 5), (4, 0)
+SIZE, VECTOR, OPC, RN, RT = (31, 30), (26, 26), (23, 22), (9, 5), (4, 0)
 LAYOUTS = {
-    LITERAL: Layout((SIZE,), (RT,), (23, 5)),
-    PAIR: Layout((SIZE, (24, 23), (22, 22)), (RT, RN, (14, 10)), (21, 15)),
-    **{family: Layout((SIZE, OPC), (RT, RN), (20, 12)) for family in WITH_IMM9},
-    REGISTER: Layout((SIZE, OPC, (15, 13), (12, 12)), (RT, RN, (20, 16)), None),
-    UNSIGNED: Layout((SIZE, OPC), (RT, RN), (21, 10)),
+    LITERAL: Layout((VECTOR, SIZE), (RT,), (23, 5)),
+    PAIR: Layout((VECTOR, SIZE, (24, 23), (22, 22)), (RT, RN, (14, 10)), (21, 15)),
+    ORDERED: Layout((SIZE, OPC), (RT, RN), (20, 12)),
+    **{family: Layout((VECTOR, SIZE, OPC), (RT, RN), (20, 12)) for family in (UNSCALED, POST, PRE)},
+    REGISTER: Layout((VECTOR, SIZE, OPC, (15, 13), (12, 12)), (RT, RN, (20, 16)), None),
+    UNSIGNED: Layout((VECTOR, SIZE, OPC), (RT, RN), (21, 10)),
     EXCLUSIVE: Layout((SIZE, OPC, (15, 15)), (RT, RN, (20, 16)), None),
 }
 
@@ -73,7 +73,7 @@ def put_all(word, places, values):
 
 
 def chosen_words(rng, family):
-    """An arbitrary word for each choice: every size, opc, mode, L, option and S, undefined ones too."""
+    """An arbitrary word for each choice: vectors or not, every size, opc, mode, L, option and S, undefined ones too."""
     places = LAYOUTS[family].choices
     for values in itertools.product(*(range(1 << width(place)) for place in places)):
         yield put_all(word_of_line(rng, family), places, values)
@@ -138,10 +138,10 @@ def prefetch_words(rng):
     for family in (UNSCALED, REGISTER, UNSIGNED):
         for hint in range(32):
             for _ in range(16):
-                yield put_all(word_of_line(rng, family), (SIZE, OPC, RT), (3, 2, hint))
+                yield put_all(word_of_line(rng, family), (VECTOR, SIZE, OPC, RT), (0, 3, 2, hint))
     for hint in range(32):
         for _ in range(16):
-            yield put_all(word_of_line(rng, LITERAL), (SIZE, RT), (3, hint))
+            yield put_all(word_of_line(rng, LITERAL), (VECTOR, SIZE, RT), (0, 3, hint))
     yield LONGEST
 
 
@@ -152,6 +152,12 @@ def near_words(rng, each):
             for bit in range(low, high + 1):
                 for _ in range(each):
                     yield word_of_line(rng, family) ^ 1 << bit
+
+
+def ordered_vectors(rng, each):
+    """Arm's ordered forms of vectors, which stand beside the ordered family and are not of the set."""
+    for size, opc, _ in itertools.product(range(4), range(4), range(each)):
+        yield put_all(word_of_line(rng, ORDERED), (SIZE, VECTOR, OPC, (11, 10)), (size, 1, opc, 0b10))
 
 
 def all_words(rng):
@@ -174,6 +180,7 @@ def all_words(rng):
     words += literal_offsets(rng)
     words += prefetch_words(rng)
     words += near_words(rng, 60)
+    words += ordered_vectors(rng, 4)
     words += [rng.getrandbits(32) for _ in range(10000)]
     words += [0, 0xffffffff]
     return list(dict.fromkeys(words))
