@@ -2,7 +2,8 @@
 import re
 
 ALPHABET = ' !#+,-0123456789[]abcdefhlmnopqrstuwxyz\t'
-ANY_REGISTER = r'\b[wx](?:\d+|zr)\b|\bsp\b'
+LETTERS = 'wxbhsdq'
+ANY_REGISTER = r'\b[%s](?:\d+|zr)\b|\bsp\b' % LETTERS
 ANY_NUMBER = r'#(-?)(\d+)'
 A_HINT = r'(?<=^prfm )[^,]+|(?<=^prfum )[^,]+'
 MNEMONIC = r'^\w+'
@@ -16,7 +17,8 @@ UNKNOWN_MNEMONICS = (
     'prfur rprfm ldtr ldtrb sttr ldapr ldaprb ldxp ldaxp stxp stlxp ldlar ldlarb stllr stllrh cas casb casal ldxrsb ldarsw '
     'ldxrw stxrw stlxrs ldaxur stlar ldlr staxr ldlxr stlx ldax stx ldx lda stl ldapru ldapurw ldraa stgp ldg stg ldrd '
     'strd ldrw ldrx ldrs '
-    'ldps ldpw ldurs ld st l s ldrsbw ldrbs swp ldadd mov add b nop ldr.w ldrb.w').split()
+    'ldps ldpw ldurs ld st l s ldrsbw ldrbs swp ldadd mov add b nop ldr.w ldrb.w '
+    'ldrq strq ldrv strv ldpq stpq ldurq ldnpq ld1 st1 ld1r ldr.q vldr vstr fldr fmov movi ldtp stlp ldapurq').split()
 HINTS = [kind + level + policy for kind in ('pld', 'pli', 'pst') for level in ('l1', 'l2', 'l3')
          for policy in ('keep', 'strm')]
 # Hints that are none, and such as only look like one.
@@ -36,15 +38,19 @@ REPLACEMENTS = {
     'leading bytes': ('^', [' ', '  ', '\t', '\r', '\0', ',', ';', '#', '\xef\xbb\xbf', '\x1b', '0', 'x']),
     'two lines in one': ('^(.*)$', [r'\1\1', r'\1 \1', r'\1, \1', '\\1\t\\1', '\\1\r\\1']),
     'as a listing': ('^(.*)$', ['\\1\t0', '-\t\\1', '385ff020\t\\1\t0']),
-    'register with a leading zero': (r'\b[wx](?=\d)', [r'\g<0>0', r'\g<0>00']),
+    'register with a leading zero': (r'\b[%s](?=\d)' % LETTERS, [r'\g<0>0', r'\g<0>00']),
     'register above 30': (
-        r'\b([wx])(?:\d+|zr)\b|\bsp\b',
-        [letter + str(number) for letter in 'wx' for number in (
+        ANY_REGISTER,
+        [letter + str(number) for letter in LETTERS for number in (
             31, 32, 33, 40, 99, 100, 255, 256, 287, 1 << 32, (1 << 32) + 1, 1 << 64, (1 << 64) + 1)]),
-    'register 31 by another name': (ANY_REGISTER, ['sp', 'wsp', 'xzr', 'wzr', 'zr', 'xsp', 'x31', 'w31']),
-    'letter of a register': (r'\b[wx](?=\d|zr)', 'wxwxbhsdqvrcepz'),
-    'register by an alias': (ANY_REGISTER, ['fp', 'lr', 'ip0', 'ip1', 'pc', 'r5', 'x', 'w']),
-    'other register': (ANY_REGISTER, [letter + str(number) for letter in 'wx' for number in range(31)]),
+    'register 31 by another name': (
+        ANY_REGISTER, 'sp wsp xzr wzr zr xsp x31 w31 bzr hzr szr dzr qzr qsp b31 h31 s31 d31 q31'.split()),
+    'letter of a register': (r'\b[%s](?=\d|zr)' % LETTERS, 'wxwxbhsdqvrcepz'),
+    'width of a vector register': (r'\b[bhsdq](?=\d)', 'bhsdq'),
+    'vector register by an alias': (
+        r'\b[bhsdq](\d+)', [r'v\1', r'v\1.16b', r'{v\1.16b}', r'{v\1}', r'v\1.d[0]', r'v\1.q', r'z\1', r'p\1', r'vd\1']),
+    'register by an alias': (ANY_REGISTER, ['fp', 'lr', 'ip0', 'ip1', 'pc', 'r5', 'x', 'w', 'v', 'q', 'd']),
+    'other register': (ANY_REGISTER, [letter + str(number) for letter in LETTERS for number in range(31)]),
     'number with a leading zero': (ANY_NUMBER, [r'#\g<1>0\2', r'#\g<1>00\2']),
     'number with a sign': (ANY_NUMBER, [sign + r'\2' for sign in ('#+', '#--', '#- ', '# ', '#-+', '-#', '#~')]),
     'number without its mark': (ANY_NUMBER, [mark + r'\1\2' for mark in ('', '=', '$', '##', '.')]),
@@ -60,11 +66,11 @@ REPLACEMENTS = {
     'other hint': (A_HINT, HINTS),
     'hint by number': (A_HINT, ['#%d' % number for number in range(32)]),
     'no hint': (A_HINT, NO_HINTS),
-    'hint for a register': (r'(?<= )[wx]\w+', HINTS + ['#%d' % number for number in range(32)]),
-    'other amount': (r'(?<=[a-z] #)[0-3](?=\]$)', ['0', '1', '2', '3', '4', '00', '-1', '8']),
-    'amount dropped': (r' #[0-3]\]$', [']']),
-    'amount added': (r'(?<=xt[wx])\]$', [' #%d]' % amount for amount in range(5)]),
-    'shift added': (r'(?<=, x)(\d+|zr)\]$', [r'\1, lsl]'] + [r'\1, lsl #%d]' % amount for amount in range(5)]),
+    'hint for a register': (r'(?<= )[%s]\w+' % LETTERS, HINTS + ['#%d' % number for number in range(32)]),
+    'other amount': (r'(?<=[a-z] #)[0-4](?=\]$)', ['0', '1', '2', '3', '4', '5', '00', '-1', '8']),
+    'amount dropped': (r' #[0-4]\]$', [']']),
+    'amount added': (r'(?<=xt[wx])\]$', [' #%d]' % amount for amount in range(6)]),
+    'shift added': (r'(?<=, x)(\d+|zr)\]$', [r'\1, lsl]'] + [r'\1, lsl #%d]' % amount for amount in range(6)]),
     'other extend': (r'\b(lsl|uxtw|sxtw|sxtx)\b', 'uxtx uxtw sxtw sxtx lsl lsr asr ror uxtb uxth sxtb mul'.split()),
     'writeback added': (r'\]$', [']!', '], #8', '], x2', '], #0', ']!, #0']),
     'writeback dropped': (r'!$|(?<=\]), #-?\d+$', ['']),
@@ -191,7 +197,19 @@ ldr x0, [x1, x2, sxtw #3]|ldr x0, [x1, x2]!|ldr x0, [x1], x2|ldr x0, [x1, sp]|ld
 ldr x0, [x31]|ldr x31, [x0]|ldr x0, [w1]|ldr x0, [wsp]|ldr x0, [sp, xzr]|ldr xzr, [sp, wzr, sxtw]
 prfm pldl1keep, [x1]|prfm pldl1keep,[x1]|prfm #31, [x1]|prfm #32, [x1]|prfm x0, [x1]|ldr #0, [x1]|ldr x0, #-0|ldr x0, #0|ldr x0, #00
 ldr x0, 0|ldr x0, #2|ldr x0, #1048572|ldr x0, #1048576|ldr x0, #-1048576|ldr x0, #-1048580|ldr x0, #4294967296
-ldr x0, #18446744073709551616|ldr x0, #-18446744073709551612|ldr q0, [x1]|ldr d0, #8|ldp q0, q1, [x2]
+ldr x0, #18446744073709551616|ldr x0, #-18446744073709551612|ldr q0, [x1]|ldr d0, #8|ldp q0, q1, [x2]|ldp q0, q0, [x2]
+ldr b0, #4|ldr h0, #4|ldr s0, #4|ldr q0, #-1048576|ldr q0, #1048576|str q0, #8|ldur q0, #8|ldrsw s0, #8|ldrb b0, [x1]
+ldr q31, [sp]|ldr q32, [x1]|ldr qzr, [x1]|ldr qsp, [x1]|ldr q00, [x1]|ldr v0, [x1]|ldr v0.16b, [x1]|ldr {v0.16b}, [x1]
+ldr q0, [q1]|ldr q0, [d1]|ldr x0, [x1, d2]|ldr q0, [x1, q2]|ldr q0, [x1, s2, uxtw]|ldr q0, [b1]|stxr b2, x0, [x1]
+ldr b0, [x1, x2]|ldr b0, [x1, x2, lsl #0]|ldr b0, [x1, x2, lsl]|ldr b0, [x1, w2, uxtw]|ldr b0, [x1, w2, uxtw #0]
+ldr q0, [x1, x2, lsl #4]|ldr q0, [x1, x2, lsl #3]|ldr q0, [x1, x2, lsl #0]|ldr q0, [x1, x2, lsl #5]|ldr x0, [x1, x2, lsl #4]
+ldr q0, [x1, w2, sxtw #4]|ldr d0, [x1, w2, sxtw #4]|ldr h0, [x1, x2, sxtx #1]|ldr s0, [x1, x2, sxtx #3]|ldr q0, [x1, #8]
+ldr q0, [x1, #16]|ldr q0, [x1, #65520]|ldr q0, [x1, #65536]|ldr q0, [x1, #-16]|ldur q0, [x1, #-256]|ldur q0, [x1, #256]
+ldr q0, [x1], #255|ldr q0, [x1], #256|str q1, [x1, #-256]!|ldr d1, [x1], #8|ldr b0, [x1, #4095]|ldr b0, [x1, #4096]
+stp q0, q1, [x2, #1008]|stp q0, q1, [x2, #1024]|stp q0, q1, [x2, #-1024]!|stp q0, q1, [x2], #8|ldnp q0, q1, [x2, #16]
+stp s0, d1, [x2]|stp d0, x1, [x2]|stp x0, d1, [x2]|stp b0, b1, [x2]|stp h0, h1, [x2]|ldpsw s0, s1, [x2]|ldpsw d0, d1, [x2]
+stlur q0, [x1]|ldapur d0, [x1]|ldapur q0, [x1, #8]|ldxr d0, [x1]|ldar q0, [x1]|stlr b0, [x1]|prfm q0, [x1]|ldtr q0, [x1]
+ldrsb b0, [x1]|ldrh h0, [x1]|strb b0, [x1]|ldursw s0, [x1]|ldr s0, [x1, #2]|ldr d0, [x1, #4]|ldr h0, [x1, #1]|ldr h0, [x1, #8190]
 ldxr x0, [x1]|ldxr w0, [x1]|ldxrb x0, [x1]|ldxrh w0, [sp]|ldxr x0, [x1, #0]|ldxr x0, [x1, #8]|ldxr x0, [x1]!|ldxr x0, #8
 ldar x0, [x1], #8|ldar x0, [x1, x2]|ldaxr xzr, [sp]|ldaxr sp, [x0]|ldxr x0, [xzr]|ldxr x0, [w1]|ldxr x0|ldxr x0,|ldxr x0, x1
 stxr w2, x0, [x1]|stxr x2, x0, [x1]|stxr w2, w0, [x1]|stxrb w2, x0, [x1]|stlxrh w2, w0, [x1]|stlxrh w2, w0, [x1, #0]
