@@ -10,25 +10,31 @@ assemblers make of the record's text and with what both disassemblers say of it.
 binutils 2.40. The output is the same each time.
 """
 import collections
+import itertools
 import random
 import struct
 
 from aarch64_rules import (
-    EXAMPLES, TABLE, WITH_IMM9, agreed, edges, fixed_bits, is_valid, judged_words, packed, range_of, scale_of, show,
-    word_of_line, write)
+    EXAMPLES, TABLE, WITH_IMM9, WITH_VECTORS, agreed, edges, fixed_bits, is_valid, judged_words, packed, range_of, scale_of,
+    show, word_of_line, write)
 from aarch64_text import (
-    EMPTY, EXCLUSIVE, LITERAL, PAIR, ORDERED, UNSCALED, POST, PRE, REGISTER, UNSIGNED, PREFETCH, Record, has_status,
-    text_of)
+    EMPTY, EXCLUSIVE, LITERAL, LITERAL_NAMES, ORDERED, PAIR, PAIR_NAMES, POST, PRE, REGISTER, SIZED_NAMES, UNSCALED,
+    UNSIGNED, Record, has_status, is_vector, text_of)
 from aarch64_tools import llvm_assembly
 import exclusive_words
 
 SEED = 1
 WORD = 10
 # So many that the output stays within the mebibyte that `rt try` takes.
-RANDOM_WORDS = 900
+RANDOM_WORDS = 500
 
 
 # Words to decode.
+
+def heads(family):
+    """The fixed bits of a family, with bit 26 for general registers and, where it has them, for vectors."""
+    return [fixed_bits(family) | vector << 26 for vector in range(2 if family in WITH_VECTORS else 1)]
+
 
 def registers(rng):
     """Rn, Rt and a third register: both ends, each two equal, and any."""
@@ -38,47 +44,41 @@ def registers(rng):
 
 
 def literal_words(rng):
-    for opc in range(4):
-        for imm19 in edges(19) + [rng.getrandbits(19) for _ in range(20)]:
+    for head, opc in itertools.product(heads(LITERAL), range(4)):
+        for imm19 in edges(19) + [rng.getrandbits(19) for _ in range(8)]:
             for rt in (0, 31, rng.getrandbits(5)):
-                yield fixed_bits(LITERAL) | opc << 30 | imm19 << 5 | rt
+                yield head | opc << 30 | imm19 << 5 | rt
         for hint in range(32):
-            yield fixed_bits(LITERAL) | opc << 30 | rng.getrandbits(19) << 5 | hint
+            yield head | opc << 30 | rng.getrandbits(19) << 5 | hint
 
 
 def pair_words(rng):
-    for opc in range(4):
-        for mode in range(4):
-            for load in range(2):
-                head = fixed_bits(PAIR) | opc << 30 | mode << 23 | load << 22
-                for rn, rt, rt2 in registers(rng) + registers(rng):
-                    yield head | rng.getrandbits(7) << 15 | rt2 << 10 | rn << 5 | rt
-                for imm7 in edges(7) + [rng.getrandbits(7) for _ in range(12)]:
-                    yield head | imm7 << 15 | rng.getrandbits(15)
+    for plain, opc, mode, load in itertools.product(heads(PAIR), range(4), range(4), range(2)):
+        head = plain | opc << 30 | mode << 23 | load << 22
+        for rn, rt, rt2 in registers(rng):
+            yield head | rng.getrandbits(7) << 15 | rt2 << 10 | rn << 5 | rt
+        for imm7 in edges(7) + [rng.getrandbits(7) for _ in range(2)]:
+            yield head | imm7 << 15 | rng.getrandbits(15)
 
 
 def immediate_words(rng, family, width, low):
     """Of a family with a size and an immediate."""
-    for size in range(4):
-        for opc in range(4):
-            head = fixed_bits(family) | size << 30 | opc << 22
-            for rn, rt, _ in registers(rng):
-                yield head | rng.getrandbits(width) << low | rn << 5 | rt
-            for imm in edges(width):
-                yield head | imm << low | rng.getrandbits(10)
-                yield head | imm << low | rng.getrandbits(10)
-            for _ in range(20):
-                yield head | rng.getrandbits(width) << low | rng.getrandbits(10)
+    for plain, size, opc in itertools.product(heads(family), range(4), range(4)):
+        head = plain | size << 30 | opc << 22
+        for rn, rt, _ in registers(rng):
+            yield head | rng.getrandbits(width) << low | rn << 5 | rt
+        for imm in edges(width):
+            yield head | imm << low | rng.getrandbits(10)
+        for _ in range(4):
+            yield head | rng.getrandbits(width) << low | rng.getrandbits(10)
 
 
 def register_words(rng):
-    for size in range(4):
-        for opc in range(4):
-            for option in range(8):
-                for scaled in range(2):
-                    head = fixed_bits(REGISTER) | size << 30 | opc << 22 | option << 13 | scaled << 12
-                    for rn, rt, rm in registers(rng):
-                        yield head | rm << 16 | rn << 5 | rt
+    """Of two choices that differ in S alone, each takes every other of the registers; undefined options take fewer."""
+    for plain, size, opc, option, scaled in itertools.product(heads(REGISTER), range(4), range(4), range(8), range(2)):
+        head = plain | size << 30 | opc << 22 | option << 13 | scaled << 12
+        for rn, rt, rm in registers(rng)[scaled::2 if option & 2 else 4]:
+            yield head | rm << 16 | rn << 5 | rt
 
 
 def prefetch_words(rng):
@@ -96,7 +96,7 @@ def near_words(rng):
     for family, row in TABLE.items():
         for high, low, _ in row:
             for bit in range(low, high + 1):
-                for _ in range(12):
+                for _ in range(8):
                     yield word_of_line(rng, family) ^ 1 << bit
 
 
@@ -121,13 +121,12 @@ def all_words(rng):
 
 def operations():
     """Each family with each operation and, of a pair, each mode: those that no encoder takes are there too."""
-    for operation in range(4):
+    for operation in LITERAL_NAMES:
         yield LITERAL, operation, 0
-    for operation in (0, 1, 3, 4, 5):
-        for mode in range(4):
-            yield PAIR, operation, mode
-    for family in (ORDERED, UNSCALED, POST, PRE, REGISTER, UNSIGNED):
-        for operation in (*range(11), 12, 13, PREFETCH):
+    for operation, mode in itertools.product(PAIR_NAMES, range(4)):
+        yield PAIR, operation, mode
+    for family, operation in itertools.product((ORDERED, UNSCALED, POST, PRE, REGISTER, UNSIGNED), SIZED_NAMES):
+        if family in WITH_VECTORS or not is_vector(UNSCALED, operation):
             yield family, operation, 0
     for operation in exclusive_words.operations():
         yield EXCLUSIVE, operation, 0
@@ -176,7 +175,7 @@ def records_of(rng, family, operation, mode):
         return any_record(rng, family, operation, mode)._replace(**changed)
 
     for name in register_names(family, operation):
-        for number in (0, 31, 32, 33, 1 << 31, (1 << 32) - 1):
+        for number in (0, 31, 32, 1 << 31, (1 << 32) - 1):
             yield other(**{name: number})
     if family not in (REGISTER, EXCLUSIVE):
         for offset in offset_edges(family, operation):
@@ -197,9 +196,14 @@ def all_records(rng):
     records = [Record(EMPTY, 0)]
     for family, operation, mode in operations():
         records += records_of(rng, family, operation, mode)
-    unknown = [Record(11, 0), Record(LITERAL, 4), Record(PAIR, 2), Record(PAIR, 6), Record(PAIR, 0, mode=4),
-               Record(UNSCALED, 11), Record(UNSCALED, 15), Record(UNSIGNED, 16), Record(EXCLUSIVE, 4),
-               Record(EXCLUSIVE, 30), Record(EXCLUSIVE, 32)]
+    # There are no ordered vectors.
+    records += [any_record(rng, ORDERED, operation, 0) for operation in SIZED_NAMES if is_vector(UNSCALED, operation)]
+    unknown = [Record(11, 0), Record(LITERAL, 7), Record(LITERAL, 8), Record(PAIR, 0, mode=4), Record(PAIR, 8, mode=4),
+               Record(UNSIGNED, 32), Record(UNSIGNED, 1 << 32), Record(EXCLUSIVE, 4), Record(EXCLUSIVE, 30),
+               Record(EXCLUSIVE, 32)]
+    unknown += [Record(PAIR, operation) for operation in (2, 6, 7, 14, 15, 16)]
+    unknown += [Record(family, operation) for family in (ORDERED, UNSCALED)
+                for operation in (11, 15, 22, 23, 26, 27, 30, 31, 32)]
     return list(dict.fromkeys(records)), unknown
 
 
