@@ -34,7 +34,7 @@ fn literal_of(c: Case) -> Family {
         target: low_half(c.target),
         offset: signed(c.offset),
     };
-    if c.operation > 3 {
+    if c.operation > 6 {
         return Family::Empty;
     }
     Family::Literal(instruction::literal_at(low_half(c.operation)), operands)
@@ -59,7 +59,12 @@ fn pair_of(c: Case) -> Family {
 }
 
 fn is_pair(operation: u64) -> bool {
-    operation < 6 && operation != 2
+    match operation {
+        0..=1 => true,
+        3..=5 => true,
+        8..=13 => true,
+        _ => false,
+    }
 }
 
 fn sized_of(c: Case) -> Family {
@@ -79,7 +84,14 @@ fn sized_of(c: Case) -> Family {
 }
 
 fn is_sized(operation: u64) -> bool {
-    operation < 15 && operation != 11
+    match operation {
+        0..=10 => true,
+        12..=14 => true,
+        16..=21 => true,
+        24..=25 => true,
+        28..=29 => true,
+        _ => false,
+    }
 }
 
 // Bit 23, L and bit 15, and above them the size.
