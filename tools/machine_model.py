@@ -1,4 +1,4 @@
-"""A model of 01's step and run, with 02's CR 1, CR 3, CR 13 and CR 8's statuses, to hold the proved ones against.
+"""A model of 01's step and run, with 02's CR 1, CR 3, CR 12, CR 13 and CR 8's statuses, to hold the proved ones against.
 
 It is written from them alone and shares no code with the crates or with the other scripts, so that an error would have
 to be made twice to stay unseen. Each rule is a method of its own: machine_mutants.py overrides one at a time.
@@ -22,22 +22,24 @@ ZEROS, SIGNED_64, SIGNED_32 = range(3)
 OPEN = 0, 0
 # The taint of a register: eight bytes, of which any but 0 marks the byte of the value at its place, the lowest first.
 NONE, ALL = bytes(8), b'\1' * 8
+# That of a vector register: sixteen bytes.
+VECTOR_NONE, VECTOR_ALL = bytes(16), b'\1' * 16
 
 # 01's table and 02's ninth family, bit 31 first: a digit is fixed, and a letter stands for a bit of the field that NAMES
-# gives it.
+# gives it. The field vector is 1 for vector registers, and families without it have none.
 ROWS = {
-    LITERAL: 'oo 011 0 00 iiiiiiiiiiiiiiiiiii ttttt',
-    PAIR: 'oo 101 0 0 yy L iiiiiii uuuuu nnnnn ttttt',
+    LITERAL: 'oo 011 v 00 iiiiiiiiiiiiiiiiiii ttttt',
+    PAIR: 'oo 101 v 0 yy L iiiiiii uuuuu nnnnn ttttt',
     ORDERED: 'zz 011 0 01 oo 0 iiiiiiiii 00 nnnnn ttttt',
-    UNSCALED: 'zz 111 0 00 oo 0 iiiiiiiii 00 nnnnn ttttt',
-    POST: 'zz 111 0 00 oo 0 iiiiiiiii 01 nnnnn ttttt',
-    PRE: 'zz 111 0 00 oo 0 iiiiiiiii 11 nnnnn ttttt',
-    REGISTER: 'zz 111 0 00 oo 1 mmmmm ppp S 10 nnnnn ttttt',
-    UNSIGNED: 'zz 111 0 01 oo iiiiiiiiiiii nnnnn ttttt',
+    UNSCALED: 'zz 111 v 00 oo 0 iiiiiiiii 00 nnnnn ttttt',
+    POST: 'zz 111 v 00 oo 0 iiiiiiiii 01 nnnnn ttttt',
+    PRE: 'zz 111 v 00 oo 0 iiiiiiiii 11 nnnnn ttttt',
+    REGISTER: 'zz 111 v 00 oo 1 mmmmm ppp S 10 nnnnn ttttt',
+    UNSIGNED: 'zz 111 v 01 oo iiiiiiiiiiii nnnnn ttttt',
     EXCLUSIVE: 'zz 001 0 00 a L 0 sssss b uuuuu nnnnn ttttt',
 }
 NAMES = {'z': 'size', 'o': 'opc', 'L': 'load', 'y': 'mode', 'i': 'imm', 'u': 'rt2', 'm': 'rm', 'p': 'option',
-         'S': 'scaled', 'n': 'rn', 't': 'rt', 'a': 'o2', 's': 'rs', 'b': 'o0'}
+         'S': 'scaled', 'n': 'rn', 't': 'rt', 'a': 'o2', 's': 'rs', 'b': 'o0', 'v': 'vector'}
 
 
 def layout_of(row):
@@ -98,6 +100,8 @@ class Access(NamedTuple):
     # A load-exclusive or store-exclusive, and the latter's Rs.
     exclusive: bool = False
     status: Optional[int] = None
+    # Whether the targets are vector registers.
+    vector: bool = False
 
     def length(self):
         return self.width * len(self.targets)
@@ -106,16 +110,19 @@ class Access(NamedTuple):
 class State:
     """Everything that a step gets beside its word. The length of the window is that of the memory."""
 
-    def __init__(self, origin, readonly, pc, registers, taints, memory, taint, monitor=OPEN):
+    def __init__(self, origin, readonly, pc, registers, taints, memory, taint, monitor=OPEN, vectors=(0,) * 32,
+                 vector_taints=(VECTOR_NONE,) * 32):
         self.origin, self.readonly, self.pc = origin, readonly, pc
         # X0 to X30 and SP.
         self.registers, self.taints = list(registers), list(taints)
         self.memory, self.taint = bytearray(memory), bytearray(taint)
         self.monitor = tuple(monitor)
+        # Numbers below 2^128.
+        self.vectors, self.vector_taints = list(vectors), list(vector_taints)
 
     def copy(self):
         return State(self.origin, self.readonly, self.pc, self.registers, self.taints, self.memory, self.taint,
-                     self.monitor)
+                     self.monitor, self.vectors, self.vector_taints)
 
     def end(self):
         """As a whole number: it may be 2^64 or more."""
@@ -155,6 +162,8 @@ class Model:
         return (f['o2'], f['load']) == (0, 0)
 
     def is_undefined(self, family, f):
+        if f.get('vector'):
+            return self.is_undefined_vector(family, f)
         if family == LITERAL:
             return False
         if family == PAIR:
@@ -170,35 +179,59 @@ class Model:
             return True
         return family == REGISTER and f['option'] & 0b010 == 0
 
+    def is_undefined_vector(self, family, f):
+        """02, CR 12, "in place of 01's undefined words"."""
+        if family in (LITERAL, PAIR):
+            return f['opc'] == 0b11
+        return f['size'] != 0b00 and f['opc'] & 0b10 != 0 or family == REGISTER and f['option'] & 0b010 == 0
+
     # "What a word says".
 
-    def access_of(self, family, f):
+    def moved(self, family, f):
+        """Whether a word prefetches, whether it stores, what is done above, and which power of two one register's bytes are."""
+        if f.get('vector'):
+            return self.moved_vector(family, f)
         if family == LITERAL:
-            width, above = {0b00: (4, ZEROS), 0b01: (8, ZEROS), 0b10: (4, SIGNED_64), 0b11: (0, ZEROS)}[f['opc']]
-            return Access(family, f['opc'] == 0b11, False, above, width, (f['rt'],), offset=signed(f['imm'], 19) * 4)
+            above, scale = {0b00: (ZEROS, 2), 0b01: (ZEROS, 3), 0b10: (SIGNED_64, 2), 0b11: (ZEROS, 0)}[f['opc']]
+            return f['opc'] == 0b11, False, above, scale
         if family == PAIR:
-            width, above = {0b00: (4, ZEROS), 0b10: (8, ZEROS), 0b01: (4, SIGNED_64)}[f['opc']]
-            return Access(
-                family, False, f['load'] == 0, above, width, (f['rt'], f['rt2']), f['rn'],
-                offset=signed(f['imm'], 7) * width, writeback=f['mode'] in (PAIR_POST, PAIR_PRE))
+            above, scale = {0b00: (ZEROS, 2), 0b10: (ZEROS, 3), 0b01: (SIGNED_64, 2)}[f['opc']]
+            return False, f['load'] == 0, above, scale
+        above = {0b00: ZEROS, 0b01: ZEROS, 0b10: SIGNED_64, 0b11: SIGNED_32}[f['opc']]
+        return (f['size'], f['opc']) == (0b11, 0b10), f['opc'] == 0b00, above, f['size']
+
+    def moved_vector(self, family, f):
+        if family in (LITERAL, PAIR):
+            return False, family == PAIR and f['load'] == 0, ZEROS, f['opc'] + 2
+        return False, f['opc'] & 1 == 0, ZEROS, self.vector_scale(f)
+
+    def vector_scale(self, f):
+        """02, CR 12: "at 16 bytes scale, shift and text take 4 for size"."""
+        return 4 if f['opc'] & 0b10 else f['size']
+
+    def access_of(self, family, f):
         if family == EXCLUSIVE:
             return Access(
                 family, False, f['load'] == 0, ZEROS, 1 << f['size'], (f['rt'],), f['rn'], exclusive=f['o2'] == 0,
                 status=f['rs'] if self.has_status(f) else None)
-        prefetch = (f['size'], f['opc']) == (0b11, 0b10)
-        above = {0b00: ZEROS, 0b01: ZEROS, 0b10: SIGNED_64, 0b11: SIGNED_32}[f['opc']]
-        access = Access(family, prefetch, f['opc'] == 0b00, above, 1 << f['size'], (f['rt'],), f['rn'])
+        prefetch, store, above, scale = self.moved(family, f)
+        access = Access(family, prefetch, store, above, 1 << scale, (f['rt'],), f.get('rn'), vector=f.get('vector') == 1)
+        if family == LITERAL:
+            return access._replace(offset=signed(f['imm'], 19) * 4)
+        if family == PAIR:
+            return access._replace(
+                targets=(f['rt'], f['rt2']), offset=signed(f['imm'], 7) << scale, writeback=f['mode'] in (PAIR_POST, PAIR_PRE))
         if family == REGISTER:
-            return access._replace(index=f['rm'], option=f['option'], shift=f['size'] if f['scaled'] else 0)
+            return access._replace(index=f['rm'], option=f['option'], shift=scale if f['scaled'] else 0)
         if family == UNSIGNED:
-            return access._replace(offset=f['imm'] << f['size'])
+            return access._replace(offset=f['imm'] << scale)
         return access._replace(offset=signed(f['imm'], 9), writeback=family in (POST, PRE))
 
     def is_post(self, access, f):
         return access.family == POST or access.family == PAIR and f['mode'] == PAIR_POST
 
     def read(self, state, number):
-        """The value and the taint of Rt, Rt2 or Rm."""
+        """The value and the taint of Rt, Rt2 or Rm, where it is a general register."""
         return (0, NONE) if number == LAST else (state.registers[number], state.taints[number])
 
     def read_index(self, state, access):
@@ -211,6 +244,20 @@ class Model:
 
     def set(self, state, number, value, taint):
         state.registers[number], state.taints[number] = value, taint
+
+    def read_vector(self, state, number):
+        """02, CR 12: "31 is a register like any other"."""
+        return state.vectors[number], state.vector_taints[number]
+
+    def set_vector(self, state, number, value, taint):
+        state.vectors[number], state.vector_taints[number] = value, taint
+
+    def read_target(self, state, access, number):
+        """The value and the taint of Rt or Rt2."""
+        return (self.read_vector if access.vector else self.read)(state, number)
+
+    def write_target(self, state, access, number, value, taint):
+        (self.set_vector if access.vector else self.write)(state, number, value, taint)
 
     def base_of(self, state, access):
         return state.pc if access.base is None else state.registers[access.base]
@@ -248,7 +295,8 @@ class Model:
                 or state.pc % 4 != 0)
 
     def is_unpredictable(self, state, access, address):
-        if access.writeback and access.base != LAST and access.base in access.targets:
+        """02, CR 12: "A vector register never collides with a base"."""
+        if access.writeback and not access.vector and access.base != LAST and access.base in access.targets:
             return True
         if access.status is not None:
             return access.status == access.targets[0] or access.status == access.base != LAST
@@ -301,7 +349,7 @@ class Model:
         """A register's, from the taint of the bytes that it is loaded from and from its own as it was."""
         loaded = self.read_marks(taint)
         above = {ZEROS: 0, SIGNED_64: 8, SIGNED_32: 4}[access.above] - access.width
-        return (loaded + bytes([self.sign_mark(loaded)]) * above).ljust(8, b'\0')
+        return (loaded + bytes([self.sign_mark(loaded)]) * above).ljust(16 if access.vector else 8, b'\0')
 
     def read_marks(self, taint):
         """The marks of bytes of memory."""
@@ -323,14 +371,14 @@ class Model:
         for k, number in enumerate(access.targets):
             at = address - state.origin + self.part(access, k) * access.width
             value = int.from_bytes(state.memory[at:at + access.width], 'little')
-            old, marks = self.read(state, number)
+            old, marks = self.read_target(state, access, number)
             taint = self.loaded_taint(access, state.taint[at:at + access.width], marks)
-            self.write(state, number, self.extended(access, value, old), taint)
+            self.write_target(state, access, number, self.extended(access, value, old), taint)
 
     def store(self, state, access, address):
         for k, number in enumerate(access.targets):
             at = address - state.origin + self.part(access, k) * access.width
-            value, taint = self.read(state, number)
+            value, taint = self.read_target(state, access, number)
             stored = value % (1 << 8 * access.width)
             state.memory[at:at + access.width] = stored.to_bytes(access.width, 'little')
             state.taint[at:at + access.width] = self.stored_taint(access, taint, state.taint[at:at + access.width])
