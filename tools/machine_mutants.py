@@ -3,7 +3,8 @@
 The stored cases have to tell every one of them from the right machine. The first list has the errors that 01 warns of
 and those that must not be provable, the second has further slips, the third has those of the stack pointer's alignment
 (02, CR 1), the fourth has those that only one value or one window shows, and the last has wrong runs. Those of exclusives
-and statuses stand in exclusive_mutants.py, and those of marks by byte in mark_mutants.py.
+and statuses stand in exclusive_mutants.py, those of marks by byte in mark_mutants.py, and those of vector registers in
+vector_mutants.py.
 """
 from machine_model import (
     ALL, EXCLUSIVE, LAST, LITERAL, NONE, ORDERED, PAIR, PAIR_OFFSET, REGISTER, SIGNED_32, SIGNED_64, SPACE, STACK, UNTOUCHED,
@@ -442,7 +443,7 @@ class LiteralTaint(Model):
 
     def is_tainted(self, state, access, address):
         if access.family == LITERAL:
-            return any(self.read(state, access.targets[0])[1])
+            return any(self.read_target(state, access, access.targets[0])[1])
         return super().is_tainted(state, access, address)
 
 

@@ -1,8 +1,8 @@
 """What Unicorn's processor does with the words of a case, held against the model step by step.
 
 Unicorn is QEMU's emulator as a library, with code of its own for every instruction. It knows nothing of taints,
-windows and answers: those are 01's, and the model's alone. For a step that is done, registers, PC, all bytes of the
-mapped pages, and the address, length and direction of the access have to be the same.
+windows and answers: those are 01's, and the model's alone. For a step that is done, registers of both kinds, PC, all bytes of
+the mapped pages, and the address, length and direction of the access have to be the same.
 
 QEMU's monitor holds the address of a load-exclusive and the value that it loaded, and no size. A store-exclusive at another
 address fails without an access. At the same address it reads its own bytes, stores if they are the low bytes of that
@@ -21,12 +21,14 @@ import struct
 
 from unicorn import UC_ARCH_ARM64, UC_HOOK_MEM_READ, UC_HOOK_MEM_WRITE, UC_MEM_WRITE, UC_MODE_ARM, Uc, UcError
 from unicorn.arm64_const import (
-    UC_ARM64_REG_PC, UC_ARM64_REG_SP, UC_ARM64_REG_X0, UC_ARM64_REG_X29, UC_ARM64_REG_X30, UC_CPU_ARM64_MAX)
+    UC_ARM64_REG_PC, UC_ARM64_REG_Q0, UC_ARM64_REG_SP, UC_ARM64_REG_X0, UC_ARM64_REG_X29, UC_ARM64_REG_X30,
+    UC_CPU_ARM64_MAX)
 
 from machine_model import EXCLUSIVE, LAST, SPACE, fields_of, word_of
 
 PAGE, OWN_PAGE = 4096, 1024
 NUMBERS = [UC_ARM64_REG_X0 + i for i in range(29)] + [UC_ARM64_REG_X29, UC_ARM64_REG_X30, UC_ARM64_REG_SP]
+VECTORS = [UC_ARM64_REG_Q0 + i for i in range(32)]
 # What the mapped bytes outside the window hold.
 FILLING = b'\xa5'
 
@@ -58,7 +60,7 @@ class Emulated:
         for page, content in self.pages.items():
             self.uc.mem_map(page, PAGE)
             self.uc.mem_write(page, bytes(content))
-        for number, value in zip(NUMBERS, state.registers):
+        for number, value in zip(NUMBERS + VECTORS, state.registers + state.vectors):
             self.uc.reg_write(number, value)
         self.uc.reg_write(UC_ARM64_REG_PC, state.pc)
         # The address of QEMU's monitor, or None if it is open, and its value.
@@ -148,6 +150,9 @@ class Emulated:
         if registers != state.registers:
             return 'registers %s' % ['x%d: %x' % (i, value) for i, value in enumerate(registers)
                                      if value != state.registers[i]]
+        vectors = [self.uc.reg_read(number) for number in VECTORS]
+        if vectors != state.vectors:
+            return 'vectors %s' % ['q%d: %x' % (i, value) for i, value in enumerate(vectors) if value != state.vectors[i]]
         if self.uc.reg_read(UC_ARM64_REG_PC) != state.pc:
             return 'pc %x' % self.uc.reg_read(UC_ARM64_REG_PC)
         self.put(state.origin, state.memory)
@@ -156,7 +161,7 @@ class Emulated:
         if accesses is not None:
             return None if self.accesses == accesses else 'accesses %s' % self.accesses
         accesses = self.asked_for()
-        # A pair is two accesses, one behind the other.
+        # A pair is two accesses, one behind the other, and so are the halves of 16 bytes.
         first = min((at for at, _, _ in accesses), default=0)
         length = sum(length for _, length, _ in accesses)
         if (first, length) != (address, code % 64) or any(stores != (code >= 64) for _, _, stores in accesses):
@@ -230,6 +235,8 @@ def kind_of(access, status):
         return 'store-exclusives that fail' if status else 'store-exclusives that store'
     if access.family == EXCLUSIVE:
         return 'load-exclusives' if access.exclusive else 'ldar and stlr'
+    if access.vector:
+        return 'stores of vectors' if access.store else 'loads of vectors'
     return 'prefetches' if access.prefetch else 'loads and stores'
 
 
@@ -252,8 +259,8 @@ def ignores_unused(word, state):
 
 def reaches(word, state, access, address):
     """Whether an access that the window refuses would be at this address if there were memory."""
-    # The longest access, a pair, may go on at address 0.
-    emulated = Emulated([word], state, (address, (address + 15) % SPACE))
+    # The longest access, a pair of vectors, may go on at address 0.
+    emulated = Emulated([word], state, (address, (address + 31) % SPACE))
     if access.exclusive and address % access.width:
         # A load raises an exception once it has asked for its bytes, and a store fails.
         asked = [] if access.store else [(address, access.width, False)]

@@ -35,8 +35,8 @@ class SecondAsFirst(Model):
     def load(self, state, access, address):
         super().load(state, access, address)
         if access.family == PAIR:
-            first, second = access.targets
-            self.write(state, second, self.read(state, second)[0], self.read(state, first)[1])
+            (_, taint), (value, _) = (self.read_target(state, access, number) for number in access.targets)
+            self.write_target(state, access, access.targets[1], value, taint)
 
 
 class SecondStoredAsFirst(Model):

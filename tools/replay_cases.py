@@ -8,9 +8,9 @@
                                                     holds them all against demand 3 and its other half
 
 What must come is the model's, which is written from 01 and 02 alone (machine_model.py). Every step that is done, prefetches
-too, is also done by Unicorn, and registers, memory, PC, address and length of the access have to be the same: the script
-stops at any difference but those of its monitor, which machine_unicorn.py has a rule for. Unicorn also has to refuse the
-words of answer 3 but for the ninth family's, and to reach for the address that answers 6 to 8 give. It has no test of the
+too, is also done by Unicorn, and registers of both kinds, memory, PC, address and length of the access have to be the same:
+the script stops at any difference but those of its monitor, which machine_unicorn.py has a rule for. Unicorn also has to refuse
+the words of answer 3 but for the ninth family's, and to reach for the address that answers 6 to 8 give. It has no test of the
 stack pointer's alignment: where that is what refuses, it has to make the access, at the address that the model gives it.
 Which words are 2, 3 and 4 is also held against crates/list/stdout, which LLVM and binutils have made. The other answers,
 windows, taints, the trace and the statuses' list are the model's alone. None of it comes from this project's code.
@@ -20,6 +20,7 @@ Made with unicorn 2.0.1 from Debian 12, in some twenty seconds. The output is th
 """
 import argparse
 import collections
+import itertools
 import os
 import random
 
@@ -33,10 +34,12 @@ from replay_format import bad_ending, case_bytes, case_lines, outcome_of, write_
 from replay_marks import all_marks
 from replay_pairs import all_pairs, keeps_halves
 from replay_runs import all_runs, largest_case
-from replay_states import access_of, is_unpredictable, registers_of, with_any_marks
+from replay_states import WITH_VECTORS, access_of, is_unpredictable, registers_of, with_any_marks
 from replay_steps import all_steps, flaws_of, with_longer_lists
+from replay_vectors import all_vector_marks, all_vectors
+from vector_mutants import REGISTERS, TESTS, VECTOR_TOO_FEW, VECTOR_TOO_MANY, WORDS
 
-STEPS_SEED, RUNS_SEED, EDGES_SEED, EXCLUSIVES_SEED, MARKS_SEED, PAIRS_SEED = 3, 4, 5, 6, 7, 8
+STEPS_SEED, RUNS_SEED, EDGES_SEED, EXCLUSIVES_SEED, MARKS_SEED, PAIRS_SEED, VECTORS_SEED = 3, 4, 5, 6, 7, 8, 9
 MODEL = Model()
 
 
@@ -117,17 +120,20 @@ def sorted_as_listed():
 
 def show_coverage(cases, outcomes):
     """What the least frequent choice, and the least frequent register in some place, have in done steps."""
-    chosen, placed = ({family: collections.Counter() for family in FAMILIES} for _ in range(2))
+    kinds = [*itertools.product(FAMILIES, [0]), *itertools.product(WITH_VECTORS, [1])]
+    chosen, placed = ({kind: collections.Counter() for kind in kinds} for _ in range(2))
     for case, outcome in zip(cases, outcomes):
         for word in case.words[:outcome.steps]:
             family = MODEL.family_of(word)
             fields, places = fields_of(family, word), registers_of(family)
-            chosen[family][tuple(value for name, value in fields.items() if name not in places + ['imm'])] += 1
-            placed[family].update((name, fields[name]) for name in places)
-    for family in FAMILIES:
-        assert len(placed[family]) == 32 * len(registers_of(family))
-        print('%s: %d choices, the least done %d times; each register in each place at least %d times' % (
-            family, len(chosen[family]), min(chosen[family].values()), min(placed[family].values())))
+            kind = family, fields.get('vector', 0)
+            chosen[kind][tuple(value for name, value in fields.items() if name not in places + ['imm'])] += 1
+            placed[kind].update((name, fields[name]) for name in places)
+    for kind in kinds:
+        family, vector = kind
+        assert len(placed[kind]) == 32 * len(registers_of(family))
+        print('%s%s: %d choices, the least done %d times; each register in each place at least %d times' % (
+            family, ' of vectors' * vector, len(chosen[kind]), min(chosen[kind].values()), min(placed[kind].values())))
 
 
 def show_flaws(cases):
@@ -144,8 +150,8 @@ def show_flaws(cases):
 def comparable(outcome):
     state = outcome.state
     return (outcome.steps, outcome.answer, outcome.code, outcome.address, state.pc, state.registers,
-            [marks_of(taint) for taint in state.taints], state.memory, state.taint, state.monitor, outcome.trace,
-            outcome.statuses)
+            [marks_of(taint) for taint in state.taints], state.vectors, [marks_of(taint) for taint in state.vector_taints],
+            state.memory, state.taint, state.monitor, outcome.trace, outcome.statuses)
 
 
 def differing(mutant, cases, right):
@@ -163,8 +169,8 @@ def check_halves(cases, marked):
     """Demand 3's two halves of every case, and that wrong marks break them in those that are made for marks."""
     assert all(keeps_halves(MODEL, case) for case in cases)
     print('%7d  cases that end from 0 and from 255 as demand 3 and its other half say' % len(cases))
-    for title, mutants in (('too few marks, and cases that show it from 0 and 255', TOO_FEW),
-                           ('too many marks, likewise', TOO_MANY)):
+    for title, mutants in (('too few marks, and cases that show it from 0 and 255', TOO_FEW + VECTOR_TOO_FEW),
+                           ('too many marks, likewise', TOO_MANY + VECTOR_TOO_MANY)):
         print(title)
         for mutant in mutants:
             count = sum(not keeps_halves(mutant(), case) for case in marked)
@@ -176,7 +182,9 @@ def check_halves(cases, marked):
 def self_check(cases, outcomes, marked):
     right = [comparable(outcome) for outcome in outcomes]
     lists = [('warned of', WARNED), ('further', SLIPS), ('stack pointer', STACKS), ('exclusives', EXCLUSIVES),
-             ('edges', EDGES), ('runs', RUNS), ('marks', TOO_FEW + TOO_MANY + OTHERS)]
+             ('edges', EDGES), ('runs', RUNS), ('marks', TOO_FEW + TOO_MANY + OTHERS),
+             ('words of vectors', WORDS), ('vector registers', REGISTERS), ('tests of vectors', TESTS),
+             ('marks of vectors', VECTOR_TOO_FEW + VECTOR_TOO_MANY)]
     unseen = []
     for title, mutants in lists:
         print(title)
@@ -201,7 +209,9 @@ def main():
     if options.endings:
         return write_endings(options.endings, MODEL, cases[0], largest_case(random.Random(RUNS_SEED)))
     cases = with_longer_lists(cases + all_runs(random.Random(RUNS_SEED))) + all_exclusives(random.Random(EXCLUSIVES_SEED))
-    marked = all_marks(random.Random(MARKS_SEED)) + all_pairs(random.Random(PAIRS_SEED))
+    vectors = random.Random(VECTORS_SEED)
+    cases += all_vectors(vectors)
+    marked = all_marks(random.Random(MARKS_SEED)) + all_vector_marks(vectors) + all_pairs(random.Random(PAIRS_SEED))
     cases = [with_any_marks(number, case) for number, case in enumerate(cases + marked)]
     outcomes = [outcome_of(MODEL, case) for case in cases]
     if options.self_check:

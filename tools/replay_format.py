@@ -2,15 +2,17 @@
 
 A case, numbers little-endian: ten 64-bit numbers, which are W words, L bytes of memory, K bytes of taint, T numbers of
 trace, S statuses, origin, r, PC, and the address and size of the monitor; 32 64-bit numbers, X0 to X30 and SP; 32 64-bit
-numbers, their taints, of which a byte that is not 0 marks the byte of the value at its place; W words of 4 bytes; L bytes;
-K bytes. The trace starts with 2^64 - 1 in every place, and the list of statuses with 255. A monitor of size 0 is open, and
-one that a step opens has the address 0.
+numbers, their taints, of which a byte that is not 0 marks the byte of the value at its place; 64 64-bit numbers, V0 to V31,
+the low half of each first; 64 64-bit numbers, their taints likewise; W words of 4 bytes; L bytes; K bytes. The trace starts
+with 2^64 - 1 in every place, and the list of statuses with 255. A monitor of size 0 is open, and one that a step opens has
+the address 0.
 
 The lines of a case, fields parted by tabs:
 
     case, its number from 0, steps, answer, code, address, PC
     registers, 32 fields of 16 hex digits, each followed by * and eight digits where tainted: 1 for a marked byte and 0
         for another, the highest byte first
+    vectors, 32 fields of 32 hex digits, each followed by * and sixteen digits where tainted
     memory, one field of hex digits
     taint, one field of hex digits
     trace, T numbers
@@ -61,6 +63,8 @@ def case_bytes(case):
                state.pc, state.monitor),
         struct.pack('<32Q', *state.registers),
         *state.taints,
+        *(value.to_bytes(16, 'little') for value in state.vectors),
+        *state.vector_taints,
         struct.pack('<%dI' % len(case.words), *case.words), state.memory, state.taint))
 
 
@@ -68,7 +72,8 @@ def case_lines(number, outcome):
     state = outcome.state
     numbers = number, outcome.steps, outcome.answer, outcome.code, outcome.address, state.pc
     registers = ('%016x%s' % (value, shown_taint(taint)) for value, taint in zip(state.registers, state.taints))
-    lines = [['case', *map(str, numbers)], ['registers', *registers], ['memory', state.memory.hex()],
+    vectors = ('%032x%s' % (value, shown_taint(taint)) for value, taint in zip(state.vectors, state.vector_taints))
+    lines = [['case', *map(str, numbers)], ['registers', *registers], ['vectors', *vectors], ['memory', state.memory.hex()],
              ['taint', state.taint.hex()], ['trace', *map(str, outcome.trace)],
              ['monitor', *map(str, state.monitor)], ['statuses', outcome.statuses.hex()]]
     return ''.join('\t'.join(fields) + '\n' for fields in lines)
@@ -85,7 +90,8 @@ def bad_ending(number, why):
 def endings(model, case, largest):
     """Inputs that end in each way, by name, with what must come: a good case, the ending, and bytes after it."""
     whole, lines = case_bytes(case), case_lines(0, outcome_of(model, case))
-    cut = [('cut-after-%d-bytes' % length, whole[:length]) for length in (1, 8, 64, 79, 80, 81, 335, 367, 591, 594, 598)]
+    cut = [('cut-after-%d-bytes' % length, whole[:length]) for length in (
+        1, 8, 64, 79, 80, 81, 335, 367, 591, 592, 1103, 1135, 1615, 1618, 1622)]
     cut.append(('cut-by-the-last-byte', whole[:-1]))
     yield 'nothing', b'', ''
     yield 'one-case', whole, lines

@@ -14,11 +14,17 @@ def blended(taint, value, other):
     return bytes(there if mark else here for mark, here, there in zip(taint, value, other))
 
 
-def with_secrets(given, registers, memory):
+def blended_registers(taints, values, others):
+    """The same for registers, general or vectors, whose numbers have as many bytes as their taints."""
+    return [int.from_bytes(blended(taint, *(number.to_bytes(len(taint), 'little') for number in both)), 'little')
+            for taint, *both in zip(taints, values, others)]
+
+
+def with_secrets(given, registers, vectors, memory):
     """The same state but for its marked bytes, which are those of these."""
     state = given.copy()
-    state.registers = [int.from_bytes(blended(taint, value.to_bytes(8, 'little'), other.to_bytes(8, 'little')), 'little')
-                       for taint, value, other in zip(given.taints, given.registers, registers)]
+    state.registers = blended_registers(given.taints, given.registers, registers)
+    state.vectors = blended_registers(given.vector_taints, given.vectors, vectors)
     # A window of answer 1 may have taint of another length, and what lies past it is not marked.
     state.memory[:len(given.taint)] = blended(given.taint, given.memory, memory)
     return state
@@ -27,19 +33,20 @@ def with_secrets(given, registers, memory):
 def with_other_secrets(rng, case):
     state = case.state
     registers = [rng.choice((rng.getrandbits(64), state.origin)) for _ in range(32)]
-    return case._replace(state=with_secrets(state, registers, [rng.getrandbits(8) for _ in state.memory]))
+    memory, vectors = [rng.getrandbits(8) for _ in state.memory], [rng.getrandbits(128) for _ in range(32)]
+    return case._replace(state=with_secrets(state, registers, vectors, memory))
 
 
 def filled(case, byte):
     """The same case with every marked byte this one."""
-    registers = [int.from_bytes(bytes([byte]) * 8, 'little')] * 32
-    return case._replace(state=with_secrets(case.state, registers, bytes([byte]) * len(case.state.memory)))
+    registers, vectors = ([int.from_bytes(bytes([byte]) * width, 'little')] * 32 for width in (8, 16))
+    return case._replace(state=with_secrets(case.state, registers, vectors, bytes([byte]) * len(case.state.memory)))
 
 
 def bytes_of(state):
     """Each byte of registers and memory, with its taint."""
-    for value, taint in zip(state.registers, state.taints):
-        yield from zip(value.to_bytes(8, 'little'), taint)
+    for value, taint in zip(state.registers + state.vectors, state.taints + state.vector_taints):
+        yield from zip(value.to_bytes(len(taint), 'little'), taint)
     yield from zip(state.memory, state.taint)
 
 
@@ -47,7 +54,7 @@ def seen(outcome):
     """What two runs that differ in marked bytes only must have in common."""
     state = outcome.state
     return (outcome.steps, outcome.answer, outcome.code, outcome.address, state.pc, state.taint,
-            [marks_of(taint) for taint in state.taints], outcome.trace, outcome.statuses, state.monitor,
+            [marks_of(taint) for taint in state.taints + state.vector_taints], outcome.trace, outcome.statuses, state.monitor,
             [byte for byte, taint in bytes_of(state) if not taint])
 
 
@@ -58,25 +65,27 @@ def keeps_halves(model, case):
     return seen(low) == seen(high) and all(one != other for (one, taint), (other, _) in ends if taint)
 
 
-def secret_run(rng, group, number):
+def secret_run(rng, group, number, **how):
     refused = 5 if number % 4 == 0 else rng.choice((None, None, 7))
-    return any_run(rng, group, rng.randrange(2, 14), refused, more=rng.randrange(2), secret=True)
+    return any_run(rng, group, rng.randrange(2, 14), refused, more=rng.randrange(2), secret=True, **how)
 
 
-def other_secrets(rng):
-    for number in range(110):
-        case = secret_run(rng, 'pair of runs', number)
+def other_secrets(rng, group, count, **how):
+    for number in range(count):
+        case = secret_run(rng, group, number, **how)
         twin = with_other_secrets(rng, case)
         assert seen(outcome_of(MODEL, case)) == seen(outcome_of(MODEL, twin))
         yield from (case, twin)
 
 
-def opposed_secrets(rng):
-    for number in range(110):
-        case = secret_run(rng, 'pair of 0 and 255', number)
+def opposed_secrets(rng, group, count, **how):
+    for number in range(count):
+        case = secret_run(rng, group, number, **how)
         assert keeps_halves(MODEL, case)
         yield from (filled(case, 0), filled(case, 255))
 
 
 def all_pairs(rng):
-    return [*other_secrets(rng), *opposed_secrets(rng)]
+    return [*other_secrets(rng, 'pair of runs', 110), *opposed_secrets(rng, 'pair of 0 and 255', 110),
+            *other_secrets(rng, 'pair of runs, vectors', 40, vectors=True),
+            *opposed_secrets(rng, 'pair of 0 and 255, vectors', 40, vectors=True)]

@@ -7,15 +7,16 @@ from machine_model import (
     EXCLUSIVE, FAMILIES, LAST, LITERAL, NONE, ORDERED, PAIR, POST, PRE, REGISTER, SPACE, UNSCALED, UNSIGNED, State, word_of)
 from replay_format import MOST_MEMORY, MOST_STATUSES, MOST_TRACE, MOST_WORDS, Case
 from replay_states import (
-    MODEL, TAINTS, any_monitor, any_word, choices, exclusive_choice, prefetch_word, registers_of, some_bytes)
+    MODEL, TAINTS, WITH_VECTORS, access_of, any_monitor, any_word, choices, exclusive_choice, fill_vectors, prefetch_word,
+    registers_of, some_bytes, vector_choices)
 from replay_steps import bad_windows, spoiled, undefined_words, unpredictable_words
 
 # So far a base may be from the window to be led back into it.
 NEAR = 300
 
 
-def start(rng, length, pc=None, secret=False, readonly=None):
-    """A state with pointers into its window, small numbers for indexes, and some taint."""
+def start(rng, length, pc=None, secret=False, readonly=None, vectors=False):
+    """A state with pointers into its window, small numbers for indexes, some taint, and maybe values in vector registers."""
     origin = 4096 + rng.randrange(4000)
     if pc is None and rng.randrange(8) == 0:
         origin = rng.choice((0, SPACE - length, rng.getrandbits(60)))
@@ -39,13 +40,17 @@ def start(rng, length, pc=None, secret=False, readonly=None):
     if readonly is None:
         readonly = rng.choice((0, 0, rng.randrange(length // 4 + 1)))
     monitor = any_monitor(rng, registers[rng.choice(numbers[:8])], rng.choice((1, 2, 4, 8)))
-    return State(origin, readonly, pc, registers, taints, memory, taint, monitor)
+    state = State(origin, readonly, pc, registers, taints, memory, taint, monitor)
+    if vectors:
+        fill_vectors(rng, state, often=2 if secret else 5)
+    return state
 
 
 def aimed_word(rng, state):
-    """A word whose access may well be in the window."""
+    """A word whose access may well be in the window; of vectors too, where these have values."""
     family = rng.choice(FAMILIES)
-    choice = rng.choice(choices(family))
+    vector = any(state.vectors) and family in WITH_VECTORS and rng.randrange(3)
+    choice = rng.choice((vector_choices if vector else choices)(family))
     fields = {name: rng.randrange(32) for name in registers_of(family)}
     target = state.origin + rng.randrange(max(1, len(state.memory)))
     if family == LITERAL:
@@ -62,10 +67,7 @@ def aimed_word(rng, state):
         fields['rm'] = rng.choice(small + [LAST])
         return word_of(family, **fields, **choice)
     offset = target - state.registers[fields['rn']]
-    if family in (POST, PRE, UNSCALED, ORDERED):
-        width = 1
-    else:
-        width = 1 << choice['size'] if family == UNSIGNED else 8 if choice['opc'] == 2 else 4
+    width = 1 if family in (POST, PRE, UNSCALED, ORDERED) else access_of(word_of(family, **choice)).width
     return word_of(family, **fields, **choice, imm=offset // width)
 
 

@@ -3,11 +3,12 @@ import itertools
 
 from machine_model import (
     ALL, EXCLUSIVE, LAST, LAYOUTS, LITERAL, NO_ALLOCATE, NONE, OPEN, ORDERED, PAIR, POST, PRE, REGISTER, SPACE, UNSCALED,
-    UNSIGNED, Model, State, fields_of, word_of)
+    UNSIGNED, VECTOR_ALL, VECTOR_NONE, Model, State, fields_of, word_of)
 
 MODEL = Model()
 SIZED = (ORDERED, UNSCALED, POST, PRE, UNSIGNED)
 WITH_PREFETCH = (UNSCALED, REGISTER, UNSIGNED)
+WITH_VECTORS = (LITERAL, PAIR, UNSCALED, POST, PRE, REGISTER, UNSIGNED)
 TAINTS = (1, 1, 2, 128, 255)
 MARKS = (1, 255, 2, 128)
 # Bits 23, 22 and 15 of the ninth family: stxr, stlxr, ldxr, ldaxr, stlr, ldar.
@@ -23,7 +24,7 @@ def sized_choices():
 
 
 def choices(family):
-    """The fields of a family that choose between loads and stores."""
+    """The fields of a family that choose between loads and stores of general registers."""
     if family == LITERAL:
         return [{'opc': opc} for opc in range(3)]
     if family == PAIR:
@@ -35,6 +36,20 @@ def choices(family):
     if family == EXCLUSIVE:
         return [exclusive_choice(size, *kind) for size in range(4) for kind in EXCLUSIVES]
     return sized_choices()
+
+
+def vector_choices(family):
+    """Those that choose between loads and stores of vector registers."""
+    if family == LITERAL:
+        return [{'vector': 1, 'opc': opc} for opc in range(3)]
+    if family == PAIR:
+        return [{'vector': 1, 'opc': opc, 'mode': mode, 'load': load}
+                for opc in range(3) for mode in range(4) for load in range(2)]
+    sized = [{'vector': 1, 'size': size, 'opc': opc} for size in range(4) for opc in range(2 if size else 4)]
+    if family == REGISTER:
+        return [{**choice, 'option': option, 'scaled': scaled}
+                for choice in sized for option in (2, 3, 6, 7) for scaled in range(2)]
+    return sized
 
 
 def exclusive_choice(size, o2, load, o0):
@@ -108,8 +123,10 @@ def equal_registers(rng, family):
 
 def with_any_marks(number, case):
     """The same case with other numbers for the marks of its registers: any byte but 0 is a mark."""
-    case.state.taints = [bytes(byte and MARKS[(number + n + i) % 4] for i, byte in enumerate(taint))
-                         for n, taint in enumerate(case.state.taints)]
+    def renumbered(taints):
+        return [bytes(byte and MARKS[(number + n + i) % 4] for i, byte in enumerate(taint)) for n, taint in enumerate(taints)]
+
+    case.state.taints, case.state.vector_taints = renumbered(case.state.taints), renumbered(case.state.vector_taints)
     return case
 
 
@@ -145,9 +162,26 @@ def some_bytes(rng):
     return one_byte(rng.randrange(8)) if kind < 5 else bytes(rng.getrandbits(1) for _ in range(8))
 
 
-def one_byte(place):
-    """The taint of a register of which this byte alone is marked."""
-    return bytes(i == place for i in range(8))
+def one_byte(place, width=8):
+    """The taint of a register of so many bytes of which this one alone is marked."""
+    return bytes(i == place for i in range(width))
+
+
+def some_vector_bytes(rng):
+    """The taint of a vector register of which some bytes are marked: all, a half, one, or any."""
+    kind = rng.randrange(6)
+    if kind < 3:
+        return (VECTOR_ALL, VECTOR_ALL[:8] + VECTOR_NONE[8:], VECTOR_NONE[:8] + VECTOR_ALL[8:])[kind]
+    return one_byte(rng.randrange(16), 16) if kind < 5 else bytes(rng.getrandbits(1) for _ in range(16))
+
+
+def fill_vectors(rng, state, random=(), often=4):
+    """Gives every vector register another value, these any, and one in so many some marked bytes."""
+    first = rng.randrange(256)
+    state.vectors = [rng.getrandbits(128) if number in random
+                     else int.from_bytes(bytes((first + 17 * number + i) % 256 for i in range(16)), 'little')
+                     for number in range(32)]
+    state.vector_taints = [some_vector_bytes(rng) if rng.randrange(often) == 0 else VECTOR_NONE for _ in range(32)]
 
 
 def any_taint(rng, memory, at, length):
@@ -190,6 +224,8 @@ def state_for(rng, word, address=None, before=None, after=None, readonly=None, p
     state = State(0, 0, 0, registers, taints, b'', b'')
     for number in access.targets if access.status is None else (*access.targets, access.status):
         state.taints[number] = whole(any(state.taints[number]) or rng.getrandbits(1) == 1)
+    if access.vector:
+        fill_vectors(rng, state, access.targets)
     state.pc = pc if pc is not None else 4 * rng.randrange(250, 1000)
     if address is None:
         address = any_address(rng, any_place(rng), length)
