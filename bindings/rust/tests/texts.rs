@@ -129,20 +129,21 @@ fn every_word() {
     println!("words by answer: {counts:?}");
 }
 
-const MNEMONICS: [&str; 40] = [
+const MNEMONICS: [&str; 42] = [
     "strb", "ldrb", "ldrsb", "strh", "ldrh", "ldrsh", "str", "ldr", "ldrsw", "prfm", "sturb", "ldurb", "ldursb",
     "sturh", "ldurh", "ldursh", "stur", "ldur", "ldursw", "prfum", "stlurb", "ldapurb", "ldapursb", "stlurh",
     "ldapurh", "ldapursh", "stlur", "ldapur", "ldapursw", "stp", "ldp", "ldpsw", "stnp", "ldnp",
     // Those that aren't ours.
-    "ldnpsw", "stgp", "ldtr", "ldxr", "rprfm", "ld",
+    "ldnpsw", "stgp", "ldtr", "ldxr", "rprfm", "ld", "ldrq", "ld1",
 ];
 
-const REGISTERS: [&str; 26] = [
+const REGISTERS: [&str; 44] = [
     "x0", "x1", "x9", "x10", "x29", "x30", "x31", "w0", "w5", "w30", "w31", "xzr", "wzr", "sp", "wsp", "x01", "x-1",
-    "x", "lr", "X2", "pldl1keep", "plil2strm", "pstl3keep", "pldl4keep", "plil1", "pldslckeep",
+    "x", "lr", "X2", "pldl1keep", "plil2strm", "pstl3keep", "pldl4keep", "plil1", "pldslckeep", "b0", "b31", "h7",
+    "h30", "s0", "s31", "d1", "d31", "q0", "q9", "q31", "q32", "q01", "qzr", "v0", "v0.16b", "Q1", "d",
 ];
 
-const NUMBERS: [&str; 36] = [
+const NUMBERS: [&str; 40] = [
     "0",
     "-0",
     "00",
@@ -166,12 +167,16 @@ const NUMBERS: [&str; 36] = [
     "512",
     "-512",
     "-520",
+    "1008",
+    "-1024",
     "4095",
     "4096",
     "16380",
     "16384",
     "32760",
     "32768",
+    "65520",
+    "65536",
     "1048572",
     "1048576",
     "-1048576",
@@ -181,9 +186,9 @@ const NUMBERS: [&str; 36] = [
     "0x10",
 ];
 
-const PIECES: [&str; 24] = [
-    ", ", ",", " ", "  ", "[", "]", "!", "#", "-", "lsl", "uxtw", "sxtw", "sxtx", "uxtx", "lsl #0", "lsl #3", " #2",
-    "]!", "], #", "\n", "\t", "\0", "\r\n", "é",
+const PIECES: [&str; 26] = [
+    ", ", ",", " ", "  ", "[", "]", "!", "#", "-", "lsl", "uxtw", "sxtw", "sxtx", "uxtx", "lsl #0", "lsl #3", "lsl #4",
+    " #2", " #4", "]!", "], #", "\n", "\t", "\0", "\r\n", "é",
 ];
 
 /// Where the text has pieces of one kind: register, number, or neither.
@@ -207,8 +212,8 @@ fn damage(random: &mut Random, text: &mut Vec<u8>) {
     let inside = random.below(text.len().max(1));
     match random.below(14) {
         0 if !text.is_empty() => drop(text.remove(inside)),
-        1 => text.insert(at, *random.choose(b" #,[]!-+0123456789abcdxwzrspltu.\n")),
-        2 if !text.is_empty() => text[inside] = *random.choose(b" #,[]!-0123456789abcxwzrsplt"),
+        1 => text.insert(at, *random.choose(b" #,[]!-+0123456789abcdhqxwzrspltu.\n")),
+        2 if !text.is_empty() => text[inside] = *random.choose(b" #,[]!-0123456789abcdhqxwzrsplt"),
         3 if text.len() > 1 => text.swap(inside.max(1), inside.max(1) - 1),
         4 => text.truncate(at),
         5 if !text.is_empty() => text[inside] = text[inside].to_ascii_uppercase(),
@@ -288,6 +293,23 @@ fn offsets_about_their_ends() {
         "prfum #7, [x2, #N]",
         "ldrb w1, [x2, x3, lsl #N]",
         "ldr x1, [x2, w3, sxtw #N]",
+        "ldr s31, #N",
+        "ldr d1, #N",
+        "ldr q1, #N",
+        "stp s1, s2, [x3, #N]",
+        "ldp d1, d2, [sp, #N]!",
+        "ldp q1, q2, [x3], #N",
+        "stnp q1, q2, [x3, #N]",
+        "stur q1, [x2, #N]",
+        "ldr d1, [x2], #N",
+        "str q1, [x2, #N]!",
+        "str b1, [x2, #N]",
+        "ldr h1, [x2, #N]",
+        "str s1, [x2, #N]",
+        "ldr d1, [x2, #N]",
+        "ldr q1, [x2, #N]",
+        "ldr b1, [x2, x3, lsl #N]",
+        "ldr q1, [x2, w3, sxtw #N]",
     ];
     let mut taken = 0;
     for shape in shapes {

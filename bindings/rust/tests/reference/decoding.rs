@@ -42,6 +42,8 @@ pub enum Family {
 pub struct Instruction {
     pub family: Family,
     pub operation: Operation,
+    /// Whether the registers that move are vectors.
+    pub vector: bool,
     /// The logarithm of the bytes that one register moves.
     pub size: u32,
     pub rt: u8,
@@ -84,12 +86,12 @@ impl Instruction {
         self.is_monitored() && self.is_store()
     }
 
-    /// Answer 4.
+    /// Answer 4. "A vector register never collides with a base."
     pub fn is_unpredictable(&self) -> bool {
         if self.has_status() {
             return self.rs == self.rt || self.rs == self.rn && self.rn != 31;
         }
-        let moves_base = self.rn == self.rt || self.is_pair() && self.rn == self.rt2;
+        let moves_base = !self.vector && (self.rn == self.rt || self.is_pair() && self.rn == self.rt2);
         self.writes_back() && self.rn != 31 && moves_base || self.is_pair() && !self.is_store() && self.rt == self.rt2
     }
 }
@@ -102,11 +104,19 @@ fn signed(word: u32, high: u32, low: u32) -> i64 {
     ((word << (31 - high)) as i32 >> (31 - high + low)) as i64
 }
 
-/// The line of 01's table, or 02's, that the word matches.
+fn is_vector(word: u32) -> bool {
+    field(word, 26, 26) == 1
+}
+
+/// The line of 01's table, or 02's, that the word matches. Two of them have no vectors.
 fn family_of(word: u32) -> Option<Family> {
-    if field(word, 26, 26) != 0 {
-        return None;
-    }
+    let family = line_of(word)?;
+    let general = matches!(family, Family::Ordered | Family::Exclusive { .. });
+    (!general || !is_vector(word)).then_some(family)
+}
+
+/// The same, whatever bit 26 is.
+fn line_of(word: u32) -> Option<Family> {
     let tail = (field(word, 21, 21), field(word, 11, 10));
     match (field(word, 29, 27), field(word, 25, 24)) {
         (0b011, 0b00) => Some(Family::Literal),
@@ -134,8 +144,28 @@ fn family_of(word: u32) -> Option<Family> {
     }
 }
 
+/// Size and operation of a vector's word that isn't undefined. What has 16 bytes "takes 4 for size".
+fn vector_kind_of(word: u32, family: Family) -> Option<(u32, Operation)> {
+    let (top, opc) = (field(word, 31, 30), field(word, 23, 22));
+    let moves = |load: u32| if load == 1 { Operation::Load } else { Operation::Store };
+    match family {
+        Family::Literal | Family::Pair(_) if top == 0b11 => None,
+        Family::Literal => Some((2 + top, Operation::Load)),
+        Family::Pair(_) => Some((2 + top, moves(field(word, 22, 22)))),
+        Family::Register if field(word, 14, 14) == 0 => None,
+        _ => match (top, opc >> 1) {
+            (_, 0) => Some((top, moves(opc & 1))),
+            (0b00, _) => Some((4, moves(opc & 1))),
+            _ => None,
+        },
+    }
+}
+
 /// Size and operation of a word that isn't undefined.
 fn kind_of(word: u32, family: Family) -> Option<(u32, Operation)> {
+    if is_vector(word) {
+        return vector_kind_of(word, family);
+    }
     let top = field(word, 31, 30);
     match family {
         Family::Literal => Some(match top {
@@ -189,6 +219,7 @@ pub fn decode(word: u32) -> Result<Instruction, u8> {
     let mut instruction = Instruction {
         family,
         operation,
+        vector: is_vector(word),
         size,
         rt: field(word, 4, 0) as u8,
         rt2: 0,

@@ -17,7 +17,7 @@ enum Kind {
     StoreExclusive,
 }
 
-/// A mnemonic, with the registers that it takes: W, X, either, or the hint of a prefetch.
+/// A mnemonic, with the registers that it takes: W, X, vectors, several of these, or the hint of a prefetch.
 struct Name {
     text: &'static str,
     kind: Kind,
@@ -26,14 +26,22 @@ struct Name {
     w: Option<(u32, u32)>,
     x: Option<(u32, u32)>,
     hint: Option<(u32, u32)>,
+    /// Whether it loads, where a vector is the first operand.
+    vector: Option<u32>,
 }
 
 const fn name(text: &'static str, kind: Kind, w: Option<(u32, u32)>, x: Option<(u32, u32)>) -> Name {
-    Name { text, kind, w, x, hint: None }
+    Name { text, kind, w, x, hint: None, vector: None }
 }
 
 const fn prefetch(text: &'static str, kind: Kind) -> Name {
-    Name { text, kind, w: None, x: None, hint: Some((3, 2)) }
+    Name { text, kind, w: None, x: None, hint: Some((3, 2)), vector: None }
+}
+
+/// One that takes W, X and every vector, and loads or stores all of it.
+const fn whole(text: &'static str, kind: Kind, load: u32) -> Name {
+    let (w, x) = if matches!(kind, Pair | NoAllocatePair) { (0, 2) } else { (2, 3) };
+    Name { text, kind, w: Some((w, load)), x: Some((x, load)), hint: None, vector: Some(load) }
 }
 
 const NAMES: [Name; 52] = [
@@ -43,8 +51,8 @@ const NAMES: [Name; 52] = [
     name("strh", Plain, Some((1, 0)), None),
     name("ldrh", Plain, Some((1, 1)), None),
     name("ldrsh", Plain, Some((1, 3)), Some((1, 2))),
-    name("str", Plain, Some((2, 0)), Some((3, 0))),
-    name("ldr", Plain, Some((2, 1)), Some((3, 1))),
+    whole("str", Plain, 0),
+    whole("ldr", Plain, 1),
     name("ldrsw", Plain, None, Some((2, 2))),
     prefetch("prfm", Plain),
     name("sturb", Unscaled, Some((0, 0)), None),
@@ -53,8 +61,8 @@ const NAMES: [Name; 52] = [
     name("sturh", Unscaled, Some((1, 0)), None),
     name("ldurh", Unscaled, Some((1, 1)), None),
     name("ldursh", Unscaled, Some((1, 3)), Some((1, 2))),
-    name("stur", Unscaled, Some((2, 0)), Some((3, 0))),
-    name("ldur", Unscaled, Some((2, 1)), Some((3, 1))),
+    whole("stur", Unscaled, 0),
+    whole("ldur", Unscaled, 1),
     name("ldursw", Unscaled, None, Some((2, 2))),
     prefetch("prfum", Unscaled),
     name("stlurb", Ordered, Some((0, 0)), None),
@@ -67,11 +75,11 @@ const NAMES: [Name; 52] = [
     name("ldapur", Ordered, Some((2, 1)), Some((3, 1))),
     name("ldapursw", Ordered, None, Some((2, 2))),
     // Of a pair: opc and L.
-    name("stp", Pair, Some((0, 0)), Some((2, 0))),
-    name("ldp", Pair, Some((0, 1)), Some((2, 1))),
+    whole("stp", Pair, 0),
+    whole("ldp", Pair, 1),
     name("ldpsw", Pair, None, Some((1, 1))),
-    name("stnp", NoAllocatePair, Some((0, 0)), Some((2, 0))),
-    name("ldnp", NoAllocatePair, Some((0, 1)), Some((2, 1))),
+    whole("stnp", NoAllocatePair, 0),
+    whole("ldnp", NoAllocatePair, 1),
     name("stxrb", StoreExclusive, Some((0, 0b000)), None),
     name("stxrh", StoreExclusive, Some((1, 0b000)), None),
     name("stxr", StoreExclusive, Some((2, 0b000)), Some((3, 0b000))),
@@ -142,6 +150,13 @@ impl<'a> Scanner<'a> {
         }
         let number = self.natural().filter(|&number| number <= 30)?;
         Some((wide, number as u32))
+    }
+
+    /// A vector register: the logarithm of the bytes that its letter says, and the number, of which 31 is like any other.
+    fn vector(&mut self) -> Option<(u32, u32)> {
+        let size = ["b", "h", "s", "d", "q"].iter().position(|letter| self.takes(letter))?;
+        let number = self.natural().filter(|&number| number <= 31)?;
+        Some((size as u32, number as u32))
     }
 
     fn base(&mut self) -> Option<u32> {
@@ -248,6 +263,12 @@ fn pair(scanner: &mut Scanner, kind: Kind, opc: u32, load: u32, wide: bool) -> O
     if also_wide != wide {
         return None;
     }
+    let scale = if opc == 0b10 { 3 } else { 2 };
+    Some(opc << 30 | paired(scanner, kind, load, scale)? | second << 10)
+}
+
+/// What stands behind the registers of a pair, whose offset is a multiple of 2^scale.
+fn paired(scanner: &mut Scanner, kind: Kind, load: u32, scale: u32) -> Option<u32> {
     scanner.expect(", ")?;
     let (mode, base, offset) = match (kind, place(scanner)?) {
         (NoAllocatePair, Place::Offset(base, offset)) => (0b00, base, offset),
@@ -256,9 +277,8 @@ fn pair(scanner: &mut Scanner, kind: Kind, opc: u32, load: u32, wide: bool) -> O
         (Pair, Place::Pre(base, offset)) => (0b11, base, offset),
         _ => return None,
     };
-    let scale = if opc == 0b10 { 3 } else { 2 };
     let offset = signed_field(offset, scale, 7)?;
-    Some(opc << 30 | 0b101 << 27 | mode << 23 | load << 22 | offset << 15 | second << 10 | base << 5)
+    Some(0b101 << 27 | mode << 23 | load << 22 | offset << 15 | base << 5)
 }
 
 fn exclusive(size: u32, code: u32, status: u32, place: Place) -> Option<u32> {
@@ -268,27 +288,9 @@ fn exclusive(size: u32, code: u32, status: u32, place: Place) -> Option<u32> {
 }
 
 fn single(kind: Kind, size: u32, opc: u32, place: Place) -> Option<u32> {
-    let top = size << 30 | 0b111 << 27 | opc << 22;
     let is_prefetch = (size, opc) == (3, 2);
     match (kind, place) {
-        (Plain, Place::Offset(base, offset)) => {
-            Some(top | 0b01 << 24 | unsigned_field(offset, size, 12)? << 10 | base << 5)
-        }
-        (Plain, Place::Post(base, offset)) if !is_prefetch => {
-            Some(top | signed_field(offset, 0, 9)? << 12 | 0b01 << 10 | base << 5)
-        }
-        (Plain, Place::Pre(base, offset)) if !is_prefetch => {
-            Some(top | signed_field(offset, 0, 9)? << 12 | 0b11 << 10 | base << 5)
-        }
-        (Plain, Place::Index(base, number, option, amount)) => {
-            let shifted = match amount {
-                None => 0,
-                Some(amount) if amount == size as i64 => 1,
-                Some(_) => return None,
-            };
-            let rest = number << 16 | option << 13 | shifted << 12 | 0b10 << 10 | base << 5;
-            Some(top | 1 << 21 | rest)
-        }
+        (_, Place::Post(..) | Place::Pre(..)) if is_prefetch => None,
         (Plain, Place::Literal(offset)) => {
             let opc = match (size, opc) {
                 (2, 1) => 0b00,
@@ -299,13 +301,57 @@ fn single(kind: Kind, size: u32, opc: u32, place: Place) -> Option<u32> {
             };
             Some(opc << 30 | 0b011 << 27 | signed_field(offset, 2, 19)? << 5)
         }
-        (Unscaled, Place::Offset(base, offset)) => Some(top | signed_field(offset, 0, 9)? << 12 | base << 5),
         (Ordered, Place::Offset(base, offset)) => {
             let top = size << 30 | 0b011 << 27 | 0b01 << 24 | opc << 22;
             Some(top | signed_field(offset, 0, 9)? << 12 | base << 5)
         }
+        (kind, place) => based(kind, size << 30 | opc << 22, size, place),
+    }
+}
+
+/// A word that begins with these bits, of the families that vectors have too and that have a base; 2^scale bytes move.
+fn based(kind: Kind, top: u32, scale: u32, place: Place) -> Option<u32> {
+    let top = top | 0b111 << 27;
+    match (kind, place) {
+        (Plain, Place::Offset(base, offset)) => {
+            Some(top | 0b01 << 24 | unsigned_field(offset, scale, 12)? << 10 | base << 5)
+        }
+        (Plain, Place::Post(base, offset)) => Some(top | signed_field(offset, 0, 9)? << 12 | 0b01 << 10 | base << 5),
+        (Plain, Place::Pre(base, offset)) => Some(top | signed_field(offset, 0, 9)? << 12 | 0b11 << 10 | base << 5),
+        (Plain, Place::Index(base, number, option, amount)) => {
+            let shifted = match amount {
+                None => 0,
+                Some(amount) if amount == scale as i64 => 1,
+                Some(_) => return None,
+            };
+            let rest = number << 16 | option << 13 | shifted << 12 | 0b10 << 10 | base << 5;
+            Some(top | 1 << 21 | rest)
+        }
+        (Unscaled, Place::Offset(base, offset)) => Some(top | signed_field(offset, 0, 9)? << 12 | base << 5),
         _ => None,
     }
+}
+
+/// The word of a line whose first operand is a vector, without that register.
+fn of_vectors(scanner: &mut Scanner, kind: Kind, load: u32, size: u32) -> Option<u32> {
+    let rest = if matches!(kind, Pair | NoAllocatePair) {
+        let (also, second) = scanner.vector()?;
+        if also != size || size < 2 {
+            return None;
+        }
+        (size - 2) << 30 | paired(scanner, kind, load, size)? | second << 10
+    } else {
+        match place(scanner)? {
+            Place::Literal(offset) if kind == Plain && load == 1 && size >= 2 => {
+                (size - 2) << 30 | 0b011 << 27 | signed_field(offset, 2, 19)? << 5
+            }
+            Place::Literal(_) => return None,
+            // 16 bytes have size 0, and the upper bit of opc.
+            place if size == 4 => based(kind, (0b10 | load) << 22, size, place)?,
+            place => based(kind, size << 30 | load << 22, size, place)?,
+        }
+    };
+    Some(1 << 26 | rest)
 }
 
 /// A hint by the names of its three fields, or by its number where a field of two bits is 3.
@@ -330,6 +376,11 @@ fn word_of(text: &[u8]) -> Option<u32> {
         let hint = hint(&mut scanner)?;
         scanner.expect(", ")?;
         return Some(single(name.kind, size, opc, place(&mut scanner)?)? | hint);
+    }
+    if matches!(scanner.0.first(), Some(b'b' | b'h' | b's' | b'd' | b'q')) {
+        let (size, register) = scanner.vector()?;
+        scanner.expect(", ")?;
+        return Some(of_vectors(&mut scanner, name.kind, name.vector?, size)? | register);
     }
     let mut status = 31;
     if name.kind == StoreExclusive {

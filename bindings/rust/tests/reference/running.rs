@@ -6,6 +6,9 @@ use super::*;
 /// Which bytes of a register are marked, the lowest first.
 pub type Marks = [bool; 8];
 
+/// The same of a vector register.
+pub type VectorMarks = [bool; 16];
+
 const UNMARKED: Marks = [false; 8];
 
 /// What a monitor is when it opens.
@@ -18,13 +21,15 @@ pub struct Monitor {
     pub size: u64,
 }
 
-/// The register file, of which number 31 is SP, and the monitor.
+/// The register file, of which number 31 is SP, the monitor, and the vector registers, of which 31 is one like any other.
 #[derive(Clone, Debug, PartialEq, Eq)]
 pub struct State {
     pub registers: [u64; 32],
     pub taints: [Marks; 32],
     pub pc: u64,
     pub monitor: Monitor,
+    pub vectors: [u128; 32],
+    pub vector_taints: [VectorMarks; 32],
 }
 
 #[derive(Clone, Copy, Debug, PartialEq, Eq)]
@@ -60,6 +65,33 @@ impl State {
         if number != 31 {
             self.registers[number as usize] = value;
             self.taints[number as usize] = marks;
+        }
+    }
+
+    /// Stores the low bytes of a register, with their marks.
+    fn store(&self, instruction: &Instruction, number: u8, bytes: &mut [u8], taints: &mut [u8]) {
+        let width = bytes.len();
+        if instruction.vector {
+            bytes.copy_from_slice(&self.vectors[number as usize].to_le_bytes()[..width]);
+            let marks = self.vector_taints[number as usize];
+            taints.iter_mut().zip(marks).for_each(|(taint, mark)| *taint = mark as u8);
+        } else {
+            let (value, marks) = self.data(number);
+            bytes.copy_from_slice(&value.to_le_bytes()[..width]);
+            taints.iter_mut().zip(marks).for_each(|(taint, mark)| *taint = mark as u8);
+        }
+    }
+
+    /// Loads a register from its part of a load: "a load clears what it doesn't fill".
+    fn load(&mut self, instruction: &Instruction, number: u8, bytes: &[u8], taints: &[u8]) {
+        if instruction.vector {
+            let mut whole = [0; 16];
+            whole[..bytes.len()].copy_from_slice(bytes);
+            self.vectors[number as usize] = u128::from_le_bytes(whole);
+            self.vector_taints[number as usize] =
+                std::array::from_fn(|byte| taints.get(byte).is_some_and(|&taint| taint != 0));
+        } else {
+            self.set_data(number, joined(instruction, bytes), copied(instruction, taints));
         }
     }
 }
@@ -188,15 +220,9 @@ fn walk(
     if status == 1 {
         // "Stores nothing, marks included."
     } else if instruction.is_store() {
-        for ((bytes, taints), register) in parts {
-            let (value, marks) = state.data(register);
-            bytes.copy_from_slice(&value.to_le_bytes()[..width]);
-            taints.iter_mut().zip(marks).for_each(|(taint, mark)| *taint = mark as u8);
-        }
+        parts.for_each(|((bytes, taints), register)| state.store(&instruction, register, bytes, taints));
     } else {
-        for ((bytes, taints), register) in parts {
-            state.set_data(register, joined(&instruction, bytes), copied(&instruction, taints));
-        }
+        parts.for_each(|((bytes, taints), register)| state.load(&instruction, register, bytes, taints));
     }
     if instruction.writes_back() {
         state.registers[instruction.rn as usize] = base.wrapping_add(instruction.offset as u64);

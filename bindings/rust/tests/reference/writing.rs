@@ -23,9 +23,10 @@ fn mnemonic(instruction: &Instruction) -> String {
         Family::Ordered => ("stlur", "ldapur", ""),
         _ => ("str", "ldr", "prfm"),
     };
+    // A vector's register says how many bytes it moves.
     let letter = match instruction.size {
-        0 => "b",
-        1 => "h",
+        0 if !instruction.vector => "b",
+        1 if !instruction.vector => "h",
         _ => "",
     };
     match instruction.operation {
@@ -75,6 +76,9 @@ fn hint(number: u8) -> String {
 }
 
 fn operand(instruction: &Instruction, number: u8) -> String {
+    if instruction.vector {
+        return format!("{}{number}", ["b", "h", "s", "d", "q"][instruction.size as usize]);
+    }
     let wide = match instruction.operation {
         Operation::Prefetch => return hint(number),
         Operation::LoadSigned64 => true,

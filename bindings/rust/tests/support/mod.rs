@@ -15,13 +15,15 @@ pub fn stored(program: &str, name: &str) -> Vec<u8> {
     fs::read(&path).unwrap_or_else(|error| panic!("{}: {error}", path.display()))
 }
 
-/// The reference's state of a session's record, in which any byte of a taint but 0 is a mark.
+/// The reference's state of a session's record, in which any byte of a taint but 0 is a mark, with vectors of zeros.
 pub fn state_of(record: &SessionRecord) -> State {
     State {
         registers: record.value,
         taints: record.value_taint.map(|taint| taint.to_raw().to_le_bytes().map(|byte| byte != 0)),
         pc: record.pc,
         monitor: Monitor { address: record.monitor_address, size: record.monitor_size },
+        vectors: [0; 32],
+        vector_taints: [[false; 16]; 32],
     }
 }
 
@@ -106,16 +108,16 @@ pub fn about_power(random: &mut Random) -> u64 {
 }
 
 /// The bits that each line of 01's table fixes, and their values: literal, pair, ordered, unscaled, post, pre,
-/// register, unsigned; and 02's ninth family, exclusive.
+/// register, unsigned; and 02's ninth family, exclusive. Bit 26 is fixed where there are no vectors.
 pub const LINES: [(u32, u32); 9] = [
-    (0x3f00_0000, 0x1800_0000),
-    (0x3e00_0000, 0x2800_0000),
+    (0x3b00_0000, 0x1800_0000),
+    (0x3a00_0000, 0x2800_0000),
     (0x3f20_0c00, 0x1900_0000),
-    (0x3f20_0c00, 0x3800_0000),
-    (0x3f20_0c00, 0x3800_0400),
-    (0x3f20_0c00, 0x3800_0c00),
-    (0x3f20_0c00, 0x3820_0800),
-    (0x3f00_0000, 0x3900_0000),
+    (0x3b20_0c00, 0x3800_0000),
+    (0x3b20_0c00, 0x3800_0400),
+    (0x3b20_0c00, 0x3800_0c00),
+    (0x3b20_0c00, 0x3820_0800),
+    (0x3b00_0000, 0x3900_0000),
     (0x3f20_0000, EXCLUSIVE),
 ];
 
