@@ -10,9 +10,9 @@ target/coverage, and holds each against its checksum there. Neither root nor a f
 of their executable sections is handed to the program list and to objdump.
 
 A load or store is a word with bit 27 = 1 and bit 25 = 0, as Arm's top table has it, that objdump knows as an
-instruction. It is taken where list gives it a text and answer 0, and of those the ninth family's, exclusives, are
-counted; else it is a vector, which a later request brings, or one of the rest. The files have no symbols that part code
-from data, so that tables which stand among the code are counted as the words that they look like.
+instruction. It is taken where list gives it a text and answer 0, and of those the ninth family's, exclusives, and the
+vectors are counted; else it is one of the rest. The files have no symbols that part code from data, so that tables which
+stand among the code are counted as the words that they look like.
 """
 import argparse
 import collections
@@ -132,19 +132,8 @@ def is_exclusive(word):
 
 
 def is_vector(word):
-    """02's vector forms: those of 01's families but ordered with bit 26 = 1."""
-    if word >> 26 & 1 == 0:
-        return False
-    family, upper = word >> 27 & 7, word >> 24 & 3
-    plain = (word >> 21 & 1, word >> 10 & 3) in [(0, 0b00), (0, 0b01), (0, 0b11), (1, 0b10)]
-    return (family == 0b011 and upper == 0 or family == 0b101 and upper < 2
-            or family == 0b111 and (upper == 1 or upper == 0 and plain))
-
-
-def sort_of(word, answer):
-    if answer == '0':
-        return 'taken'
-    return 'vectors' if is_vector(word) else 'rest'
+    """Whether a word that is taken is one of 02's vector forms."""
+    return word >> 26 & 1 == 1
 
 
 def counted(code, rest, other_texts):
@@ -158,13 +147,15 @@ def counted(code, rest, other_texts):
             # A word of the set that objdump doesn't know would be ours alone.
             counts['ours alone'] += answer == '0'
             continue
-        sort = sort_of(word, answer)
         counts['all'] += 1
-        counts[sort] += 1
-        counts['exclusives'] += sort == 'taken' and is_exclusive(word)
-        if sort == 'rest':
+        if answer != '0':
+            counts['rest'] += 1
             rest[theirs.text.split()[0]] += 1
-        elif sort == 'taken' and text != line_in(theirs.text, ORIGIN + 4 * (place % BATCH)):
+            continue
+        counts['taken'] += 1
+        counts['exclusives'] += is_exclusive(word)
+        counts['vectors'] += is_vector(word)
+        if text != line_in(theirs.text, ORIGIN + 4 * (place % BATCH)):
             counts['other texts'] += 1
             other_texts['%08x %s, %s' % (word, text, ' '.join(theirs.text.split()))] += 1
     return counts
@@ -175,9 +166,9 @@ def percent(part, whole):
 
 
 def row(name, versions, counts):
-    taken, *others = (percent(counts[sort], counts['all']) for sort in ('taken', 'vectors', 'rest'))
+    whole, exclusives, vectors, rest = ('{:,}'.format(counts[sort]) for sort in ('all', 'exclusives', 'vectors', 'rest'))
     texts = '{:,} of {:,}'.format(counts['taken'] - counts['other texts'], counts['taken'])
-    fields = name, versions, '{:,}'.format(counts['all']), taken, '{:,}'.format(counts['exclusives']), *others, texts
+    fields = name, versions, whole, percent(counts['taken'], counts['all']), exclusives, vectors, rest, texts
     print('| %s |' % ' | '.join(fields))
 
 
@@ -191,7 +182,7 @@ def main():
     os.makedirs(ROOM, exist_ok=True)
     packages = index(chosen.mirror, chosen.suite)
     total, rest, other_texts = collections.Counter(), collections.Counter(), collections.Counter()
-    print('| Of | Packages | Loads and stores | Taken | Exclusives of them | Vectors | The rest | Texts as objdump\'s |')
+    print('| Of | Packages | Loads and stores | Taken | Exclusives of them | Vectors of them | The rest | Texts as objdump\'s |')
     print('|---|---|---|---|---|---|---|---|')
     for name, members in GROUPS:
         missing = [member for member in members if member not in packages]
