@@ -8,10 +8,10 @@ mod support;
 
 use milestarling::raw::{self, SessionRecord};
 use milestarling::Taint;
-use reference::running::{self, Marks, State, Window};
+use reference::running::{self, State, Window};
 use reference::NO_ROOM;
 use std::fmt::{Display, Write};
-use support::{state_of, stored};
+use support::{state_with, stored};
 
 /// Numbers before the registers of a case.
 const HEADER: usize = 10;
@@ -20,6 +20,8 @@ const HEADER: usize = 10;
 struct Case {
     words: Vec<u32>,
     session: SessionRecord,
+    vectors: [[u64; 2]; 32],
+    vector_taint: [[u64; 2]; 32],
     window: Window,
     memory: Vec<u8>,
     taint: Vec<u8>,
@@ -42,6 +44,12 @@ impl<'a> Input<'a> {
         Some(bytes.chunks_exact(8).map(|number| u64::from_le_bytes(number.try_into().unwrap())).collect())
     }
 
+    /// The halves of 32 vector registers, or of their taints.
+    fn halves(&mut self) -> Option<[[u64; 2]; 32]> {
+        let numbers = self.numbers(64)?;
+        Some(std::array::from_fn(|number| [numbers[2 * number], numbers[2 * number + 1]]))
+    }
+
     fn case(&mut self) -> Option<Case> {
         let header = self.numbers(HEADER)?;
         let [words, memory, taint, trace, statuses] = [0, 1, 2, 3, 4].map(|at| header[at] as usize);
@@ -52,8 +60,11 @@ impl<'a> Input<'a> {
             monitor_address: header[8],
             monitor_size: header[9],
         };
+        let (vectors, vector_taint) = (self.halves()?, self.halves()?);
         let words = self.bytes(4 * words)?.chunks_exact(4);
         Some(Case {
+            vectors,
+            vector_taint,
             words: words.map(|word| u32::from_le_bytes(word.try_into().unwrap())).collect(),
             session,
             window: Window { origin: header[5], readonly: header[6] },
@@ -74,7 +85,7 @@ fn joined<T: Display>(numbers: impl IntoIterator<Item = T>) -> String {
 }
 
 /// What stands behind the digits of a register.
-fn shown(marks: Marks) -> String {
+fn shown(marks: &[bool]) -> String {
     let digits = marks.iter().rev().map(|&mark| if mark { '1' } else { '0' });
     marks.contains(&true).then(|| "*".chars().chain(digits).collect()).unwrap_or_default()
 }
@@ -84,13 +95,20 @@ impl Case {
     fn lines(&self, number: usize, state: &State, said: [u64; 4]) -> String {
         let mut text = format!("case\t{number}{}\t{}\n", joined(said), state.pc);
         let registers = state.registers.iter().zip(state.taints);
-        let registers = registers.map(|(value, marks)| format!("{value:016x}{}", shown(marks)));
-        writeln!(text, "registers{}", joined(registers)).unwrap();
+        let registers = registers.map(|(value, marks)| format!("{value:016x}{}", shown(&marks)));
+        let vectors = state.vectors.iter().zip(state.vector_taints);
+        let vectors = vectors.map(|(value, marks)| format!("{value:032x}{}", shown(&marks)));
+        writeln!(text, "registers{}\nvectors{}", joined(registers), joined(vectors)).unwrap();
         writeln!(text, "memory\t{}\ntaint\t{}", hex(&self.memory), hex(&self.taint)).unwrap();
         writeln!(text, "trace{}", joined(&self.trace)).unwrap();
         let monitor = joined([state.monitor.address, state.monitor.size]);
         writeln!(text, "monitor{monitor}\nstatuses\t{}", hex(&self.statuses)).unwrap();
         text
+    }
+
+    /// The reference's state of this record and of the vector registers.
+    fn left(&self, session: &SessionRecord) -> State {
+        state_with(session, &self.vectors, &self.vector_taint)
     }
 
     fn by_run(mut self, number: usize) -> String {
@@ -105,7 +123,7 @@ impl Case {
             &mut self.statuses,
         );
         let said = [reply.steps, reply.answer, reply.code, reply.address];
-        self.lines(number, &state_of(&reply.session), said)
+        self.lines(number, &self.left(&reply.session), said)
     }
 
     /// By a step in place where it is a case of one word, and the trace and the statuses are the test's to write.
@@ -122,11 +140,11 @@ impl Case {
             self.statuses[0] = reply.status as u8;
         }
         let said = [(reply.answer == 0).into(), reply.answer, reply.code, reply.address];
-        self.lines(number, &state_of(&self.session), said)
+        self.lines(number, &self.left(&self.session), said)
     }
 
     fn by_reference(mut self, number: usize) -> String {
-        let mut state = state_of(&self.session);
+        let mut state = self.left(&self.session);
         let outcome = running::run(
             &self.words,
             &mut state,
@@ -159,7 +177,7 @@ fn compare(run: fn(Case, usize) -> String) {
     let differing = output.lines().zip(expected.lines()).position(|(one, other)| one != other);
     assert_eq!(differing, None, "the first line that differs, from 0");
     assert_eq!(output.lines().count(), expected.lines().count());
-    assert!(expected.lines().count() > 55_000);
+    assert!(expected.lines().count() > 80_000);
 }
 
 #[test]

@@ -339,7 +339,7 @@ fn single_steps() {
     for answer in (DONE..=READ_ONLY).chain([NO_ROOM]) {
         assert!(counts[answer as usize] > 1000, "answer {answer} came up too seldom: {counts:?}");
     }
-    for code in [0, 1, 2, 4, 8, 16, 65, 66, 68, 72, 80] {
+    for code in [0, 1, 2, 4, 8, 16, 32, 65, 66, 68, 72, 80, 96] {
         assert!(codes[code] > 1000, "code {code} came up too seldom: {codes:?}");
     }
 }

@@ -27,6 +27,16 @@ pub fn state_of(record: &SessionRecord) -> State {
     }
 }
 
+/// The same with vector registers, and a taint for each byte of theirs, the low half of each first.
+pub fn state_with(record: &SessionRecord, vectors: &[[u64; 2]; 32], taint: &[[u64; 2]; 32]) -> State {
+    let joined = |[low, high]: [u64; 2]| low as u128 | (high as u128) << 64;
+    State {
+        vectors: vectors.map(joined),
+        vector_taints: taint.map(|halves| joined(halves).to_le_bytes().map(|byte| byte != 0)),
+        ..state_of(record)
+    }
+}
+
 /// Whether a call has left a record's taints as it has to: what it doesn't set keeps its bits, and the bytes of what it does
 /// become 0 or 1.
 pub fn kept_or_set(before: &SessionRecord, after: &SessionRecord) -> bool {
