@@ -50,6 +50,7 @@ int main(void)
 
     /* x0 points to the password's record, whose length stands at 8 and is tainted; the stack ends with memory. */
     struct milestarling_session session = {.pc = 0x8000};
+    struct milestarling_vectors vectors = {0};
     uint8_t memory[64] = {0}, taint[64] = {0}, statuses[COUNT];
     uint64_t trace[2 * COUNT];
     milestarling_set_register(&session, 0, 0x1000, MILESTARLING_TAINT_NONE);
@@ -57,7 +58,8 @@ int main(void)
     memory[8] = 5;
     memset(taint + 8, 1, 4);
     struct milestarling_run_reply ran = milestarling_run(
-        words, COUNT, session, 0x1000, 0, memory, sizeof memory, taint, sizeof taint, trace, 2 * COUNT, statuses, COUNT);
+        words, COUNT, session, vectors.value, vectors.taint, 0x1000, 0, memory, sizeof memory, taint, sizeof taint, trace, 2 * COUNT,
+        statuses, COUNT);
     session = ran.session;
 
     for (uint64_t i = 0; i < ran.steps; i++)

@@ -45,14 +45,15 @@ int main()
     memory.taint_length = taint.size();
     memory.origin = 0x1000;
     milestarling_session session = milestarling_session();
+    milestarling_vectors vectors = milestarling_vectors();
     milestarling_set_register(&session, 0, 0x1000, MILESTARLING_TAINT_NONE);
     milestarling_set_register(&session, MILESTARLING_SP, 0x1000 + bytes.size(), MILESTARLING_TAINT_NONE);
     session.pc = 0x8000;
 
     std::vector<milestarling_access> trace(words.size());
     std::vector<uint8_t> statuses(words.size());
-    const milestarling_run_reply ran = milestarling_session_run(memory, &session, words.data(), words.size(),
-        trace.data(), trace.size(), statuses.data(), statuses.size());
+    const milestarling_run_reply ran = milestarling_session_run(memory, &session, &vectors, words.data(),
+        words.size(), trace.data(), trace.size(), statuses.data(), statuses.size());
     for (uint64_t i = 0; i < ran.steps; i++)
         std::printf("code %" PRIu64 ", address 0x%" PRIx64 "\n", trace[i].code, trace[i].address);
     std::printf("steps %" PRIu64 ", answer %" PRIu64 ", pc 0x%" PRIx64 "\n", ran.steps, ran.answer, session.pc);

@@ -16,9 +16,11 @@
 
 enum { LENGTH = 8, GIVEN = 0x1000, KEYED = 0x1008, STORED = 0x1010, STACK = 0x1040, END = 0x7ffffffc, LIMIT = 1000 };
 
-/* The session, and the flags that a branch looks at: Z alone here, and whether it is tainted. */
+/* The session with its vector registers, and the flags that a branch looks at: Z alone here, and whether it is tainted. The
+   words here only load and store vector registers, so that the library carries their taints. */
 struct host {
     struct milestarling_session session;
+    struct milestarling_vectors vectors;
     int zero, zero_tainted;
 };
 
@@ -117,7 +119,7 @@ static const char *do_word(struct host *host, struct milestarling_memory memory,
 {
     if (!milestarling_touches_memory_inline(word))
         return compute(host, word);
-    const struct milestarling_step_reply reply = milestarling_session_step(memory, &host->session, word);
+    const struct milestarling_step_reply reply = milestarling_session_step(memory, &host->session, &host->vectors, word);
     if (reply.answer != MILESTARLING_DONE)
         return milestarling_answer_text(reply.answer);
     printf(" %" PRIu64 "@%" PRIx64, reply.code, reply.address);

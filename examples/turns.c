@@ -49,7 +49,7 @@ static const char *compute(struct milestarling_session *session, uint32_t word)
 
 /* Does the next word of a session, and what the manner asks for the other's monitor. Returns what is wrong, or NULL. */
 static const char *turn(const uint32_t *words, struct milestarling_memory memory, struct milestarling_session *session,
-    struct milestarling_session *other, enum manner manner)
+    struct milestarling_vectors *vectors, struct milestarling_session *other, enum manner manner)
 {
     if (session->pc % 4 != 0 || session->pc / 4 >= WORDS)
         return "no word";
@@ -58,7 +58,7 @@ static const char *turn(const uint32_t *words, struct milestarling_memory memory
         milestarling_open(other);
     if (!milestarling_touches_memory_inline(word))
         return compute(session, word);
-    const struct milestarling_step_reply reply = milestarling_session_step(memory, session, word);
+    const struct milestarling_step_reply reply = milestarling_session_step(memory, session, vectors, word);
     if (reply.answer != MILESTARLING_DONE)
         return milestarling_answer_text(reply.answer);
     if (manner == OBSERVED)
@@ -79,13 +79,14 @@ static int play(const uint32_t *words, enum manner manner)
         .bytes = bytes, .length = sizeof bytes, .taint = taint, .taint_length = sizeof taint, .origin = LOCK};
     /* x30 is 0, where the function begins: it is called again when it returns. */
     struct milestarling_session sessions[2] = {{.pc = 0}, {.pc = 0}};
+    struct milestarling_vectors vectors[2] = {0};
     int taken = 0, both = 0;
     for (int who = 0; who < 2; who++)
         milestarling_set_register(&sessions[who], 0, LOCK, MILESTARLING_TAINT_NONE);
     printf("%s:", manners[manner]);
     for (int i = 0; i < TURNS; i++) {
         const int who = i % 2, held = holds(&sessions[who]);
-        const char *wrong = turn(words, memory, &sessions[who], &sessions[1 - who], manner);
+        const char *wrong = turn(words, memory, &sessions[who], &vectors[who], &sessions[1 - who], manner);
         if (wrong != NULL) {
             printf(" %c is stopped: %s\n", 'a' + who, wrong);
             return 0;

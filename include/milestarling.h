@@ -7,9 +7,9 @@
  *
  * The host's loop: loads and stores are done here, and all other words are the host's to compute. So it asks
  * milestarling_touches_memory of each word first. One that touches memory is stepped, and the plugin is stopped where the
- * answer isn't 0. That goes for answer 2 too: it is then a load or store that isn't taken, such as a vector's or an atomic
- * one, and to pass it over or to compute it would lose bytes and taints in silence. One that doesn't touch memory is
- * computed, and the host adds 4 to pc or branches itself. Answer 2 by itself doesn't tell the two apart.
+ * answer isn't 0. That goes for answer 2 too: it is then a load or store that isn't taken, such as an atomic one or one of
+ * a vector's elements, and to pass it over or to compute it would lose bytes and taints in silence. One that doesn't touch
+ * memory is computed, and the host adds 4 to pc or branches itself. Answer 2 by itself doesn't tell the two apart.
  *
  * The host's own duty: taints (documents 01 and 02 call them marks) follow the bytes of a value through the loads and stores
  * that are done here, and nowhere else. A host that computes between two calls (add, and, mov, ..) must carry them itself:
@@ -22,12 +22,13 @@
  *
  * A slice is a pointer and the number of its elements. The pointer is never null, even where the length is 0, and points to
  * so many elements. A slice that isn't const overlaps no other slice of the call, and nobody else touches it meanwhile: to
- * run a word that stands in memory, copy the word out first and hand in the copy. A session that is lent is as such a
- * slice. Beyond that no function has a condition to meet.
+ * run a word that stands in memory, copy the word out first and hand in the copy. A session and vector registers that are
+ * lent are as such slices. Beyond that no function has a condition to meet.
  *
  * Threads: nothing here is static, and a call touches what it is lent and nothing else. So calls that are lent different
- * sessions, memory and output may go on at the same time; those that are lent the same need a lock of the host's. Where
- * several sessions share memory, each one's monitor has to learn of what the others store: see struct milestarling_session.
+ * sessions, vector registers, memory and output may go on at the same time; those that are lent the same need a lock of the
+ * host's. Where several sessions share memory, each one's monitor has to learn of what the others store: see struct
+ * milestarling_session.
  *
  * A compiler that can warns where what a function answers is dropped (MILESTARLING_MUST_USE).
  *
@@ -53,13 +54,16 @@ extern "C" {
 #endif
 
 #define MILESTARLING_VERSION_MAJOR 0
-#define MILESTARLING_VERSION_MINOR 2
+#define MILESTARLING_VERSION_MINOR 3
 #define MILESTARLING_VERSION_PATCH 0
-#define MILESTARLING_VERSION "0.2.0"
+#define MILESTARLING_VERSION "0.3.0"
 
 /* How many registers a session has: x0 to x30, and sp behind them. */
 #define MILESTARLING_REGISTERS 32
 #define MILESTARLING_SP 31
+
+/* How many vector registers stand beside it: v0 to v31. */
+#define MILESTARLING_VECTORS 32
 
 /* The numbers of a trace for each word, and what a store's code has above the number of its bytes. */
 #define MILESTARLING_TRACE_NUMBERS 2
@@ -84,8 +88,8 @@ enum milestarling_answer {
     MILESTARLING_NOT_IN_SET = 2,
     /* the word is among the loads and stores, and is undefined: one with unused register fields that aren't all ones too */
     MILESTARLING_UNDEFINED = 3,
-    /* the word's effect is unpredictable: it loads one register twice, writes the base back over a register that it moves,
-       or is a store-exclusive whose status register is its data register or its base */
+    /* the word's effect is unpredictable: it loads one register twice, writes the base back over a general register that it
+       moves, or is a store-exclusive whose status register is its data register or its base */
     MILESTARLING_UNPREDICTABLE = 4,
     /* the address would depend on a tainted byte: any of the base's eight, or one of the index that is used, the low four
        for uxtw and sxtw, and all eight for lsl and sxtx */
@@ -141,6 +145,9 @@ struct milestarling_word_reply {
  * - An operand that the word shifts or extends by itself (and x0, x1, x2, lsr #8) has the taint of that shift.
  * - A result of 32 bits has the low four of these, milestarling_taint_word: its upper four bytes are cleared.
  * - Flags are tainted where any byte of the result is, be the result dropped (cmp, tst) or not.
+ * - On vector registers the same holds of each element by itself. What only moves bytes (mov, dup, ins, umov, fmov, ext, zip, rev)
+ *   moves their taints, what mixes elements (addv, tbl, a round of a cipher or a digest) taints all sixteen bytes, and the bytes
+ *   above a shorter result are cleared.
  */
 struct milestarling_taint {
     uint64_t bytes;
@@ -192,6 +199,30 @@ struct milestarling_session {
     uint64_t monitor_size;
 };
 
+/*
+ * A session's vector registers, v0 to v31, with the taints of their bytes. The host keeps them beside the record, one such
+ * struct for each session, and lends them to each run and step. One of zeros is a new one: `struct milestarling_vectors
+ * vectors = {0};`. A register has two halves of 64 bits, the low one first, as in memory: `str q0, [x1]` stores value[0][0] at
+ * x1 and value[0][1] at x1 + 8. A half's taint is as a general register's.
+ *
+ * A load to b0, h0, s0, d0 or q0 fills the lowest 1, 2, 4, 8 or 16 bytes of v0, and clears those that it doesn't fill, taints
+ * too. A store copies the taints of the bytes that it stores. 31 is a register like any other. A vector register never forms
+ * an address: none is answered with 5 for its taint, and none collides with a base, so that `ldr q1, [x1], #16` is done. No
+ * other word touches them, and a refused one keeps them.
+ */
+struct milestarling_vectors {
+    uint64_t value[MILESTARLING_VECTORS][2];
+    struct milestarling_taint taint[MILESTARLING_VECTORS][2];
+};
+
+/* One vector register by its halves. */
+struct milestarling_vector_register {
+    uint64_t low;
+    uint64_t high;
+    struct milestarling_taint taint_low;
+    struct milestarling_taint taint_high;
+};
+
 /* The session after the steps done, how many they are, and of the last step tried its answer, code and address, as in the
    trace: the code is 0 where the answer isn't, and the address too but with answers 6 to 8. */
 struct milestarling_run_reply {
@@ -233,6 +264,8 @@ struct milestarling_lister_reply {
  * Does a step for each word, in order, up to the first that is refused. A refused step changes nothing.
  *
  * session          the record to begin with; the reply has the one after the steps done
+ * vectors          the 32 vector registers, two numbers each, the low half first
+ * vector_taint     their taints
  * origin           the address of memory's first byte
  * readonly         how many bytes at the start of memory aren't stored to
  * taint            a byte for each byte of memory, tainted where it isn't 0
@@ -242,13 +275,14 @@ struct milestarling_lister_reply {
  *                  failed, whose code and address are those of one that hasn't, and 0 for every other step
  *
  * Answers 0 to 8, or 10 where trace or statuses is too short for all words, which is looked at after 1 and before the
- * first step. With answers 1 and 10 nothing is changed in any slice, and the session returned is the one handed in. A
- * longer slice keeps its rest.
+ * first step. With answers 1 and 10 nothing is changed in any slice or vector register, and the session returned is the one
+ * handed in. A longer slice keeps its rest.
  */
 MILESTARLING_MUST_USE
 struct milestarling_run_reply milestarling_run(
     const uint32_t *words, size_t words_length,
     struct milestarling_session session,
+    uint64_t (*vectors)[2], struct milestarling_taint (*vector_taint)[2],
     uint64_t origin, uint64_t readonly,
     uint8_t *memory, size_t memory_length,
     uint8_t *taint, size_t taint_length,
@@ -256,12 +290,13 @@ struct milestarling_run_reply milestarling_run(
     uint8_t *statuses, size_t statuses_length);
 
 /*
- * Does one word on a session's record and on memory as milestarling_run has it. Answers 0 to 8; with 1 to 8 nothing is
- * changed. It is the way to step a word at a time: the record stays where it is, and no trace is needed.
+ * Does one word on a session's record, on vector registers and on memory as milestarling_run has them. Answers 0 to 8; with 1
+ * to 8 nothing is changed. It is the way to step a word at a time: the record stays where it is, and no trace is needed.
  */
 MILESTARLING_MUST_USE
 struct milestarling_step_reply milestarling_step(
     uint32_t word, struct milestarling_session *session,
+    uint64_t (*vectors)[2], struct milestarling_taint (*vector_taint)[2],
     uint64_t origin, uint64_t readonly,
     uint8_t *memory, size_t memory_length,
     uint8_t *taint, size_t taint_length);
@@ -271,6 +306,16 @@ struct milestarling_step_reply milestarling_step(
  */
 void milestarling_set_register(
     struct milestarling_session *session, uint32_t number, uint64_t value, struct milestarling_taint taint);
+
+/* One of 32 vector registers with its taint as it stands there. Any number above 31 reads 0, not tainted. */
+MILESTARLING_MUST_USE
+struct milestarling_vector_register milestarling_vector(
+    uint32_t number, const uint64_t (*vectors)[2], const struct milestarling_taint (*vector_taint)[2]);
+
+/* Sets one of 32 vector registers, with its taint as it is given. Any number above 31 changes nothing. */
+void milestarling_set_vector(
+    uint64_t (*vectors)[2], struct milestarling_taint (*vector_taint)[2], uint32_t number,
+    uint64_t low, uint64_t high, struct milestarling_taint taint_low, struct milestarling_taint taint_high);
 
 /* The session with its monitor open: address and size 0, and registers and pc as they were. */
 MILESTARLING_MUST_USE
@@ -353,7 +398,8 @@ enum milestarling_direction {
     MILESTARLING_STORE = 2
 };
 
-/* The operation of families 3 to 8: size * 4 + opc of the word. A signed load extends to 64 bits, or to 32. */
+/* The operation of families 3 to 8: size * 4 + opc of the word, and 16 more where its bit 26 is set, for vector registers, which
+   the ordered family hasn't got. A signed load extends to 64 bits, or to 32. */
 enum milestarling_sized_operation {
     MILESTARLING_STORE_BYTE = 0,
     MILESTARLING_LOAD_BYTE = 1,
@@ -368,24 +414,43 @@ enum milestarling_sized_operation {
     MILESTARLING_LOAD_SIGNED_WORD_64 = 10,
     MILESTARLING_STORE_DOUBLE = 12,
     MILESTARLING_LOAD_DOUBLE = 13,
-    MILESTARLING_PREFETCH_HINT = 14
+    MILESTARLING_PREFETCH_HINT = 14,
+    MILESTARLING_STORE_VECTOR_BYTE = 16,
+    MILESTARLING_LOAD_VECTOR_BYTE = 17,
+    MILESTARLING_STORE_VECTOR_QUAD = 18,
+    MILESTARLING_LOAD_VECTOR_QUAD = 19,
+    MILESTARLING_STORE_VECTOR_HALF = 20,
+    MILESTARLING_LOAD_VECTOR_HALF = 21,
+    MILESTARLING_STORE_VECTOR_WORD = 24,
+    MILESTARLING_LOAD_VECTOR_WORD = 25,
+    MILESTARLING_STORE_VECTOR_DOUBLE = 28,
+    MILESTARLING_LOAD_VECTOR_DOUBLE = 29
 };
 
-/* Of a literal: opc. */
+/* Of a literal: opc, and 4 more for vector registers. */
 enum milestarling_literal_operation {
     MILESTARLING_LITERAL_WORD = 0,
     MILESTARLING_LITERAL_DOUBLE = 1,
     MILESTARLING_LITERAL_SIGNED_WORD = 2,
-    MILESTARLING_LITERAL_PREFETCH = 3
+    MILESTARLING_LITERAL_PREFETCH = 3,
+    MILESTARLING_LITERAL_VECTOR_WORD = 4,
+    MILESTARLING_LITERAL_VECTOR_DOUBLE = 5,
+    MILESTARLING_LITERAL_VECTOR_QUAD = 6
 };
 
-/* Of a pair: opc * 2 + L; and its mode. */
+/* Of a pair: opc * 2 + L, and 8 more for vector registers; and its mode. */
 enum milestarling_pair_operation {
     MILESTARLING_STORE_WORDS = 0,
     MILESTARLING_LOAD_WORDS = 1,
     MILESTARLING_LOAD_SIGNED_WORDS = 3,
     MILESTARLING_STORE_DOUBLES = 4,
-    MILESTARLING_LOAD_DOUBLES = 5
+    MILESTARLING_LOAD_DOUBLES = 5,
+    MILESTARLING_STORE_VECTOR_WORDS = 8,
+    MILESTARLING_LOAD_VECTOR_WORDS = 9,
+    MILESTARLING_STORE_VECTOR_DOUBLES = 10,
+    MILESTARLING_LOAD_VECTOR_DOUBLES = 11,
+    MILESTARLING_STORE_VECTOR_QUADS = 12,
+    MILESTARLING_LOAD_VECTOR_QUADS = 13
 };
 
 enum milestarling_pair_mode {
@@ -407,13 +472,13 @@ enum milestarling_exclusive_operation {
 
 /*
  * The numbers of an instruction. A field that the family hasn't got is 0. Registers are 0 to 31, where 31 is sp as the
- * base and the zero register elsewhere.
+ * base, v31 as a vector register, and the zero register elsewhere.
  */
 struct milestarling_instruction {
     uint32_t family;    /* enum milestarling_family */
     uint32_t operation; /* of the family */
     uint32_t direction; /* enum milestarling_direction */
-    uint32_t bytes;     /* all that the access moves, both registers of a pair together; 0 for a prefetch */
+    uint32_t bytes;     /* all that the access moves, both registers of a pair together, up to 32; 0 for a prefetch */
     uint32_t target;    /* Rt, or the hint of a prefetch */
     uint32_t second;    /* Rt2 of a pair */
     uint32_t base;      /* Rn: of all families but the literal */
@@ -555,7 +620,37 @@ static inline void milestarling_observe_step(struct milestarling_session *sessio
     *session = milestarling_observed(*session, reply.code, reply.address, reply.status);
 }
 
-/* ---- The same run and step over a struct for memory. One of zeros, {0} in C and {} in C++, is memory of no bytes. */
+/* ---- Vector registers by their parts. */
+
+/* A vector register, each byte of whose taint is 0 or 1; 0 and not tainted for a number above 31. */
+MILESTARLING_MUST_USE
+static inline struct milestarling_vector_register milestarling_vectors_get(
+    const struct milestarling_vectors *vectors, uint32_t number)
+{
+    struct milestarling_vector_register found = milestarling_vector(number, vectors->value, vectors->taint);
+    found.taint_low = milestarling_taint_union(found.taint_low, MILESTARLING_TAINT_NONE);
+    found.taint_high = milestarling_taint_union(found.taint_high, MILESTARLING_TAINT_NONE);
+    return found;
+}
+
+/* Whether any byte of a vector register is tainted; 0 for a number above 31. */
+MILESTARLING_MUST_USE
+static inline int milestarling_vectors_tainted(const struct milestarling_vectors *vectors, uint32_t number)
+{
+    const struct milestarling_vector_register found = milestarling_vectors_get(vectors, number);
+    return (found.taint_low.bytes | found.taint_high.bytes) != 0;
+}
+
+/* Sets a vector register, with its taint as it is given. A number above 31 changes nothing. */
+static inline void milestarling_vectors_set(
+    struct milestarling_vectors *vectors, uint32_t number, struct milestarling_vector_register given)
+{
+    milestarling_set_vector(
+        vectors->value, vectors->taint, number, given.low, given.high, given.taint_low, given.taint_high);
+}
+
+/* ---- The same run and step over structs for memory and vector registers. One of zeros, {0} in C and {} in C++, is memory of
+   no bytes. */
 
 /* Memory, with a taint byte for each of its bytes and its place: the address of its first byte, and how many of its
    first bytes aren't stored to. Another number of taint bytes than of bytes is answer 1. With length 0 the pointer to the
@@ -576,12 +671,12 @@ struct milestarling_access {
 };
 
 /*
- * milestarling_run on memory and on a session, which is left as the run returns it. The trace has trace_length accesses,
- * and there are statuses_length statuses; they and the words may be null where their length is 0.
+ * milestarling_run on memory, on a session, which is left as the run returns it, and on its vector registers. The trace has
+ * trace_length accesses, and there are statuses_length statuses; they and the words may be null where their length is 0.
  */
 MILESTARLING_MUST_USE
 static inline struct milestarling_run_reply milestarling_session_run(
-    struct milestarling_memory memory, struct milestarling_session *session,
+    struct milestarling_memory memory, struct milestarling_session *session, struct milestarling_vectors *vectors,
     const uint32_t *words, size_t words_length,
     struct milestarling_access *trace, size_t trace_length,
     uint8_t *statuses, size_t statuses_length)
@@ -591,7 +686,7 @@ static inline struct milestarling_run_reply milestarling_session_run(
     uint8_t no_bytes[1] = {0}, no_taint[1] = {0}, no_statuses[1] = {0};
     struct milestarling_run_reply reply = milestarling_run(
         words_length != 0 ? words : no_words, words_length,
-        *session, memory.origin, memory.readonly,
+        *session, vectors->value, vectors->taint, memory.origin, memory.readonly,
         memory.length != 0 ? memory.bytes : no_bytes, memory.length,
         memory.taint_length != 0 ? memory.taint : no_taint, memory.taint_length,
         trace_length != 0 ? &trace->code : no_trace, MILESTARLING_TRACE_NUMBERS * trace_length,
@@ -600,14 +695,14 @@ static inline struct milestarling_run_reply milestarling_session_run(
     return reply;
 }
 
-/* milestarling_step on memory and on a session. */
+/* milestarling_step on memory, on a session and on its vector registers. */
 MILESTARLING_MUST_USE
 static inline struct milestarling_step_reply milestarling_session_step(
-    struct milestarling_memory memory, struct milestarling_session *session, uint32_t word)
+    struct milestarling_memory memory, struct milestarling_session *session, struct milestarling_vectors *vectors, uint32_t word)
 {
     uint8_t no_bytes[1] = {0}, no_taint[1] = {0};
     return milestarling_step(
-        word, session, memory.origin, memory.readonly,
+        word, session, vectors->value, vectors->taint, memory.origin, memory.readonly,
         memory.length != 0 ? memory.bytes : no_bytes, memory.length,
         memory.taint_length != 0 ? memory.taint : no_taint, memory.taint_length);
 }

@@ -28,6 +28,8 @@ SESSION_AT(pc, 512);
 SESSION_AT(monitor_address, 520);
 SESSION_AT(monitor_size, 528);
 typedef char session_has_536_bytes[sizeof(struct milestarling_session) == 536 ? 1 : -1];
+typedef char vectors_have_1024_bytes[sizeof(struct milestarling_vectors) == 1024 ? 1 : -1];
+typedef char vector_register_has_32_bytes[sizeof(struct milestarling_vector_register) == 32 ? 1 : -1];
 typedef char taint_has_8_bytes[sizeof(struct milestarling_taint) == 8 ? 1 : -1];
 typedef char reply_has_32_bytes[sizeof(struct milestarling_step_reply) == 32 ? 1 : -1];
 typedef char run_reply_has_568_bytes[sizeof(struct milestarling_run_reply) == 568 ? 1 : -1];
@@ -36,6 +38,23 @@ typedef char lister_reply_has_24_bytes[sizeof(struct milestarling_lister_reply) 
 typedef char memory_has_48_bytes[sizeof(struct milestarling_memory) == 48 ? 1 : -1];
 
 static int same(const struct milestarling_session *one, const struct milestarling_session *other)
+{
+    return memcmp(one, other, sizeof *one) == 0;
+}
+
+/* Vector registers for words that leave them alone: each byte has a value and a taint of its own, and keeps both. */
+static struct milestarling_vectors unused;
+
+static void fill(struct milestarling_vectors *vectors)
+{
+    uint8_t pattern[sizeof *vectors];
+    size_t i;
+    for (i = 0; i < sizeof pattern; i++)
+        pattern[i] = (uint8_t)(i % 251);
+    memcpy(vectors, pattern, sizeof *vectors);
+}
+
+static int same_vectors(const struct milestarling_vectors *one, const struct milestarling_vectors *other)
 {
     return memcmp(one, other, sizeof *one) == 0;
 }
@@ -124,13 +143,13 @@ static void a_run_goes_on_from_a_session(void)
     milestarling_set_register(&session, 1, 4096, MILESTARLING_TAINT_NONE);
 
     before = session;
-    reply = milestarling_session_run(memory, &session, words, 2, trace, 1, statuses, 2);
+    reply = milestarling_session_run(memory, &session, &unused, words, 2, trace, 1, statuses, 2);
     hold(reply.answer == MILESTARLING_NO_ROOM && reply.steps == 0, "a short trace");
-    reply = milestarling_session_run(memory, &session, words, 2, trace, 2, statuses, 1);
+    reply = milestarling_session_run(memory, &session, &unused, words, 2, trace, 2, statuses, 1);
     hold(reply.answer == MILESTARLING_NO_ROOM && reply.steps == 0, "a short list of statuses");
     hold(same(&session, &before) && same(&reply.session, &before) && statuses[0] == 9, "and nothing is changed");
 
-    reply = milestarling_session_run(memory, &session, words, 2, trace, 2, statuses, 2);
+    reply = milestarling_session_run(memory, &session, &unused, words, 2, trace, 2, statuses, 2);
     hold(reply.answer == MILESTARLING_TAINTED_ADDRESS && reply.steps == 1 && reply.code == 0, "a run");
     hold(trace[0].code == 8 && trace[0].address == 4104 && statuses[0] == 0 && statuses[1] == 9, "its trace");
     before.value[0] = 0x0707070707070707;
@@ -143,12 +162,12 @@ static void a_run_goes_on_from_a_session(void)
     hold(same_taint(milestarling_taint_of(&session, 2), MILESTARLING_TAINT_ALL), "0 or 1 for any byte");
     hold(!milestarling_tainted(&session, 32) && milestarling_taint_of(&session, 32).bytes == 0, "no register 32");
 
-    reply = milestarling_session_run(memory, &session, NULL, 0, NULL, 0, NULL, 0);
+    reply = milestarling_session_run(memory, &session, &unused, NULL, 0, NULL, 0, NULL, 0);
     hold(reply.answer == MILESTARLING_DONE && reply.steps == 0 && same(&session, &before), "no words");
-    reply = milestarling_session_run(none(), &session, words, 1, trace, 1, statuses, 1);
+    reply = milestarling_session_run(none(), &session, &unused, words, 1, trace, 1, statuses, 1);
     hold(reply.answer == MILESTARLING_OUT_OF_WINDOW && reply.address == 4104 && same(&session, &before), "no memory");
     session.pc = 2;
-    reply = milestarling_session_run(memory, &session, words, 1, trace, 1, statuses, 1);
+    reply = milestarling_session_run(memory, &session, &unused, words, 1, trace, 1, statuses, 1);
     hold(reply.answer == MILESTARLING_BAD_WINDOW && reply.session.pc == 2, "a pc that isn't a multiple of 4");
 }
 
@@ -167,9 +186,9 @@ static void refuses(struct milestarling_memory memory, const char *what)
     milestarling_set_register(&session, 0, 5, MILESTARLING_TAINT_ALL);
     milestarling_set_register(&session, 1, 4096, MILESTARLING_TAINT_NONE);
     before = session;
-    reply = milestarling_session_step(memory, &session, word);
+    reply = milestarling_session_step(memory, &session, &unused, word);
     hold(reply.answer == MILESTARLING_BAD_WINDOW && reply.code == 0 && reply.address == 0 && reply.status == 0, what);
-    ran = milestarling_session_run(memory, &session, &word, 1, trace, 1, statuses, 1);
+    ran = milestarling_session_run(memory, &session, &unused, &word, 1, trace, 1, statuses, 1);
     hold(ran.answer == MILESTARLING_BAD_WINDOW && ran.steps == 0 && same(&ran.session, &before), what);
     for (i = 0; i < sizeof taint; i++)
         kept = kept && taint[i] == 0 && (i == sizeof bytes || bytes[i] == 7);
@@ -194,7 +213,7 @@ static void taint_bytes_have_a_length_of_their_own(void)
     memory.length = 0;
     refuses(memory, "taint bytes of no bytes");
     memset(&session, 0, sizeof session);
-    reply = milestarling_session_step(none(), &session, 0xf9800020); /* prfm pldl1keep, [x1] */
+    reply = milestarling_session_step(none(), &session, &unused, 0xf9800020); /* prfm pldl1keep, [x1] */
     hold(reply.answer == MILESTARLING_DONE && session.pc == 4, "neither bytes nor taint bytes");
 }
 
@@ -214,20 +233,20 @@ static void a_host_opens_the_monitor(void)
     words[0] = load;
     words[1] = words[2] = store;
 
-    ran = milestarling_session_run(memory, &session, words, 1, trace, 1, statuses, 1);
+    ran = milestarling_session_run(memory, &session, &unused, words, 1, trace, 1, statuses, 1);
     hold(ran.answer == MILESTARLING_DONE && session.monitor_address == 4096 && session.monitor_size == 4, "arming");
-    ran = milestarling_session_run(memory, &session, words, 3, trace, 3, statuses, 3);
+    ran = milestarling_session_run(memory, &session, &unused, words, 3, trace, 3, statuses, 3);
     hold(ran.answer == MILESTARLING_DONE && ran.steps == 3, "a store-exclusive that fails isn't refused");
     hold(statuses[0] == 0 && statuses[1] == 0 && statuses[2] == 1, "statuses");
     hold(trace[1].code == MILESTARLING_STORE_CODE + 4 && memcmp(&trace[1], &trace[2], sizeof trace[1]) == 0, "shown alike");
     hold(session.value[3] == 1 && !milestarling_tainted(&session, 3) && session.monitor_size == 0, "status and monitor");
 
     bytes[0] = 9;
-    reply = milestarling_session_step(memory, &session, load);
+    reply = milestarling_session_step(memory, &session, &unused, load);
     hold(reply.answer == MILESTARLING_DONE && session.monitor_size == 4, "arming by a step");
     milestarling_open(&session);
     hold(session.monitor_address == 0 && session.monitor_size == 0, "opening");
-    reply = milestarling_session_step(memory, &session, store);
+    reply = milestarling_session_step(memory, &session, &unused, store);
     hold(reply.answer == MILESTARLING_DONE && reply.status == 1 && bytes[0] == 9, "a store that fails");
 }
 
@@ -310,16 +329,16 @@ static void a_session_is_changed_in_place(void)
     milestarling_set_register(&session, 32, 6, MILESTARLING_TAINT_ALL);
     hold(same(&session, &before), "no register 32 to be set");
 
-    reply = milestarling_session_step(memory, &session, 0xf9400420); /* ldr x0, [x1, #8] */
+    reply = milestarling_session_step(memory, &session, &unused, 0xf9400420); /* ldr x0, [x1, #8] */
     hold(reply.answer == MILESTARLING_DONE && reply.code == 8 && reply.address == 4104 && reply.status == 0, "a step");
     before.value[0] = 0x0707070707070707;
     before.value_taint[0] = milestarling_taint_bytes(1, 1);
     before.pc = MILESTARLING_WORD_BYTES;
     hold(same(&session, &before), "what it loads, its taint and pc");
 
-    reply = milestarling_session_step(memory, &session, 0xf9400001); /* ldr x1, [x0] */
+    reply = milestarling_session_step(memory, &session, &unused, 0xf9400001); /* ldr x1, [x0] */
     hold(reply.answer == MILESTARLING_TAINTED_ADDRESS && reply.code == 0 && reply.address == 0, "a tainted address");
-    reply = milestarling_session_step(none(), &session, 0xf9400420);
+    reply = milestarling_session_step(none(), &session, &unused, 0xf9400420);
     hold(reply.answer == MILESTARLING_OUT_OF_WINDOW && reply.code == 0 && reply.address == 4104, "no memory");
     hold(same(&session, &before), "a refusal changes nothing");
 }
@@ -332,17 +351,134 @@ static void bytes_keep_their_taints(void)
     memset(&session, 0, sizeof session);
     milestarling_set_register(&session, 0, 4096, MILESTARLING_TAINT_NONE);
     milestarling_set_register(&session, 1, 0x0503, milestarling_taint_bytes(0, 1));
-    hold(milestarling_session_step(memory, &session, 0xf9000001).answer == MILESTARLING_DONE, "str x1, [x0]");
+    hold(milestarling_session_step(memory, &session, &unused, 0xf9000001).answer == MILESTARLING_DONE, "str x1, [x0]");
     hold(taint[0] == 1 && taint[1] == 0 && taint[7] == 0 && bytes[0] == 3 && bytes[1] == 5, "what is stored");
-    hold(milestarling_session_step(memory, &session, 0x39c00002).answer == MILESTARLING_DONE, "ldrsb w2, [x0]");
+    hold(milestarling_session_step(memory, &session, &unused, 0x39c00002).answer == MILESTARLING_DONE, "ldrsb w2, [x0]");
     hold(same_taint(milestarling_taint_of(&session, 2), milestarling_taint_bytes(0, 4)), "sign copies of 32 bits");
-    hold(milestarling_session_step(memory, &session, 0x38626804).answer == MILESTARLING_TAINTED_ADDRESS, "ldrb w4, [x0, x2]");
-    hold(milestarling_session_step(memory, &session, 0x39400402).answer == MILESTARLING_DONE, "ldrb w2, [x0, #1]");
+    hold(milestarling_session_step(memory, &session, &unused, 0x38626804).answer == MILESTARLING_TAINTED_ADDRESS, "ldrb w4, [x0, x2]");
+    hold(milestarling_session_step(memory, &session, &unused, 0x39400402).answer == MILESTARLING_DONE, "ldrb w2, [x0, #1]");
     hold(!milestarling_tainted(&session, 2), "a byte beside a tainted one");
-    hold(milestarling_session_step(memory, &session, 0x38626804).address == 4101, "and an index");
+    hold(milestarling_session_step(memory, &session, &unused, 0x38626804).address == 4101, "and an index");
     milestarling_set_register(&session, 2, UINT64_C(0x500000005), milestarling_taint_bytes(4, 1));
-    hold(milestarling_session_step(memory, &session, 0x38626804).answer == MILESTARLING_TAINTED_ADDRESS, "byte 4, for lsl");
-    hold(milestarling_session_step(memory, &session, 0x38624804).address == 4101, "and not for uxtw");
+    hold(milestarling_session_step(memory, &session, &unused, 0x38626804).answer == MILESTARLING_TAINTED_ADDRESS, "byte 4, for lsl");
+    hold(milestarling_session_step(memory, &session, &unused, 0x38624804).address == 4101, "and not for uxtw");
+}
+
+/* A vector register with a taint of each byte that a bit of this number is set for, of sixteen. */
+static struct milestarling_vector_register vector(uint64_t low, uint64_t high, unsigned bits)
+{
+    struct milestarling_vector_register made;
+    made.low = low;
+    made.high = high;
+    made.taint_low = of_bits(bits & 255);
+    made.taint_high = of_bits(bits >> 8);
+    return made;
+}
+
+static int same_vector(struct milestarling_vector_register one, struct milestarling_vector_register other)
+{
+    return one.low == other.low && one.high == other.high && same_taint(one.taint_low, other.taint_low)
+        && same_taint(one.taint_high, other.taint_high);
+}
+
+static void vector_registers_are_read_and_set(void)
+{
+    struct milestarling_vectors vectors, before;
+    struct milestarling_vector_register given = vector(5, 6, 0x8001);
+    const struct milestarling_vectors *const kept = &vectors;
+    uint32_t i;
+    fill(&vectors);
+    before = vectors;
+    for (i = 0; i < MILESTARLING_VECTORS; i++) {
+        const struct milestarling_vector_register found = milestarling_vector(i, kept->value, kept->taint);
+        hold(found.low == before.value[i][0] && found.high == before.value[i][1], "a vector register's halves");
+        hold(same_taint(found.taint_low, before.taint[i][0]) && same_taint(found.taint_high, before.taint[i][1]), "as they stand");
+        hold(milestarling_vectors_get(kept, i).taint_high.bytes <= MILESTARLING_TAINT_ALL_BYTES, "0 or 1");
+        hold(milestarling_vectors_tainted(kept, i), "whether a byte is tainted");
+    }
+    given.taint_high.bytes *= 128;
+    milestarling_vectors_set(&vectors, 31, given);
+    before.value[31][0] = 5;
+    before.value[31][1] = 6;
+    before.taint[31][0] = given.taint_low;
+    before.taint[31][1] = given.taint_high;
+    hold(same_vectors(&vectors, &before), "v31 is set, its taint as it is given, and no other");
+    hold(same_vector(milestarling_vectors_get(kept, 31), vector(5, 6, 0x8001)), "the same as 0 or 1");
+    milestarling_vectors_set(&vectors, 32, given);
+    milestarling_vectors_set(&vectors, UINT32_MAX, given);
+    hold(same_vectors(&vectors, &before), "no vector register 32 to be set");
+    hold(same_vector(milestarling_vectors_get(kept, 32), vector(0, 0, 0)), "nor to be read");
+    hold(same_vector(milestarling_vector(UINT32_MAX, kept->value, kept->taint), vector(0, 0, 0)), "nor one above it");
+    hold(!milestarling_vectors_tainted(kept, 32), "nor tainted");
+    milestarling_vectors_set(&vectors, 0, vector(1, 2, 0x100));
+    hold(milestarling_vectors_tainted(kept, 0), "the taint of the high half alone");
+    milestarling_vectors_set(&vectors, 0, vector(1, 2, 0));
+    hold(!milestarling_vectors_tainted(kept, 0), "no taint");
+}
+
+/* A load fills so many bytes from the lowest on and clears all others, with their taints; the words load v31 by [x1, #0]. */
+static void a_load_clears_what_it_does_not_fill(void)
+{
+    static const uint32_t words[5] = {0x3d40003f, 0x7d40003f, 0xbd40003f, 0xfd40003f, 0x3dc0003f}; /* ldr b, h, s, d, q31, [x1] */
+    static const uint64_t halves[5][2] = {{7, 0}, {0x0707, 0}, {0x07070707, 0}, {0x0707070707070707, 0},
+        {0x0707070707070707, 0x0707070707070707}};
+    static const unsigned bits[5] = {1, 1, 1, 1, 0x8001};
+    unsigned i;
+    for (i = 0; i < 5; i++) {
+        struct milestarling_memory memory = small();
+        struct milestarling_session session;
+        struct milestarling_vectors vectors, before;
+        struct milestarling_step_reply reply;
+        memset(&session, 0, sizeof session);
+        milestarling_set_register(&session, 1, 4096, MILESTARLING_TAINT_NONE);
+        fill(&vectors);
+        before = vectors;
+        taint[0] = 128;
+        taint[15] = 1;
+        reply = milestarling_session_step(memory, &session, &vectors, words[i]);
+        hold(reply.answer == MILESTARLING_DONE && reply.code == (uint64_t)1 << i && reply.address == 4096, "a vector load");
+        hold(same_vector(milestarling_vectors_get(&vectors, 31), vector(halves[i][0], halves[i][1], bits[i])), "what it fills");
+        milestarling_vectors_set(&before, 31, vector(halves[i][0], halves[i][1], bits[i]));
+        hold(same_vectors(&vectors, &before), "and no other");
+        hold(session.value[31] == 0 && session.pc == 4, "nor sp");
+    }
+}
+
+/* A string's sixteen bytes are copied by a vector register, with their taints, and a general register finds them there. */
+static void a_vector_register_copies_taints(void)
+{
+    struct milestarling_memory memory = small();
+    struct milestarling_session session;
+    struct milestarling_vectors vectors, before;
+    struct milestarling_access trace[2];
+    struct milestarling_run_reply ran;
+    uint8_t statuses[2];
+    const uint32_t words[2] = {0x3dc00020, 0x3c810420}; /* ldr q0, [x1]; str q0, [x1], #16 */
+    size_t i;
+    memset(&session, 0, sizeof session);
+    memset(&vectors, 0, sizeof vectors);
+    milestarling_set_register(&session, 1, 4096, MILESTARLING_TAINT_NONE);
+    for (i = 0; i < sizeof bytes; i++)
+        bytes[i] = (uint8_t)i;
+    taint[3] = taint[12] = 255;
+    ran = milestarling_session_run(memory, &session, &vectors, words, 2, trace, 2, statuses, 2);
+    hold(ran.answer == MILESTARLING_DONE && trace[0].code == 16 && trace[1].code == MILESTARLING_STORE_CODE + 16, "a copy");
+    hold(session.value[1] == 4112 && !milestarling_tainted(&session, 1), "its writeback");
+    hold(same_vector(milestarling_vectors_get(&vectors, 0),
+        vector(UINT64_C(0x0706050403020100), UINT64_C(0x0f0e0d0c0b0a0908), 0x1008)), "the low half first");
+    hold(taint[3] == 1 && taint[12] == 1 && taint[4] == 0 && bytes[15] == 15, "0 or 1 behind it");
+
+    /* ldr q1, [x1], #16: of one number with its base, and done; ldp q1, q1, [x1]: loads one register twice */
+    milestarling_set_register(&session, 1, 4096, MILESTARLING_TAINT_NONE);
+    hold(milestarling_session_step(memory, &session, &vectors, 0x3cc10421).answer == MILESTARLING_DONE, "no collision");
+    hold(session.value[1] == 4112, "and a writeback");
+    before = vectors;
+    hold(milestarling_session_step(memory, &session, &vectors, 0xad400421).answer == MILESTARLING_UNPREDICTABLE, "a pair");
+    hold(milestarling_session_step(memory, &session, &vectors, 0x3dc00021).answer == MILESTARLING_OUT_OF_WINDOW, "no memory");
+    milestarling_set_register(&session, 1, 4096, milestarling_taint_bytes(7, 1));
+    hold(milestarling_session_step(memory, &session, &vectors, 0x3dc00021).answer == MILESTARLING_TAINTED_ADDRESS, "a base");
+    ran = milestarling_session_run(memory, &session, &vectors, words, 2, trace, 1, statuses, 2);
+    hold(ran.answer == MILESTARLING_NO_ROOM && same_vectors(&vectors, &before), "a refusal changes no vector register");
 }
 
 int main(void)
@@ -350,6 +486,9 @@ int main(void)
     uint64_t answer;
     uint8_t short_line[MILESTARLING_SHORT_MAX];
     const uint8_t over[3] = {1, 2, 3};
+    struct milestarling_vectors before;
+    fill(&unused);
+    before = unused;
     a_host_carries_taints();
     bytes_keep_their_taints();
     a_session_is_changed_in_place();
@@ -358,6 +497,10 @@ int main(void)
     a_host_opens_the_monitor();
     a_session_observes_a_step_of_anothers();
     a_session_observes_a_run_of_anothers();
+    vector_registers_are_read_and_set();
+    a_load_clears_what_it_does_not_fill();
+    a_vector_register_copies_taints();
+    hold(same_vectors(&unused, &before), "words without vector registers leave them alone");
     hold(milestarling_list(over, 3, short_line, sizeof short_line).length == MILESTARLING_SHORT_MAX, "the short line");
     for (answer = 0; answer < 64; answer++) {
         const char *text = milestarling_answer_text(answer);

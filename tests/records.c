@@ -44,6 +44,21 @@ static void put_register(uint32_t number, int wide, const char *last)
 
 static void put_data(uint32_t number, int wide) { put_register(number, wide, wide ? "xzr" : "wzr"); }
 
+/* A vector register of 1, 2, 4, 8 or 16 bytes: 31 is one like any other. */
+static void put_vector(uint32_t number, uint32_t bytes)
+{
+    char name[16];
+    sprintf(name, "%c%u", bytes == 1 ? 'b' : bytes == 2 ? 'h' : bytes == 4 ? 's' : bytes == 8 ? 'd' : 'q', (unsigned)number);
+    put(name);
+}
+
+/* The power of two that the bytes of a sized operation are. */
+static uint32_t scale(uint32_t operation)
+{
+    const int quad = operation == MILESTARLING_STORE_VECTOR_QUAD || operation == MILESTARLING_LOAD_VECTOR_QUAD;
+    return quad ? 4 : operation / 4 % 4;
+}
+
 static void put_hint(uint32_t hint)
 {
     static const char *const kinds[3] = {"pld", "pli", "pst"}, *const levels[3] = {"l1", "l2", "l3"};
@@ -86,16 +101,20 @@ static void put_index(const instruction *i)
     }
     if (i->scaled) {
         put(" ");
-        put_number(i->operation / 4);
+        put_number(scale(i->operation));
     }
     put("]");
 }
 
 static void put_sized(const instruction *i, const char *const *names)
 {
-    put(names[i->operation]);
+    const int vector = i->operation >= MILESTARLING_STORE_VECTOR_BYTE;
+    /* a vector's load and store have the names of a doubleword's */
+    put(names[vector ? MILESTARLING_STORE_DOUBLE + i->operation % 2 : i->operation]);
     put(" ");
-    if (i->operation == MILESTARLING_PREFETCH_HINT)
+    if (vector)
+        put_vector(i->target, 1u << scale(i->operation));
+    else if (i->operation == MILESTARLING_PREFETCH_HINT)
         put_hint(i->target);
     else
         put_data(i->target, i->operation / 4 == 3 || i->operation % 4 == 2);
@@ -119,27 +138,48 @@ static void put_exclusive(const instruction *i)
     put_place(i, 0, 0);
 }
 
+static void put_pair(const instruction *i)
+{
+    const int vector = i->operation >= MILESTARLING_STORE_VECTOR_WORDS;
+    const uint32_t named = vector ? MILESTARLING_STORE_DOUBLES + i->operation % 2 : i->operation;
+    put(i->mode == MILESTARLING_PAIR_NO_ALLOCATE ? no_allocate_names[named] : pair_names[named]);
+    put(" ");
+    if (vector) {
+        put_vector(i->target, 4u << (i->operation / 2 % 4));
+        put(", ");
+        put_vector(i->second, 4u << (i->operation / 2 % 4));
+    } else {
+        put_data(i->target, i->operation > 2);
+        put(", ");
+        put_data(i->second, i->operation > 2);
+    }
+    put_place(i, i->mode == MILESTARLING_PAIR_PRE, i->mode == MILESTARLING_PAIR_POST);
+}
+
+static void put_literal(const instruction *i)
+{
+    const int vector = i->operation >= MILESTARLING_LITERAL_VECTOR_WORD;
+    put(literal_names[vector ? MILESTARLING_LITERAL_DOUBLE : i->operation]);
+    put(" ");
+    if (vector)
+        put_vector(i->target, 4u << i->operation % 4);
+    else if (i->operation == MILESTARLING_LITERAL_PREFETCH)
+        put_hint(i->target);
+    else
+        put_data(i->target, i->operation != MILESTARLING_LITERAL_WORD);
+    put(", ");
+    put_number(i->offset);
+}
+
 static void write_line(const instruction *i)
 {
     line[0] = 0;
     switch (i->family) {
     case MILESTARLING_LITERAL:
-        put(literal_names[i->operation]);
-        put(" ");
-        if (i->operation == MILESTARLING_LITERAL_PREFETCH)
-            put_hint(i->target);
-        else
-            put_data(i->target, i->operation != MILESTARLING_LITERAL_WORD);
-        put(", ");
-        put_number(i->offset);
+        put_literal(i);
         break;
     case MILESTARLING_PAIR:
-        put(i->mode == MILESTARLING_PAIR_NO_ALLOCATE ? no_allocate_names[i->operation] : pair_names[i->operation]);
-        put(" ");
-        put_data(i->target, i->operation > 2);
-        put(", ");
-        put_data(i->second, i->operation > 2);
-        put_place(i, i->mode == MILESTARLING_PAIR_PRE, i->mode == MILESTARLING_PAIR_POST);
+        put_pair(i);
         break;
     case MILESTARLING_ORDERED:
         put_sized(i, ordered_names);
@@ -160,18 +200,21 @@ static uint32_t told_direction(const char *text) { return text[0] == 'p' ? 0 : t
 
 static uint32_t told_bytes(const char *text)
 {
+    static const char letters[] = "bhsdq";
     const char *space = strchr(text, ' ');
     int pair = space[-1] == 'p' || strncmp(text, "ldpsw", 5) == 0;
     int status = strncmp(text, "stxr", 4) == 0 || strncmp(text, "stlxr", 5) == 0;
     const char *data = status ? strchr(space, ',') + 2 : space + 1;
-    uint32_t one = space[-1] == 'b' ? 1 : space[-1] == 'h' ? 2 : space[-1] == 'w' ? 4 : data[0] == 'w' ? 4 : 8;
+    const char *vector = strchr(letters, data[0]);
+    uint32_t one = vector != NULL ? 1u << (vector - letters) : space[-1] == 'b' ? 1 : space[-1] == 'h' ? 2
+        : space[-1] == 'w' || data[0] == 'w' ? 4 : 8;
     return text[0] == 'p' ? 0 : pair ? 2 * one : one;
 }
 
-/* The bits that the words of a family have, and all words. */
-static const uint32_t patterns[12][2] = {{0x3f000000, 0x18000000}, {0x3e000000, 0x28000000}, {0x3f200c00, 0x19000000},
-    {0x3f200c00, 0x38000000}, {0x3f200c00, 0x38000400}, {0x3f200c00, 0x38000c00}, {0x3f204c00, 0x38204800},
-    {0x3f000000, 0x39000000}, {0x3fa07c00, 0x08007c00}, {0x3fff7c00, 0x085f7c00}, {0x3fbffc00, 0x089ffc00}, {0, 0}};
+/* The bits that the words of a family have, of which bit 26 is none but in the third and the ninth, and all words. */
+static const uint32_t patterns[12][2] = {{0x3b000000, 0x18000000}, {0x3a000000, 0x28000000}, {0x3f200c00, 0x19000000},
+    {0x3b200c00, 0x38000000}, {0x3b200c00, 0x38000400}, {0x3b200c00, 0x38000c00}, {0x3b204c00, 0x38204800},
+    {0x3b000000, 0x39000000}, {0x3fa07c00, 0x08007c00}, {0x3fff7c00, 0x085f7c00}, {0x3fbffc00, 0x089ffc00}, {0, 0}};
 
 static uint64_t state = 88172645463325252u;
 
@@ -231,7 +274,8 @@ static int try_other(uint32_t word, unsigned field, uint32_t number)
     return encoded.answer == MILESTARLING_DONE && memcmp(&again, &numbers, sizeof again) == 0 ? 0 : fail(word, "another record");
 }
 
-/* Numbers that are no word's: a change of `stp x29, x30, [sp, #-16]!` or of `stlxrh w2, w0, [x1]`. */
+/* Numbers that are no word's: a change of `stp x29, x30, [sp, #-16]!`, of `stlxrh w2, w0, [x1]`, of `stp q0, q1, [x2]`, of
+   `str q0, [x1]` or of `stlur x0, [x1]`. */
 static int try_wrong(uint32_t word, unsigned field, uint32_t number)
 {
     instruction numbers = milestarling_decode(word).instruction;
@@ -255,6 +299,10 @@ int main(void)
     failed |= try_wrong(0xa9bf7bfd, 0, 10) || try_wrong(0xa9bf7bfd, 1, 2) || try_wrong(0xa9bf7bfd, 2, 1) || try_wrong(0xa9bf7bfd, 3, 8)
         || try_wrong(0x4802fc20, 5, 1) || try_wrong(0xa9bf7bfd, 7, 1) || try_wrong(0xa9bf7bfd, 8, 3) || try_wrong(0xa9bf7bfd, 9, 1)
         || try_wrong(0x4802fc20, 10, 1) || try_wrong(0xa9bf7bfd, 11, 31) || try_wrong(0xa9bf7bfd, 4, 32) || try_wrong(0x4802fc20, 1, 12);
+    /* operation and bytes of vectors: a pair with opc 11, one of sixteen bytes, a size that isn't 00 with opc 10, one of eight
+       bytes, and an ordered one, which there isn't */
+    failed |= try_wrong(0xad000440, 1, 14) || try_wrong(0xad000440, 3, 16) || try_wrong(0x3d800020, 1, 22) || try_wrong(0x3d800020, 3, 8)
+        || try_wrong(0xd9000020, 1, 28);
     printf("%u words of %u were decoded, held against their text, and encoded again\n", (unsigned)done, (unsigned)i);
     return failed;
 }

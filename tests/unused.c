@@ -20,6 +20,8 @@
 int main(void)
 {
     struct milestarling_session session = {{0}, {{0}}, 0, 0, 0};
+    struct milestarling_vectors vectors = {{{0}}, {{{0}}}};
+    const struct milestarling_vectors *const kept = &vectors;
     struct milestarling_memory memory = {NULL, 0, NULL, 0, 0, 0};
     struct milestarling_lister lister = {0, 0, 0, 0, 0};
     struct milestarling_instruction numbers = {0, 0, 0, 0, 0, 0, 0, 0, 0, 0, 0, 0, 0};
@@ -28,8 +30,10 @@ int main(void)
     const struct milestarling_taint none = MILESTARLING_TAINT_NONE;
     const uint32_t words[1] = {0};
 
-    ANSWER(struct milestarling_run_reply, milestarling_run(words, 1, session, 0, 0, bytes, 4, taint, 4, trace, 2, statuses, 1));
-    ANSWER(struct milestarling_step_reply, milestarling_step(0, &session, 0, 0, bytes, 4, taint, 4));
+    ANSWER(struct milestarling_run_reply, milestarling_run(words, 1, session, vectors.value, vectors.taint, 0, 0, bytes, 4, taint, 4,
+        trace, 2, statuses, 1));
+    ANSWER(struct milestarling_step_reply, milestarling_step(0, &session, vectors.value, vectors.taint, 0, 0, bytes, 4, taint, 4));
+    ANSWER(struct milestarling_vector_register, milestarling_vector(0, kept->value, kept->taint));
     ANSWER(struct milestarling_session, milestarling_opened(session));
     ANSWER(struct milestarling_session, milestarling_observed(session, 0, 0, 0));
     ANSWER(struct milestarling_text_reply, milestarling_text(0, bytes, 4));
@@ -49,8 +53,10 @@ int main(void)
     ANSWER(uint64_t, milestarling_value(&session, 0));
     ANSWER(struct milestarling_taint, milestarling_taint_of(&session, 0));
     ANSWER(int, milestarling_tainted(&session, 0));
-    ANSWER(struct milestarling_run_reply, milestarling_session_run(memory, &session, words, 1, NULL, 0, statuses, 1));
-    ANSWER(struct milestarling_step_reply, milestarling_session_step(memory, &session, 0));
+    ANSWER(struct milestarling_vector_register, milestarling_vectors_get(&vectors, 0));
+    ANSWER(int, milestarling_vectors_tainted(&vectors, 0));
+    ANSWER(struct milestarling_run_reply, milestarling_session_run(memory, &session, &vectors, words, 1, NULL, 0, statuses, 1));
+    ANSWER(struct milestarling_step_reply, milestarling_session_step(memory, &session, &vectors, 0));
     ANSWER(const char *, milestarling_answer_text(0));
     return 0;
 }
