@@ -20,7 +20,7 @@ example() { # NAME WORDS...
     cargo run --quiet --release --offline --example "$@" | diff - "$top/tests/$1.expected"
     echo "bindings: the example $1.rs wrote what tests/$1.expected has"
 }
-example plugin "$top"/examples/plugin/{compare,compare_early,look_up,look_up_kind}.bin
+example plugin "$top"/examples/plugin/{compare,compare_early,look_up,look_up_kind,copy_by_kind,copy_by_letter}.bin
 example turns "$top/examples/lock.bin"
 
 # What the README prints for Rust, as it is printed, in a function that may fail; it lists no bytes.

@@ -7,6 +7,6 @@ object=$(mktemp)
 trap 'rm -f "$object"' EXIT
 clang --target=aarch64-linux-gnu -ffreestanding -Os -fno-vectorize -fno-unroll-loops -fomit-frame-pointer \
     -fno-asynchronous-unwind-tables -ffunction-sections -c -o "$object" plugin.c
-for function in compare compare_early look_up look_up_kind; do
+for function in compare compare_early look_up look_up_kind copy_by_kind copy_by_letter; do
     aarch64-linux-gnu-objcopy -O binary -j ".text.$function" "$object" "$function.bin"
 done

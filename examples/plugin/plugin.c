@@ -1,5 +1,5 @@
 /*
- * Four pieces of a login plugin, which the host examples/plugin.c and the Rust example plugin.rs run. build.sh compiles
+ * Six pieces of a login plugin, which the host examples/plugin.c and the Rust example plugin.rs run. build.sh compiles
  * each into a file of its own.
  */
 typedef unsigned char letter;
@@ -41,4 +41,18 @@ unsigned look_up_kind(const struct login *login, const letter *table)
 {
     volatile unsigned long spilled = login->keyed;
     return table[*((volatile letter *)&spilled + 1)];
+}
+
+/* A copy of such a login, sixteen bytes at once by a vector register, and the letter of the copy that its kind chooses. */
+unsigned copy_by_kind(const struct login *login, struct login *copy)
+{
+    *copy = *login;
+    return copy->password[*((volatile letter *)&copy->keyed + 1)];
+}
+
+/* The same, with the letter that the first one chooses: a secret is one in the copy too. */
+unsigned copy_by_letter(const struct login *login, struct login *copy)
+{
+    *copy = *login;
+    return copy->password[*(volatile letter *)copy->password & 7];
 }
