@@ -52,8 +52,10 @@ struct Load {
 fn candidate(random: &mut Random) -> Option<u32> {
     let word = word_of_line(random);
     let instruction = decode(word).ok()?;
-    if instruction.operation == Operation::Prefetch || matches!(instruction.family, Family::Exclusive { .. }) {
-        // A prefetch touches nothing, so that it would only flatter everyone; and Unicorn has another monitor.
+    let exclusive = matches!(instruction.family, Family::Exclusive { .. });
+    if instruction.operation == Operation::Prefetch || exclusive || instruction.vector {
+        // A prefetch touches nothing, so that it would only flatter everyone; and Unicorn has another monitor. Vectors would make
+        // other lists of what was measured before there were any.
         return None;
     }
     let data = 9 + random.below(22) as u32;
@@ -74,7 +76,7 @@ fn candidate(random: &mut Random) -> Option<u32> {
 }
 
 fn load(random: &mut Random, stores: bool) -> Load {
-    let mut start = state_of(&raw::SessionRecord { pc: PC, ..Default::default() });
+    let mut start = state_of(&raw::SessionRecord { pc: PC, ..Default::default() }, &raw::VectorsRecord::default());
     start.registers[0] = 0x38;
     for register in &mut start.registers[1..] {
         *register = WINDOW.origin + 0x8000 + 8 * random.below(64) as u64;
@@ -112,10 +114,13 @@ impl Load {
             return self.by_step();
         }
         let (mut session, mut statuses) = (self.session(), vec![0; length]);
+        let mut vectors = raw::VectorsRecord::default();
         for (words, trace) in self.words.chunks(length).zip(self.trace.chunks_mut(2 * length)) {
             let reply = raw::run(
                 words,
                 session,
+                &mut vectors.value,
+                &mut vectors.taint,
                 WINDOW.origin,
                 WINDOW.readonly,
                 &mut self.memory,
@@ -126,7 +131,7 @@ impl Load {
             assert_eq!(reply.answer, 0);
             session = reply.session;
         }
-        state_of(&session)
+        state_of(&session, &vectors)
     }
 
     /// The state to begin with, in which no register is tainted.
@@ -135,14 +140,15 @@ impl Load {
     }
 
     fn by_step(&mut self) -> State {
-        let mut session = self.session();
+        let (mut session, mut vectors) = (self.session(), raw::VectorsRecord::default());
         for (&word, trace) in self.words.iter().zip(self.trace.chunks_mut(2)) {
-            let reply =
-                raw::step(word, &mut session, WINDOW.origin, WINDOW.readonly, &mut self.memory, &mut self.taint);
+            let raw::VectorsRecord { value, taint } = &mut vectors;
+            let (Window { origin, readonly }, memory) = (WINDOW, &mut self.memory);
+            let reply = raw::step(word, &mut session, value, taint, origin, readonly, memory, &mut self.taint);
             assert_eq!(reply.answer, 0);
             trace.copy_from_slice(&[reply.code, reply.address]);
         }
-        state_of(&session)
+        state_of(&session, &vectors)
     }
 
     /// One pass by the safe type, a step for each word.

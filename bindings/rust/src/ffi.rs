@@ -2,7 +2,9 @@
 
 #![allow(unsafe_code)]
 
-use crate::raw::{DecodeReply, Lister, ListerReply, Numbers, RunReply, SessionRecord, StepReply, TextReply, WordReply};
+use crate::raw::{
+    DecodeReply, Lister, ListerReply, Numbers, RunReply, SessionRecord, StepReply, TextReply, VectorReply, WordReply,
+};
 use crate::Taint;
 
 extern "C" {
@@ -10,6 +12,8 @@ extern "C" {
         words: *const u32,
         words_len: usize,
         session: SessionRecord,
+        vectors: *mut [u64; 2],
+        vector_taint: *mut [Taint; 2],
         origin: u64,
         readonly: u64,
         memory: *mut u8,
@@ -24,6 +28,8 @@ extern "C" {
     fn milestarling_step(
         word: u32,
         session: *mut SessionRecord,
+        vectors: *mut [u64; 2],
+        vector_taint: *mut [Taint; 2],
         origin: u64,
         readonly: u64,
         memory: *mut u8,
@@ -32,6 +38,16 @@ extern "C" {
         taint_len: usize,
     ) -> StepReply;
     fn milestarling_set_register(session: *mut SessionRecord, number: u32, value: u64, taint: Taint);
+    fn milestarling_vector(number: u32, vectors: *const [u64; 2], vector_taint: *const [Taint; 2]) -> VectorReply;
+    fn milestarling_set_vector(
+        vectors: *mut [u64; 2],
+        vector_taint: *mut [Taint; 2],
+        number: u32,
+        low: u64,
+        high: u64,
+        taint_low: Taint,
+        taint_high: Taint,
+    );
     fn milestarling_opened(session: SessionRecord) -> SessionRecord;
     fn milestarling_observed(session: SessionRecord, code: u64, address: u64, status: u64) -> SessionRecord;
     fn milestarling_text(word: u32, buffer: *mut u8, buffer_len: usize) -> TextReply;
@@ -60,6 +76,8 @@ extern "C" {
 pub(crate) fn run(
     words: &[u32],
     session: SessionRecord,
+    vectors: &mut [[u64; 2]; 32],
+    vector_taint: &mut [[Taint; 2]; 32],
     origin: u64,
     readonly: u64,
     memory: &mut [u8],
@@ -67,12 +85,15 @@ pub(crate) fn run(
     trace: &mut [u64],
     statuses: &mut [u8],
 ) -> RunReply {
-    // SAFETY: each pointer and length come from one slice, and the record is of C's layout, of which any bits are one.
+    // SAFETY: each pointer and length come from one slice, the arrays have 32 elements, and the record is of C's layout, of
+    // which any bits are one.
     unsafe {
         milestarling_run(
             words.as_ptr(),
             words.len(),
             session,
+            vectors.as_mut_ptr(),
+            vector_taint.as_mut_ptr(),
             origin,
             readonly,
             memory.as_mut_ptr(),
@@ -87,20 +108,26 @@ pub(crate) fn run(
     }
 }
 
+#[allow(clippy::too_many_arguments)]
 #[inline]
 pub(crate) fn step(
     word: u32,
     session: &mut SessionRecord,
+    vectors: &mut [[u64; 2]; 32],
+    vector_taint: &mut [[Taint; 2]; 32],
     origin: u64,
     readonly: u64,
     memory: &mut [u8],
     taint: &mut [u8],
 ) -> StepReply {
-    // SAFETY: each pointer and length come from one slice, and the record is of C's layout, of which any bits are one.
+    // SAFETY: each pointer and length come from one slice, the arrays have 32 elements, and the record is of C's layout, of
+    // which any bits are one.
     unsafe {
         milestarling_step(
             word,
             session,
+            vectors.as_mut_ptr(),
+            vector_taint.as_mut_ptr(),
             origin,
             readonly,
             memory.as_mut_ptr(),
@@ -115,6 +142,34 @@ pub(crate) fn step(
 pub(crate) fn set_register(session: &mut SessionRecord, number: u32, value: u64, taint: Taint) {
     // SAFETY: the record is of C's layout, of which any bits are one.
     unsafe { milestarling_set_register(session, number, value, taint) }
+}
+
+#[inline]
+pub(crate) fn vector(number: u32, vectors: &[[u64; 2]; 32], vector_taint: &[[Taint; 2]; 32]) -> VectorReply {
+    // SAFETY: the arrays have 32 elements.
+    unsafe { milestarling_vector(number, vectors.as_ptr(), vector_taint.as_ptr()) }
+}
+
+#[inline]
+pub(crate) fn set_vector(
+    vectors: &mut [[u64; 2]; 32],
+    vector_taint: &mut [[Taint; 2]; 32],
+    number: u32,
+    [low, high]: [u64; 2],
+    [taint_low, taint_high]: [Taint; 2],
+) {
+    // SAFETY: the arrays have 32 elements.
+    unsafe {
+        milestarling_set_vector(
+            vectors.as_mut_ptr(),
+            vector_taint.as_mut_ptr(),
+            number,
+            low,
+            high,
+            taint_low,
+            taint_high,
+        );
+    }
 }
 
 #[inline]

@@ -4,9 +4,10 @@
 //! Every word, every state and every text gets an answer, and nobody has to check first: a refusal is a [`Refusal`],
 //! carries its number in documents 01 and 02 and changes nothing.
 //!
-//! - [`Session`] is one session's registers, with their taints, PC and the monitor of exclusive accesses. It does steps and
-//!   runs in a [`Memory`], which owns its bytes and their taints or borrows them, and [`step_in`] does so in several.
-//! - [`Taint`] says which bytes of a register are secret.
+//! - [`Session`] is one session's registers, with their taints, its [`Vectors`], PC and the monitor of exclusive accesses. It
+//!   does steps and runs in a [`Memory`], which owns its bytes and their taints or borrows them, and [`step_in`] does so in
+//!   several.
+//! - [`Taint`] says which bytes of a register are secret, and [`VectorTaint`] which of a vector register.
 //! - [`Instruction`] goes from words to lines of text and back, and to [`Numbers`] and back.
 //! - [`words`] goes through an image, word by word, and [`touches_memory`] says which words a host steps.
 //! - [`listing`] lists bytes, and [`Lister`] and [`ListingWriter`] list what comes in fragments.
@@ -16,9 +17,9 @@
 //!
 //! Loads and stores are done here, and all other words are the host's to compute. So it asks [`touches_memory`] of each word
 //! first. One that touches memory is stepped, and the plugin is stopped where the step is refused. That goes for
-//! [`Answer::NotInSet`] too: it is then a load or store that isn't taken, such as a vector's or an atomic one, and to pass
-//! it over or to compute it would lose bytes and taints in silence. One that doesn't touch memory is computed, and the host
-//! adds 4 to PC or branches itself ([`Session::set_pc`]). The answer by itself doesn't tell the two apart.
+//! [`Answer::NotInSet`] too: it is then a load or store that isn't taken, such as an atomic one or one of a vector's elements,
+//! and to pass it over or to compute it would lose bytes and taints in silence. One that doesn't touch memory is computed, and
+//! the host adds 4 to PC or branches itself ([`Session::set_pc`]). The answer by itself doesn't tell the two apart.
 //!
 //! # The host's own duty
 //!
@@ -63,17 +64,20 @@ mod numbers;
 pub mod raw;
 mod register;
 mod session;
+mod shown;
 mod stream;
 mod taint;
 mod text;
+mod vectors;
 
 pub use answer::{Answer, Refusal, UnknownAnswer};
 pub use image::{words, Words};
 pub use memory::{step_in, Access, Memory, TaintedBytes, Window};
 pub use numbers::{classify, touches_memory};
 pub use raw::Numbers;
-pub use register::{Register, UnknownRegister};
+pub use register::{Register, UnknownRegister, VectorRegister};
 pub use session::{Monitor, Run, Session, Step};
 pub use stream::{Lister, ListingWriter};
-pub use taint::Taint;
+pub use taint::{Taint, VectorTaint};
 pub use text::{list, listing, Instruction, LINE_MAX};
+pub use vectors::Vectors;

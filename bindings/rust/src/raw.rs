@@ -32,6 +32,32 @@ pub struct SessionRecord {
     pub monitor_size: u64,
 }
 
+/// A session's vector registers, which a host keeps beside its record and lends to [`run`] and [`step`]. The default is a new
+/// one: all 0, and nothing tainted. [`Vectors`](crate::Vectors) is the same with names.
+#[repr(C)]
+#[derive(Clone, Copy, Default, PartialEq, Eq, Hash)]
+pub struct VectorsRecord {
+    /// The values of v0 to v31 by their halves, the low one first.
+    pub value: [[u64; 2]; 32],
+    /// The taints of their bytes, likewise. Those that a step sets become 0 or 1 each, and all others keep their bits.
+    pub taint: [[Taint; 2]; 32],
+}
+
+/// One vector register, by its halves.
+#[must_use]
+#[repr(C)]
+#[derive(Clone, Copy, Default, PartialEq, Eq)]
+pub struct VectorReply {
+    /// The low half's value.
+    pub low: u64,
+    /// The high half's.
+    pub high: u64,
+    /// The taints of the low half's bytes.
+    pub taint_low: Taint,
+    /// Those of the high half's.
+    pub taint_high: Taint,
+}
+
 /// What a run returns beside what it leaves in the slices.
 #[must_use]
 #[repr(C)]
@@ -119,29 +145,36 @@ pub struct ListerReply {
 
 /// Runs a list of words.
 ///
-/// `session` is the record to begin with, and the reply has the one after the steps done. `memory` begins at the address
-/// `origin`, and its first `readonly` bytes can't be stored to. `taint` has a byte for each of memory's. For each step
-/// done `trace` gets two numbers, its code and its address, and `statuses` a byte: 1 for a store-exclusive that has
-/// failed, and else 0. A trace or a list of statuses too short for all words is refused with 10, and longer ones keep
-/// their rest. A run that isn't begun (answers 1 and 10) changes nothing.
+/// `session` is the record to begin with, and the reply has the one after the steps done. `vectors` and `vector_taint` are the
+/// vector registers and their taints, each by its low half and its high one. `memory` begins at the address `origin`, and its
+/// first `readonly` bytes can't be stored to. `taint` has a byte for each of memory's. For each step done `trace` gets two
+/// numbers, its code and its address, and `statuses` a byte: 1 for a store-exclusive that has failed, and else 0. A trace or a
+/// list of statuses too short for all words is refused with 10, and longer ones keep their rest. A run that isn't begun
+/// (answers 1 and 10) changes nothing.
 ///
 /// ```
-/// use milestarling::raw::{run, SessionRecord};
+/// use milestarling::raw::{run, SessionRecord, VectorsRecord};
 ///
 /// let mut session = SessionRecord::default();
-/// let (mut memory, mut taint, mut trace, mut statuses) = ([7; 16], [0; 16], [0; 2], [9]);
+/// let VectorsRecord { mut value, taint: mut value_taint } = VectorsRecord::default();
+/// let (mut memory, mut taint, mut trace, mut statuses) = ([7; 16], [0; 16], [0; 4], [9; 2]);
 /// session.value[1] = 4096;
-/// let words = [0xf9400420]; // ldr x0, [x1, #8]
-/// let reply = run(&words, session, 4096, 0, &mut memory, &mut taint, &mut trace, &mut statuses);
-/// assert_eq!((reply.steps, reply.answer, reply.code, reply.address), (1, 0, 8, 4104));
-/// assert_eq!((reply.session.value[0], reply.session.pc), (0x0707_0707_0707_0707, 4));
-/// assert_eq!((trace, statuses), ([8, 4104], [0]));
+/// let words = [0xf9400420, 0xfd400422]; // ldr x0, [x1, #8]; ldr d2, [x1, #8]
+/// let reply = run(
+///     &words, session, &mut value, &mut value_taint, 4096, 0, &mut memory, &mut taint, &mut trace, &mut statuses,
+/// );
+/// assert_eq!((reply.steps, reply.answer, reply.code, reply.address), (2, 0, 8, 4104));
+/// assert_eq!((reply.session.value[0], reply.session.pc), (0x0707_0707_0707_0707, 8));
+/// assert_eq!(value[2], [0x0707_0707_0707_0707, 0]);
+/// assert_eq!((trace, statuses), ([8, 4104, 8, 4104], [0, 0]));
 /// ```
 #[allow(clippy::too_many_arguments)]
 #[inline]
 pub fn run(
     words: &[u32],
     session: SessionRecord,
+    vectors: &mut [[u64; 2]; 32],
+    vector_taint: &mut [[Taint; 2]; 32],
     origin: u64,
     readonly: u64,
     memory: &mut [u8],
@@ -149,36 +182,70 @@ pub fn run(
     trace: &mut [u64],
     statuses: &mut [u8],
 ) -> RunReply {
-    ffi::run(words, session, origin, readonly, memory, taint, trace, statuses)
+    ffi::run(words, session, vectors, vector_taint, origin, readonly, memory, taint, trace, statuses)
 }
 
-/// Does one word on a session's record, in memory as [`run`] has it. A refused word (answers 1 to 8) changes nothing.
+/// Does one word on a session's record, on vector registers and in memory as [`run`] has them. A refused word (answers 1 to 8)
+/// changes nothing.
 ///
 /// ```
-/// use milestarling::raw::{step, SessionRecord};
+/// use milestarling::raw::{step, SessionRecord, VectorsRecord};
 ///
-/// let (mut session, mut memory, mut taint) = (SessionRecord::default(), [7; 16], [0; 16]);
+/// let (mut session, mut vectors) = (SessionRecord::default(), VectorsRecord::default());
+/// let (mut memory, mut taint) = ([7; 16], [0; 16]);
 /// session.value[1] = 4096;
-/// let reply = step(0xf9400420, &mut session, 4096, 0, &mut memory, &mut taint); // ldr x0, [x1, #8]
+/// let word = 0xf9400420; // ldr x0, [x1, #8]
+/// let reply = step(word, &mut session, &mut vectors.value, &mut vectors.taint, 4096, 0, &mut memory, &mut taint);
 /// assert_eq!((reply.answer, reply.code, reply.address), (0, 8, 4104));
 /// assert_eq!((session.value[0], session.pc), (0x0707_0707_0707_0707, 4));
 /// ```
+#[allow(clippy::too_many_arguments)]
 #[inline]
 pub fn step(
     word: u32,
     session: &mut SessionRecord,
+    vectors: &mut [[u64; 2]; 32],
+    vector_taint: &mut [[Taint; 2]; 32],
     origin: u64,
     readonly: u64,
     memory: &mut [u8],
     taint: &mut [u8],
 ) -> StepReply {
-    ffi::step(word, session, origin, readonly, memory, taint)
+    ffi::step(word, session, vectors, vector_taint, origin, readonly, memory, taint)
 }
 
 /// Sets x0 to x30 (0 to 30) or SP (31) of a session's record, with its taint. Any other number changes nothing.
 #[inline]
 pub fn set_register(session: &mut SessionRecord, number: u32, value: u64, taint: Taint) {
     ffi::set_register(session, number, value, taint);
+}
+
+/// One of the vector registers, with its taint as it stands there. Any number above 31 reads 0, not tainted.
+#[inline]
+pub fn vector(number: u32, vectors: &[[u64; 2]; 32], vector_taint: &[[Taint; 2]; 32]) -> VectorReply {
+    ffi::vector(number, vectors, vector_taint)
+}
+
+/// Sets one of the vector registers, its halves with their taints, the low one first. Any number above 31 changes nothing.
+///
+/// ```
+/// use milestarling::{raw, Taint};
+///
+/// let mut vectors = raw::VectorsRecord::default();
+/// raw::set_vector(&mut vectors.value, &mut vectors.taint, 31, [5, 6], [Taint::NONE, Taint::ALL]);
+/// let found = raw::vector(31, &vectors.value, &vectors.taint);
+/// assert_eq!((found.low, found.high, found.taint_low, found.taint_high), (5, 6, Taint::NONE, Taint::ALL));
+/// assert!(raw::vector(32, &vectors.value, &vectors.taint) == raw::VectorReply::default());
+/// ```
+#[inline]
+pub fn set_vector(
+    vectors: &mut [[u64; 2]; 32],
+    vector_taint: &mut [[Taint; 2]; 32],
+    number: u32,
+    halves: [u64; 2],
+    taints: [Taint; 2],
+) {
+    ffi::set_vector(vectors, vector_taint, number, halves, taints);
 }
 
 /// A session's record with its monitor open: address and size 0, and all else as it was.
@@ -260,8 +327,8 @@ pub fn lister_close(lister: Lister, output: &mut [u8]) -> ListerReply {
 
 /// The numbers of an instruction: what the library knows of an allocated word, so that nobody decodes it again.
 ///
-/// A field that the family hasn't got is 0. Registers are 0 to 31, where 31 is SP as the base and the zero register
-/// elsewhere. The header has names for the numbers of families and operations.
+/// A field that the family hasn't got is 0. Registers are 0 to 31, where 31 is SP as the base, V31 as a vector register, and
+/// the zero register elsewhere. The header has names for the numbers of families and operations.
 ///
 /// ```
 /// use milestarling::{Instruction, Numbers};
@@ -275,6 +342,9 @@ pub fn lister_close(lister: Lister, output: &mut [u8]) -> ListerReply {
 /// let next = Numbers { offset: -32, ..numbers }.encode()?;
 /// assert_eq!(next.to_string(), "stp x29, x30, [sp, #-32]!");
 /// assert!(Numbers { bytes: 8, ..numbers }.encode().is_err());
+///
+/// let copy = "ldp q0, q1, [x1]".parse::<Instruction>()?.numbers();
+/// assert_eq!((copy.operation, copy.direction, copy.bytes), (0b1_10_1, Numbers::LOAD, 32));
 /// # Ok(())
 /// # }
 /// ```
@@ -284,12 +354,12 @@ pub struct Numbers {
     /// 1 to 9 in the order of document 01's table: literal, pair, ordered, unscaled, post-index, pre-index, register,
     /// unsigned, and 02's exclusive and acquire/release forms. 0 where there is no instruction.
     pub family: u32,
-    /// Size and opc of the word side by side; of a literal its opc, of a pair opc and L, of the ninth family size,
-    /// bit 23, L and bit 15.
+    /// Size and opc of the word side by side; of a literal its opc, of a pair opc and L; and above them bit 26, which is set
+    /// for vector registers. Of the ninth family size, bit 23, L and bit 15.
     pub operation: u32,
     /// [`Numbers::LOAD`], [`Numbers::STORE`], or 0 for a prefetch.
     pub direction: u32,
-    /// All that the access moves, both registers of a pair together; 0 for a prefetch.
+    /// All that the access moves, both registers of a pair together, up to 32; 0 for a prefetch.
     pub bytes: u32,
     /// Rt, or the hint of a prefetch.
     pub target: u32,

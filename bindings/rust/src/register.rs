@@ -15,9 +15,24 @@ use std::str::FromStr;
 #[derive(Clone, Copy, Debug, PartialEq, Eq, PartialOrd, Ord, Hash)]
 pub struct Register(u8);
 
+/// The name of a vector register, V0 to V31, each of which has sixteen bytes. 31 is one like any other.
+///
+/// It is written and read as texts have the whole register, `q0` to `q31`.
+///
+/// ```
+/// use milestarling::VectorRegister;
+///
+/// assert_eq!(VectorRegister::v(31), Some(VectorRegister::V31));
+/// assert_eq!(VectorRegister::v(32), None);
+/// assert_eq!(VectorRegister::V3.to_string(), "q3");
+/// assert_eq!("q30".parse(), Ok(VectorRegister::V30));
+/// ```
+#[derive(Clone, Copy, Debug, PartialEq, Eq, PartialOrd, Ord, Hash)]
+pub struct VectorRegister(u8);
+
 macro_rules! names {
     ($($name:ident = $number:literal),*) => {
-        $(#[doc = concat!("Register ", stringify!($name), ".")] pub const $name: Register = Register($number);)*
+        $(#[doc = concat!("Register ", stringify!($name), ".")] pub const $name: Self = Self($number);)*
     };
 }
 
@@ -51,6 +66,32 @@ impl Register {
     }
 }
 
+impl VectorRegister {
+    names! {
+        V0 = 0, V1 = 1, V2 = 2, V3 = 3, V4 = 4, V5 = 5, V6 = 6, V7 = 7, V8 = 8, V9 = 9, V10 = 10, V11 = 11,
+        V12 = 12, V13 = 13, V14 = 14, V15 = 15, V16 = 16, V17 = 17, V18 = 18, V19 = 19, V20 = 20, V21 = 21,
+        V22 = 22, V23 = 23, V24 = 24, V25 = 25, V26 = 26, V27 = 27, V28 = 28, V29 = 29, V30 = 30, V31 = 31
+    }
+
+    /// V0 to V31 by number.
+    pub const fn v(number: u8) -> Option<VectorRegister> {
+        if number <= 31 {
+            Some(VectorRegister(number))
+        } else {
+            None
+        }
+    }
+
+    pub(crate) const fn number(self) -> u32 {
+        self.0 as u32
+    }
+
+    /// All vector registers: V0 to V31.
+    pub fn all() -> impl DoubleEndedIterator<Item = VectorRegister> + ExactSizeIterator {
+        (0..32u8).map(VectorRegister)
+    }
+}
+
 /// `x0` to `x30`, or `sp`.
 impl FromStr for Register {
     type Err = UnknownRegister;
@@ -60,13 +101,22 @@ impl FromStr for Register {
     }
 }
 
+/// `q0` to `q31`.
+impl FromStr for VectorRegister {
+    type Err = UnknownRegister;
+
+    fn from_str(name: &str) -> Result<VectorRegister, UnknownRegister> {
+        VectorRegister::all().find(|register| register.to_string() == name).ok_or(UnknownRegister)
+    }
+}
+
 /// A name that is no register's.
 #[derive(Clone, Copy, Debug, PartialEq, Eq)]
 pub struct UnknownRegister;
 
 impl fmt::Display for UnknownRegister {
     fn fmt(&self, f: &mut fmt::Formatter<'_>) -> fmt::Result {
-        f.write_str("a register's name is x0 to x30 or sp")
+        f.write_str("a register's name is x0 to x30 or sp, and a vector register's q0 to q31")
     }
 }
 
@@ -78,5 +128,11 @@ impl fmt::Display for Register {
             31 => f.pad("sp"),
             number => f.pad(&format!("x{number}")),
         }
+    }
+}
+
+impl fmt::Display for VectorRegister {
+    fn fmt(&self, f: &mut fmt::Formatter<'_>) -> fmt::Result {
+        f.pad(&format!("q{}", self.0))
     }
 }

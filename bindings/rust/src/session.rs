@@ -1,8 +1,9 @@
-use crate::raw::{self, SessionRecord};
-use crate::{ffi, Access, Answer, Memory, Refusal, Register, Taint, TaintedBytes};
-use std::{array, fmt};
+use crate::raw::{self, SessionRecord, VectorsRecord};
+use crate::shown::{known_bytes, Shown};
+use crate::{ffi, Access, Answer, Memory, Refusal, Register, Taint, TaintedBytes, Vectors};
+use std::fmt;
 
-/// One session: its registers with their taints, PC, and the monitor of exclusive accesses.
+/// One session: its registers with their taints, its [`Vectors`], PC, and the monitor of exclusive accesses.
 ///
 /// A value goes in and comes out together with its taint, so that neither is dropped or kept by mistake: a host that
 /// computes hands [`set`](Session::set) the taint that came of its operands' ([`Taint`] says how), and one that branches asks
@@ -71,11 +72,11 @@ use std::{array, fmt};
 /// # Ok(())
 /// # }
 /// ```
-// The record that the library takes, so that a step converts nothing.
+// The records that the library takes, so that a step converts nothing.
 #[derive(Clone, Default, PartialEq, Eq)]
-#[repr(transparent)]
 pub struct Session {
     record: SessionRecord,
+    vectors: Vectors,
 }
 
 /// What a load-exclusive has armed: a store-exclusive stores exactly if it has the same address and the same bytes.
@@ -150,8 +151,7 @@ impl Session {
     /// ```
     pub fn known_bytes(&self, register: Register) -> [Option<u8>; 8] {
         let (value, taint) = self.get(register);
-        let bytes = value.to_le_bytes();
-        array::from_fn(|byte| (!taint.contains(byte)).then_some(bytes[byte]))
+        known_bytes(value.to_le_bytes(), |byte| taint.contains(byte))
     }
 
     /// Whether any byte of a register is tainted.
@@ -178,6 +178,25 @@ impl Session {
     /// ```
     pub fn shown(&self, register: Register) -> impl fmt::Display + fmt::Debug {
         Shown { known: self.known(register), bytes: self.known_bytes(register) }
+    }
+
+    /// The vector registers.
+    pub const fn vectors(&self) -> &Vectors {
+        &self.vectors
+    }
+
+    /// The vector registers, to be set by the host.
+    ///
+    /// ```
+    /// use milestarling::{Session, VectorRegister, VectorTaint};
+    ///
+    /// let mut session = Session::new();
+    /// session.vectors_mut().set(VectorRegister::V0, 1 << 127 | 5, VectorTaint::bytes(15..));
+    /// assert_eq!(session.vectors().get(VectorRegister::V0).0, 1 << 127 | 5);
+    /// assert_eq!(session.vectors().known(VectorRegister::V0), None);
+    /// ```
+    pub fn vectors_mut(&mut self) -> &mut Vectors {
+        &mut self.vectors
     }
 
     /// The program counter. A step adds 4 to it where it is done, modulo 2^64, and keeps it where it is refused; a literal's
@@ -258,7 +277,8 @@ impl Session {
     ) -> Result<Step, Refusal> {
         let window = memory.window;
         let TaintedBytes { bytes, taint } = memory.parts_mut();
-        let reply = raw::step(word, &mut self.record, window.origin, window.readonly, bytes, taint);
+        let VectorsRecord { value, taint: value_taint } = self.vectors.as_raw_mut();
+        let reply = raw::step(word, &mut self.record, value, value_taint, window.origin, window.readonly, bytes, taint);
         match Answer::of_reply(reply.answer) {
             Answer::Done => {
                 let access = Access { code: reply.code, address: reply.address };
@@ -307,8 +327,19 @@ impl Session {
     ) -> Result<Run, Refusal> {
         let window = memory.window;
         let TaintedBytes { bytes, taint } = memory.parts_mut();
-        let trace = ffi::rows(trace);
-        let reply = raw::run(words, self.record, window.origin, window.readonly, bytes, taint, trace, statuses);
+        let VectorsRecord { value, taint: value_taint } = self.vectors.as_raw_mut();
+        let reply = raw::run(
+            words,
+            self.record,
+            value,
+            value_taint,
+            window.origin,
+            window.readonly,
+            bytes,
+            taint,
+            ffi::rows(trace),
+            statuses,
+        );
         self.record = reply.session;
         // There are no more steps than words.
         let steps = reply.steps as usize;
@@ -322,48 +353,26 @@ impl Session {
         }
     }
 
-    /// The record, as [`raw::step`] takes it.
-    pub fn as_raw_mut(&mut self) -> &mut SessionRecord {
-        &mut self.record
+    /// The records, as [`raw::step`] takes them.
+    pub fn as_raw_mut(&mut self) -> (&mut SessionRecord, &mut VectorsRecord) {
+        (&mut self.record, self.vectors.as_raw_mut())
     }
 
-    /// The session of a record that a host keeps as [`raw::step`] takes it.
-    pub const fn from_raw(record: SessionRecord) -> Session {
-        Session { record }
-    }
-}
-
-/// What [`Session::shown`] returns: the whole value where it is known, and its bytes.
-struct Shown {
-    known: Option<u64>,
-    bytes: [Option<u8>; 8],
-}
-
-impl fmt::Display for Shown {
-    fn fmt(&self, f: &mut fmt::Formatter<'_>) -> fmt::Result {
-        if let Some(value) = self.known {
-            return write!(f, "{value:#x}");
-        }
-        f.write_str("0x")?;
-        self.bytes.iter().rev().try_for_each(|byte| match byte {
-            Some(byte) => write!(f, "{byte:02x}"),
-            None => f.write_str("**"),
-        })
+    /// The session of records that a host keeps as [`raw::step`] takes them.
+    pub const fn from_raw(record: SessionRecord, vectors: VectorsRecord) -> Session {
+        Session { record, vectors: Vectors::from_raw(vectors) }
     }
 }
 
-impl fmt::Debug for Shown {
-    fn fmt(&self, f: &mut fmt::Formatter<'_>) -> fmt::Result {
-        fmt::Display::fmt(self, f)
-    }
-}
-
-/// A tainted byte is a secret: it isn't shown, so that no log gets it.
+/// A tainted byte is a secret: it isn't shown, so that no log gets it. Of the vector registers those are shown that aren't 0.
 impl fmt::Debug for Session {
     fn fmt(&self, f: &mut fmt::Formatter<'_>) -> fmt::Result {
         let mut map = f.debug_map();
         for register in Register::all() {
             map.entry(&format_args!("{register}"), &self.shown(register));
+        }
+        for register in self.vectors.used() {
+            map.entry(&format_args!("{register}"), &self.vectors.shown(register));
         }
         map.entry(&format_args!("pc"), &format_args!("{:#x}", self.pc()));
         map.entry(&format_args!("monitor"), &self.monitor()).finish()
@@ -372,6 +381,6 @@ impl fmt::Debug for Session {
 
 impl fmt::Debug for SessionRecord {
     fn fmt(&self, f: &mut fmt::Formatter<'_>) -> fmt::Result {
-        Session::from_raw(*self).fmt(f)
+        Session::from_raw(*self, VectorsRecord::default()).fmt(f)
     }
 }

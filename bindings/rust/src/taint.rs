@@ -44,6 +44,9 @@ use std::ops::{BitOr, BitOrAssign, RangeBounds};
 /// - An operand that the word shifts or extends by itself (`and x0, x1, x2, lsr #8`) has the taint of that shift.
 /// - A result of 32 bits has the low four of these, [`word`]: its upper four bytes are cleared.
 /// - Flags are tainted where any byte of the result is, be the result dropped (cmp, tst) or not.
+/// - On vector registers, which have a [`VectorTaint`], the same holds of each element by itself. What only moves bytes (mov, dup,
+///   ins, umov, fmov, ext, zip, rev) moves their taints, what mixes elements (addv, tbl, a round of a cipher or a digest)
+///   taints all sixteen bytes, and the bytes above a shorter result are cleared.
 ///
 /// [`NONE`]: Taint::NONE
 /// [`ALL`]: Taint::ALL
@@ -126,10 +129,101 @@ impl BitOrAssign for Taint {
 /// A digit for each byte, the highest first.
 impl fmt::Debug for Taint {
     fn fmt(&self, f: &mut fmt::Formatter<'_>) -> fmt::Result {
-        f.write_str("Taint(")?;
-        for byte in (0..8).rev() {
-            write!(f, "{}", u8::from(self.contains(byte)))?;
-        }
-        f.write_str(")")
+        write!(f, "Taint({})", digits(8, |byte| self.contains(byte)))
     }
+}
+
+/// Which of a vector register's sixteen bytes are secret, or came of a secret: a [`Taint`] for each of its halves. Byte 0 is the
+/// lowest.
+///
+/// ```
+/// use milestarling::{Taint, VectorTaint};
+///
+/// let taint = VectorTaint::bytes(7..9) | VectorTaint::bytes(15..);
+/// assert_eq!((taint.low(), taint.high()), (Taint::bytes(7..), Taint::bytes(..1) | Taint::bytes(7..)));
+/// assert_eq!(VectorTaint::halves(Taint::NONE, Taint::ALL), VectorTaint::bytes(8..));
+/// assert_eq!(format!("{taint:?}"), "VectorTaint(1000000110000000)");
+/// assert!(taint.contains(8) && !taint.contains(9));
+/// ```
+///
+/// Neither a number nor the taint of a general register is one:
+///
+/// ```compile_fail,E0308
+/// milestarling::Vectors::new().set(milestarling::VectorRegister::V2, 5, 1);
+/// ```
+///
+/// ```compile_fail,E0308
+/// milestarling::Vectors::new().set(milestarling::VectorRegister::V2, 5, milestarling::Taint::ALL);
+/// ```
+#[derive(Clone, Copy, Default, PartialEq, Eq, Hash)]
+pub struct VectorTaint {
+    low: Taint,
+    high: Taint,
+}
+
+impl VectorTaint {
+    /// No byte.
+    pub const NONE: VectorTaint = VectorTaint::halves(Taint::NONE, Taint::NONE);
+    /// Every byte.
+    pub const ALL: VectorTaint = VectorTaint::halves(Taint::ALL, Taint::ALL);
+
+    /// These bytes, of 0 to 15; there are none above.
+    pub fn bytes(range: impl RangeBounds<usize>) -> VectorTaint {
+        let half = |first: usize| {
+            let bytes = (0..8).filter(|byte| range.contains(&(first + byte)));
+            bytes.fold(Taint::NONE, |taint, byte| taint | Taint::bytes(byte..=byte))
+        };
+        VectorTaint::halves(half(0), half(8))
+    }
+
+    /// The low half's bytes, 0 to 7, and the high one's, 8 to 15.
+    pub const fn halves(low: Taint, high: Taint) -> VectorTaint {
+        VectorTaint { low, high }
+    }
+
+    /// Bytes 0 to 7.
+    pub const fn low(self) -> Taint {
+        self.low
+    }
+
+    /// Bytes 8 to 15.
+    pub const fn high(self) -> Taint {
+        self.high
+    }
+
+    /// Whether a byte is tainted; there are none above 15.
+    pub const fn contains(self, byte: usize) -> bool {
+        self.low.contains(byte) || byte >= 8 && self.high.contains(byte - 8)
+    }
+
+    /// Whether no byte is tainted.
+    pub const fn is_none(self) -> bool {
+        self.low.is_none() && self.high.is_none()
+    }
+}
+
+impl BitOr for VectorTaint {
+    type Output = VectorTaint;
+
+    fn bitor(self, other: VectorTaint) -> VectorTaint {
+        VectorTaint::halves(self.low | other.low, self.high | other.high)
+    }
+}
+
+impl BitOrAssign for VectorTaint {
+    fn bitor_assign(&mut self, other: VectorTaint) {
+        *self = *self | other;
+    }
+}
+
+/// A digit for each byte, the highest first.
+impl fmt::Debug for VectorTaint {
+    fn fmt(&self, f: &mut fmt::Formatter<'_>) -> fmt::Result {
+        write!(f, "VectorTaint({})", digits(16, |byte| self.contains(byte)))
+    }
+}
+
+/// 1 for each byte that is tainted and 0 for any other, the highest first.
+fn digits(bytes: usize, tainted: impl Fn(usize) -> bool) -> String {
+    (0..bytes).rev().map(|byte| if tainted(byte) { '1' } else { '0' }).collect()
 }

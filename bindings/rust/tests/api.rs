@@ -2,7 +2,7 @@
 
 use milestarling::{
     listing, step_in, words, Access, Answer, Instruction, Memory, Refusal, Register, Session, Step, Taint,
-    TaintedBytes, Window,
+    TaintedBytes, VectorRegister, VectorTaint, Vectors, Window,
 };
 use std::array::from_fn;
 use std::error::Error;
@@ -19,13 +19,19 @@ fn examples_of_lines() {
         (0x58ff_ffe7, "ldr x7, #-4"),
         (0xf880_0020, "prfum pldl1keep, [x1]"),
         (0x3900_03ff, "strb wzr, [sp]"),
+        (0x3dc0_07e0, "ldr q0, [sp, #16]"),
+        (0x3c62_783f, "ldr b31, [x1, x2, lsl #0]"),
+        (0x3ce2_583f, "ldr q31, [x1, w2, uxtw #4]"),
+        (0x5c00_0021, "ldr d1, #4"),
+        (0xacff_87e0, "ldp q0, q1, [sp], #-16"),
     ];
     for (word, line) in examples {
         assert_eq!(Instruction::new(word).unwrap().to_string(), line);
         assert_eq!(line.parse::<Instruction>().unwrap().word(), word);
         assert_eq!(u32::from(Instruction::try_from(word).unwrap()), word);
     }
-    for word in [0xb8c0_0020, 0x38e0_0862] {
+    // The last is ldr h0, [x1] with opc 11.
+    for word in [0xb8c0_0020, 0x38e0_0862, 0x7dc0_0020] {
         assert_eq!(Instruction::new(word).unwrap_err().answer(), Answer::Undefined);
     }
 }
@@ -237,9 +243,98 @@ fn a_value_goes_with_its_taint() {
     assert_eq!(session.pc(), 0);
     session.set_pc(1 << 63);
     assert_eq!(session.get(Register::SP), (5, Taint::NONE));
-    let record = session.as_raw_mut();
+    let (record, _) = session.as_raw_mut();
     (record.value[3], record.value_taint[3]) = (9, Taint::from_raw(0x80ff_0002_0000_1000));
     assert_eq!(session.get(Register::X3), (9, Taint::bytes(1..2) | Taint::bytes(4..5) | Taint::bytes(6..)));
+}
+
+#[test]
+fn a_vector_goes_with_its_taint() {
+    let value = u128::from_le_bytes(from_fn(|at| 0xf0 + at as u8));
+    let mut vectors = Vectors::new();
+    for register in VectorRegister::all() {
+        let taints = [VectorTaint::ALL, VectorTaint::bytes(15..), VectorTaint::bytes(..1), VectorTaint::bytes(7..9)];
+        for taint in taints.into_iter().chain([VectorTaint::NONE]) {
+            vectors.set(register, value, taint);
+            let known = taint.is_none().then_some(value);
+            assert_eq!(vectors.get(register), (value, taint));
+            assert_eq!((vectors.known(register), vectors.is_tainted(register)), (known, known.is_none()));
+            let bytes = from_fn(|byte| (!taint.contains(byte)).then_some(0xf0 + byte as u8));
+            assert_eq!(vectors.known_bytes(register), bytes);
+        }
+        assert_eq!(register.to_string().parse(), Ok(register));
+        assert!(
+            VectorRegister::all().all(|other| vectors.known(other) == Some(if other <= register { value } else { 0 }))
+        );
+    }
+    for name in ["q32", "Q0", "q01", "v0", "", "q+1", "x0"] {
+        assert!(name.parse::<VectorRegister>().is_err(), "{name}");
+    }
+    let record = vectors.as_raw_mut();
+    (record.value[3], record.taint[3]) = ([9, 8], [Taint::from_raw(0x80ff_0002_0000_1000), Taint::from_raw(2)]);
+    let taint = VectorTaint::halves(Taint::bytes(1..2) | Taint::bytes(4..5) | Taint::bytes(6..), Taint::bytes(..1));
+    assert_eq!(vectors.get(VectorRegister::V3), (8 << 64 | 9, taint));
+    let shown = |taint| {
+        let mut vectors = Vectors::new();
+        vectors.set(VectorRegister::V9, 0x5e_c2e7, taint);
+        format!("{} {vectors:?}", vectors.shown(VectorRegister::V9))
+    };
+    assert_eq!(shown(VectorTaint::NONE), "0x5ec2e7 {q9: 0x5ec2e7}");
+    let secret = "0x****************00000000005e****";
+    assert_eq!(shown(VectorTaint::bytes(..2) | VectorTaint::bytes(8..)), format!("{secret} {{q9: {secret}}}"));
+}
+
+/// A load of each width fills so many bytes of v31 and clears the others, with their taints, and no other register.
+#[test]
+fn a_load_clears_what_it_does_not_fill() {
+    for (scale, letter) in "bhsdq".chars().enumerate() {
+        let mut memory = of_16(Window::at(4096));
+        memory.write(4096, &[1, 2], true).unwrap();
+        memory.write(4097, &[2], false).unwrap();
+        let mut session = Session::new();
+        session.set(Register::X1, 4096, Taint::NONE);
+        for register in VectorRegister::all() {
+            session.vectors_mut().set(register, u128::MAX, VectorTaint::ALL);
+        }
+        let before = session.clone();
+        let load: Instruction = format!("ldr {letter}31, [x1]").parse().unwrap();
+        assert_eq!(session.step(&mut memory, load.word()), done(1 << scale, 4096));
+        let value = (0..1 << scale).rev().fold(0, |value, byte| value << 8 | (byte + 1));
+        assert_eq!(session.vectors().get(VectorRegister::V31), (value, VectorTaint::bytes(..1)));
+        let mut expected = before.clone();
+        expected.set_pc(4);
+        expected.vectors_mut().set(VectorRegister::V31, value, VectorTaint::bytes(..1));
+        assert_eq!(session, expected);
+    }
+}
+
+/// A password is copied by a vector register, and its letters are secrets in the copy.
+#[test]
+fn a_vector_copies_bytes_with_their_taints() {
+    let mut memory = Memory::zeroed(Window::at(0x1000), 64);
+    memory.write(0x1000, b"sesame42-a note.", false).unwrap();
+    memory.write(0x1000, b"sesame42", true).unwrap();
+    let mut session = Session::new();
+    session.set(Register::X0, 0x1000, Taint::NONE);
+    session.set(Register::X1, 0x1020, Taint::NONE);
+    let mut step = |line: &str| {
+        let done = session.step(&mut memory, line.parse::<Instruction>().unwrap().word());
+        (done.map_err(|refusal| refusal.answer()), session.get(Register::X2))
+    };
+    let of = |code, address| done(code, address).map_err(|refusal| refusal.answer());
+    assert_eq!(step("ldp q1, q31, [x0], #0").0, of(32, 0x1000));
+    assert_eq!(step("stur q1, [x1, #-8]").0, of(80, 0x1018));
+    assert_eq!(step("stp q31, q1, [x1]").0, of(96, 0x1020));
+    assert_eq!(step("ldrb w2, [x1, #24]").1, (u64::from(b'-'), Taint::NONE));
+    assert_eq!(step("ldrb w2, [x1, #16]").1, (u64::from(b's'), Taint::bytes(..1)));
+    assert_eq!(step("ldr q0, [x0, x2]").0, Err(Answer::TaintedAddress));
+    assert_eq!(step("ldr q1, [x1], #16").0, of(16, 0x1020));
+    assert_eq!(step("ldr q1, [x1, #32]!").0, Err(Answer::OutOfWindow));
+    assert_eq!(step("ldp q2, q2, [x1]").0, Err(Answer::Unpredictable));
+    assert_eq!(memory.taint()[0x18..0x20], [1; 8]);
+    assert_eq!(memory.bytes()[0x18..0x20], *b"sesame42");
+    assert_eq!(memory.bytes()[0x30..], *b"sesame42-a note.");
+    assert_eq!(memory.taint()[0x28..0x40], [0, 0, 0, 0, 0, 0, 0, 0, 1, 1, 1, 1, 1, 1, 1, 1, 0, 0, 0, 0, 0, 0, 0, 0]);
 }
 
 /// One tainted byte of a doubleword, spilled and reloaded: the others can be indices, and that one can't.

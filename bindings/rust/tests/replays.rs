@@ -6,12 +6,12 @@
 mod reference;
 mod support;
 
-use milestarling::raw::{self, SessionRecord};
+use milestarling::raw::{self, SessionRecord, VectorsRecord};
 use milestarling::Taint;
 use reference::running::{self, State, Window};
 use reference::NO_ROOM;
 use std::fmt::{Display, Write};
-use support::{state_with, stored};
+use support::{state_of, stored};
 
 /// Numbers before the registers of a case.
 const HEADER: usize = 10;
@@ -20,8 +20,7 @@ const HEADER: usize = 10;
 struct Case {
     words: Vec<u32>,
     session: SessionRecord,
-    vectors: [[u64; 2]; 32],
-    vector_taint: [[u64; 2]; 32],
+    vectors: VectorsRecord,
     window: Window,
     memory: Vec<u8>,
     taint: Vec<u8>,
@@ -60,13 +59,13 @@ impl<'a> Input<'a> {
             monitor_address: header[8],
             monitor_size: header[9],
         };
-        let (vectors, vector_taint) = (self.halves()?, self.halves()?);
+        let (value, taint_halves) = (self.halves()?, self.halves()?);
+        let vectors = VectorsRecord { value, taint: taint_halves.map(|halves| halves.map(Taint::from_raw)) };
         let words = self.bytes(4 * words)?.chunks_exact(4);
         Some(Case {
-            vectors,
-            vector_taint,
             words: words.map(|word| u32::from_le_bytes(word.try_into().unwrap())).collect(),
             session,
+            vectors,
             window: Window { origin: header[5], readonly: header[6] },
             memory: self.bytes(memory)?.to_vec(),
             taint: self.bytes(taint)?.to_vec(),
@@ -106,15 +105,12 @@ impl Case {
         text
     }
 
-    /// The reference's state of this record and of the vector registers.
-    fn left(&self, session: &SessionRecord) -> State {
-        state_with(session, &self.vectors, &self.vector_taint)
-    }
-
     fn by_run(mut self, number: usize) -> String {
         let reply = raw::run(
             &self.words,
             self.session,
+            &mut self.vectors.value,
+            &mut self.vectors.taint,
             self.window.origin,
             self.window.readonly,
             &mut self.memory,
@@ -123,7 +119,7 @@ impl Case {
             &mut self.statuses,
         );
         let said = [reply.steps, reply.answer, reply.code, reply.address];
-        self.lines(number, &self.left(&reply.session), said)
+        self.lines(number, &state_of(&reply.session, &self.vectors), said)
     }
 
     /// By a step in place where it is a case of one word, and the trace and the statuses are the test's to write.
@@ -133,18 +129,20 @@ impl Case {
             return self.by_run(number);
         }
         let Window { origin, readonly } = self.window;
-        let reply = raw::step(word, &mut self.session, origin, readonly, &mut self.memory, &mut self.taint);
+        let VectorsRecord { value, taint } = &mut self.vectors;
+        let reply =
+            raw::step(word, &mut self.session, value, taint, origin, readonly, &mut self.memory, &mut self.taint);
         assert_ne!(reply.answer, NO_ROOM.into());
         if reply.answer == 0 {
             self.trace[..2].copy_from_slice(&[reply.code, reply.address]);
             self.statuses[0] = reply.status as u8;
         }
         let said = [(reply.answer == 0).into(), reply.answer, reply.code, reply.address];
-        self.lines(number, &self.left(&self.session), said)
+        self.lines(number, &state_of(&self.session, &self.vectors), said)
     }
 
     fn by_reference(mut self, number: usize) -> String {
-        let mut state = self.left(&self.session);
+        let mut state = state_of(&self.session, &self.vectors);
         let outcome = running::run(
             &self.words,
             &mut state,

@@ -3,12 +3,15 @@
 mod reference;
 mod support;
 
-use milestarling::raw::{self, RunReply, SessionRecord};
+use milestarling::raw::{self, RunReply, SessionRecord, VectorsRecord};
 use milestarling::Taint;
 use reference::decoding::{decode, Family, Instruction, Operation};
 use reference::running::{self, Outcome, Window};
 use reference::*;
-use support::{about_power, about_powers, any_word, distinct, kept_or_set, some_bytes, state_of, word_of_line, Random};
+use support::{
+    about_power, about_powers, any_word, distinct, joined, kept_or_set, some_bytes, some_vectors, state_of,
+    word_of_line, Random,
+};
 
 /// What lies before and behind a buffer that was lent, and in a trace that wasn't written.
 const GUARD: usize = 24;
@@ -18,6 +21,7 @@ const GUARD: usize = 24;
 struct Case {
     words: Vec<u32>,
     session: SessionRecord,
+    vectors: VectorsRecord,
     window: Window,
     /// With guards about the part that is lent, as taint, trace and statuses have.
     memory: Vec<u8>,
@@ -45,7 +49,7 @@ impl Case {
     fn compare_statuses(&self) -> (Outcome, Vec<u8>) {
         let (ours, reply) = self.by_library();
         let mut theirs = self.clone();
-        let mut state = state_of(&self.session);
+        let mut state = state_of(&self.session, &self.vectors);
         let outcome = running::run(
             &theirs.words,
             &mut state,
@@ -58,9 +62,10 @@ impl Case {
         let said = (reply.steps, reply.answer, reply.code, reply.address);
         let expected = (outcome.steps, outcome.answer as u64, outcome.code, outcome.address);
         assert_eq!(said, expected, "{}", self.show());
-        assert_eq!(state_of(&reply.session), state, "session, {}", self.show());
-        assert!(kept_or_set(&self.session, &reply.session), "taints of registers, {}", self.show());
-        assert!(outcome.steps > 0 || reply.session == self.session, "a session without a step, {}", self.show());
+        let (before, after) = ((&self.session, &self.vectors), (&reply.session, &ours.vectors));
+        assert_eq!(state_of(after.0, after.1), state, "session, {}", self.show());
+        assert!(kept_or_set(before, after), "taints of registers, {}", self.show());
+        assert!(outcome.steps > 0 || before == after, "a session without a step, {}", self.show());
         assert!(ours.memory == theirs.memory, "memory, {}", self.show());
         assert!(ours.taint == theirs.taint, "taint, {}", self.show());
         assert!(ours.trace == theirs.trace, "trace, {}", self.show());
@@ -75,6 +80,8 @@ impl Case {
         let reply = raw::run(
             &left.words,
             left.session,
+            &mut left.vectors.value,
+            &mut left.vectors.taint,
             left.window.origin,
             left.window.readonly,
             inner(&mut left.memory),
@@ -92,6 +99,10 @@ impl Case {
         for (value, taint) in case.session.value.iter_mut().zip(&self.session.value_taint) {
             *value = u64::from_le_bytes(blended(value.to_le_bytes(), marks_of(taint), byte));
         }
+        let halves = case.vectors.value.iter_mut().flatten().zip(self.vectors.taint.iter().flatten());
+        for (value, taint) in halves {
+            *value = u64::from_le_bytes(blended(value.to_le_bytes(), marks_of(taint), byte));
+        }
         for (place, &taint) in inner(&mut case.memory).iter_mut().zip(inner(&mut case.taint).iter()) {
             *place = if taint != 0 { byte } else { *place };
         }
@@ -100,10 +111,11 @@ impl Case {
 
     fn show(&self) -> String {
         format!(
-            "words {:08x?}, {:x?}, taints {:x?}, {:x?}, {} bytes, {} taint bytes, trace of {}, {} statuses",
+            "words {:08x?}, {:x?}, taints {:x?} {:x?}, {:x?}, {} bytes, {} taint bytes, trace of {}, {} statuses",
             &self.words[..self.words.len().min(40)],
-            state_of(&self.session),
+            state_of(&self.session, &self.vectors),
             self.session.value_taint.map(Taint::to_raw),
+            self.vectors.taint.map(|halves| halves.map(Taint::to_raw)),
             self.window,
             self.len(),
             self.taint.len() - 2 * GUARD,
@@ -217,6 +229,7 @@ fn blank(random: &mut Random, len: usize, words: usize) -> Case {
     let mut case = Case {
         words: Vec::with_capacity(words),
         session: SessionRecord::default(),
+        vectors: VectorsRecord::default(),
         window,
         memory,
         taint,
@@ -232,6 +245,7 @@ fn blank(random: &mut Random, len: usize, words: usize) -> Case {
             *taint = some_bytes(random);
         }
     }
+    case.vectors = some_vectors(random, rarity);
     let pc = match random.below(4) {
         0 => number(random),
         1 => (4 * random.below(4) as u64).wrapping_neg(),
@@ -339,9 +353,11 @@ fn single_steps() {
     for answer in (DONE..=READ_ONLY).chain([NO_ROOM]) {
         assert!(counts[answer as usize] > 1000, "answer {answer} came up too seldom: {counts:?}");
     }
-    for code in [0, 1, 2, 4, 8, 16, 32, 65, 66, 68, 72, 80, 96] {
+    for code in [0, 1, 2, 4, 8, 16, 65, 66, 68, 72, 80] {
         assert!(codes[code] > 1000, "code {code} came up too seldom: {codes:?}");
     }
+    // Those of a pair of q, which is one of many pairs.
+    assert!(codes[32] > 300 && codes[96] > 300, "a code came up too seldom: {codes:?}");
 }
 
 /// Short lists of any words: most runs end in a refusal after some steps.
@@ -492,11 +508,16 @@ fn locks() {
     }
 }
 
-/// One word of each operation and width that moves x2, and x3 where it is a pair, with x1 as base and offset 0: ordered
-/// ones, pairs, singles.
+/// Bits 31, 30, 26, 23 and 22 of all words.
+fn tops() -> impl Iterator<Item = u32> {
+    (0..32u32).map(|top| top >> 3 << 30 | (top >> 2 & 1) << 26 | (top & 3) << 22)
+}
+
+/// One word of each operation and width that moves x2 or v2, and x3 or v3 where it is a pair, with x1 as base and offset 0:
+/// ordered ones, pairs, singles.
 fn plain_words() -> Vec<u32> {
-    (0..4u32)
-        .flat_map(|size| (0..4u32).map(move |opc| size << 30 | opc << 22 | 1 << 5 | 2))
+    tops()
+        .map(|top| top | 1 << 5 | 2)
         .flat_map(|top| [top | 0x1900_0000, top | 0x3900_0000, top | 0x2900_0000 | 3 << 10])
         .filter(|&word| decode(word).is_ok_and(|it| it.operation != Operation::Prefetch))
         .collect()
@@ -562,9 +583,10 @@ fn values_about_powers() {
             let mut case = plain_case(&mut random, word);
             let second = values[(at + 1) % values.len()];
             (case.session.value[2], case.session.value[3]) = (value, second);
+            (case.vectors.value[2], case.vectors.value[3]) = ([value, second], [second, value]);
             let memory = &mut inner(&mut case.memory)[16..];
-            memory[..width].copy_from_slice(&value.to_le_bytes()[..width]);
-            memory[width..2 * width].copy_from_slice(&second.to_le_bytes()[..width]);
+            memory[..width].copy_from_slice(&joined([value, second]).to_le_bytes()[..width]);
+            memory[width..2 * width].copy_from_slice(&joined([second, value]).to_le_bytes()[..width]);
             assert_eq!(case.compare().answer, DONE);
         }
     }
@@ -575,8 +597,7 @@ fn values_about_powers() {
 #[test]
 fn indexes_about_powers() {
     let mut random = Random::new(16);
-    let tops = (0..4u32).flat_map(|size| (0..4u32).map(move |opc| size << 30 | opc << 22));
-    let words = tops.flat_map(|top| (0..16u32).map(move |index| top | 0x3824_0822 | index << 12));
+    let words = tops().flat_map(|top| (0..16u32).map(move |index| top | 0x3824_0822 | index << 12));
     for word in words {
         let Ok(instruction) = decode(word) else { continue };
         if instruction.operation == Operation::Prefetch {
@@ -610,6 +631,12 @@ fn each_byte_marked_alone() {
                     case.session.value_taint[2 + place / 8] = taint;
                     assert_eq!(case.compare().answer, DONE);
                 }
+                if place < 32 {
+                    case.vectors.taint[2..4].fill([Taint::NONE; 2]);
+                    case.vectors.taint[2 + place / 16][place / 8 % 2] =
+                        Taint::from_raw((mark as u64) << (8 * (place % 8)));
+                    assert_eq!(case.compare().answer, DONE);
+                }
             }
         }
     }
@@ -620,8 +647,7 @@ fn each_byte_marked_alone() {
 #[test]
 fn each_marked_part_of_an_index() {
     let mut random = Random::new(19);
-    let tops = (0..4u32).flat_map(|size| (0..4u32).map(move |opc| size << 30 | opc << 22));
-    let words = tops.flat_map(|top| (0..16u32).map(move |index| top | 0x3824_0822 | index << 12));
+    let words = tops().flat_map(|top| (0..16u32).map(move |index| top | 0x3824_0822 | index << 12));
     for word in words {
         let Ok(instruction) = decode(word) else { continue };
         if instruction.operation == Operation::Prefetch {
@@ -667,6 +693,7 @@ fn is_seen_alike(ours: (&Case, &RunReply), theirs: (&Case, &RunReply)) -> bool {
     let rest = |session: SessionRecord| SessionRecord { value: [0; 32], ..session };
     said(ours.1) == said(theirs.1)
         && rest(ours.0.session) == rest(theirs.0.session)
+        && ours.0.vectors.taint == theirs.0.vectors.taint
         && ours.0.taint == theirs.0.taint
         && ours.0.trace == theirs.0.trace
         && ours.0.statuses == theirs.0.statuses
@@ -677,7 +704,7 @@ fn is_seen_alike(ours: (&Case, &RunReply), theirs: (&Case, &RunReply)) -> bool {
 #[test]
 fn runs_from_0_and_from_255() {
     let mut random = Random::new(20);
-    let (mut steps, mut refused, mut marked) = (0, 0, 0);
+    let (mut steps, mut refused, mut marked, mut vectors_marked) = (0, 0, 0, 0);
     for _ in 0..40_000 {
         let case = secret_case(&mut random);
         let [(mut low, said), (mut high, other)] = [0, 255].map(|byte| case.filled(byte).by_library());
@@ -687,11 +714,16 @@ fn runs_from_0_and_from_255() {
             assert!(differ_by_marks(&ours, &theirs, &marks_of(taint)), "x{number}, {}", case.show());
             marked += usize::from(*taint != Taint::NONE);
         }
+        for (half, taint) in low.vectors.taint.iter().flatten().enumerate() {
+            let [ours, theirs] = [&low, &high].map(|case| case.vectors.value[half / 2][half % 2].to_le_bytes());
+            assert!(differ_by_marks(&ours, &theirs, &marks_of(taint)), "v{}, {}", half / 2, case.show());
+            vectors_marked += usize::from(*taint != Taint::NONE);
+        }
         let marks = inner(&mut low.taint).to_vec();
         assert!(differ_by_marks(inner(&mut low.memory), inner(&mut high.memory), &marks), "{}", case.show());
         steps += said.steps;
         refused += usize::from(said.answer != DONE.into());
     }
-    println!("{steps} steps, {refused} runs refused, {marked} registers marked at the end");
-    assert!(steps > 100_000 && refused > 1000 && marked > 20_000);
+    println!("{steps} steps, {refused} runs refused, {marked} registers and {vectors_marked} halves marked at the end");
+    assert!(steps > 100_000 && refused > 1000 && marked > 20_000 && vectors_marked > 20_000);
 }

@@ -4,13 +4,15 @@
 mod reference;
 mod support;
 
-use milestarling::raw::{self, SessionRecord, StepReply};
-use milestarling::{Access, Memory, Monitor, Register, Session, Step, Taint, TaintedBytes, Window as Place};
+use milestarling::raw::{self, SessionRecord, StepReply, VectorReply, VectorsRecord};
+use milestarling::{
+    Access, Memory, Monitor, Register, Session, Step, Taint, TaintedBytes, VectorRegister, VectorTaint, Window as Place,
+};
 use reference::running::{self, Window};
 use reference::DONE;
 use std::mem::{align_of, size_of};
 use std::ptr::addr_of;
-use support::{about_power, any_word, kept_or_set, state_of, Random};
+use support::{about_power, any_word, kept_or_set, some_vectors, state_of, Random};
 
 const CASES: usize = 400_000;
 const ORIGIN: u64 = 0x1000;
@@ -18,8 +20,10 @@ const MEMORY: usize = 96;
 
 // As the header has it.
 const _: () = assert!(size_of::<SessionRecord>() == 536 && align_of::<SessionRecord>() == 8);
-const _: () = assert!(size_of::<Session>() == size_of::<SessionRecord>());
+const _: () = assert!(size_of::<VectorsRecord>() == 1024 && align_of::<VectorsRecord>() == 8);
+const _: () = assert!(size_of::<Session>() == size_of::<SessionRecord>() + size_of::<VectorsRecord>());
 const _: () = assert!(size_of::<StepReply>() == 32 && align_of::<StepReply>() == 8);
+const _: () = assert!(size_of::<VectorReply>() == 32 && align_of::<VectorReply>() == 8);
 
 #[test]
 fn the_record_is_that_of_the_header() {
@@ -73,25 +77,36 @@ fn a_step_in_place_is_the_reference() {
     let mut done = 0;
     for _ in 0..CASES {
         let (word, before) = (any_word(&mut random), any_record(&mut random));
+        let rarity = 1 + random.below(8);
+        let vectors_before = some_vectors(&mut random, rarity);
         let window = Window { origin: ORIGIN, readonly: random.below(MEMORY + 9) as u64 / 4 };
         let (mut memory, mut taint) = (vec![0; MEMORY], vec![0; MEMORY - random.once_in(99) as usize]);
         random.fill(&mut memory);
         taint.iter_mut().for_each(|byte| *byte = if random.once_in(4) { random.word() as u8 } else { 0 });
 
-        let (mut record, mut ours, mut marks) = (before, memory.clone(), taint.clone());
-        let reply = raw::step(word, &mut record, window.origin, window.readonly, &mut ours, &mut marks);
-        let (mut state, mut status) = (state_of(&before), [0]);
+        let (mut record, mut vectors, mut ours, mut marks) = (before, vectors_before, memory.clone(), taint.clone());
+        let reply = raw::step(
+            word,
+            &mut record,
+            &mut vectors.value,
+            &mut vectors.taint,
+            window.origin,
+            window.readonly,
+            &mut ours,
+            &mut marks,
+        );
+        let (mut state, mut status) = (state_of(&before, &vectors_before), [0]);
         let said = running::run(&[word], &mut state, window, &mut memory, &mut taint, &mut [0; 2], &mut status);
 
         let ours_said = (reply.answer, reply.code, reply.address, reply.status);
         assert_eq!(ours_said, (said.answer.into(), said.code, said.address, status[0].into()), "{word:08x}");
         assert!(ours == memory && marks == taint, "{word:08x}");
-        assert_eq!(state_of(&record), state, "{word:08x}");
-        assert!(kept_or_set(&before, &record), "{word:08x}");
+        assert_eq!(state_of(&record, &vectors), state, "{word:08x}");
+        assert!(kept_or_set((&before, &vectors_before), (&record, &vectors)), "{word:08x}");
         if said.answer == DONE {
             done += 1;
         } else {
-            assert_eq!(record, before, "{word:08x}: a refusal");
+            assert_eq!((record, vectors), (before, vectors_before), "{word:08x}: a refusal");
         }
     }
     assert!(done > CASES / 20, "only {done} were done");
@@ -112,6 +127,29 @@ fn setting_a_register_changes_that_one() {
             expected.value_taint[number as usize] = taint;
         }
         assert_eq!(record, expected, "register {number}");
+    }
+}
+
+#[test]
+fn setting_a_vector_register_changes_that_one() {
+    let mut random = Random::new(15);
+    for _ in 0..20_000 {
+        let mut before = VectorsRecord::default();
+        before.value.iter_mut().flatten().for_each(|half| *half = random.next());
+        before.taint.iter_mut().flatten().for_each(|half| *half = any_taint(&mut random, 4));
+        let number = if random.once_in(4) { about_power(&mut random) as u32 } else { random.below(34) as u32 };
+        let halves = [random.next(), random.next()];
+        let taints = [any_taint(&mut random, 4), any_taint(&mut random, 4)];
+        let (mut vectors, mut expected) = (before, before);
+        raw::set_vector(&mut vectors.value, &mut vectors.taint, number, halves, taints);
+        let mut found = VectorReply::default();
+        if let Some(value) = expected.value.get_mut(number as usize) {
+            *value = halves;
+            expected.taint[number as usize] = taints;
+            found = VectorReply { low: halves[0], high: halves[1], taint_low: taints[0], taint_high: taints[1] };
+        }
+        assert_eq!(vectors, expected, "vector register {number}");
+        assert_eq!(raw::vector(number, &vectors.value, &vectors.taint), found, "vector register {number}");
     }
 }
 
@@ -146,9 +184,9 @@ fn a_monitor_opens_by_what_another_stores() {
         let expected = observed(&before, code, address, status);
         assert_eq!(raw::observed(before, code, address, status), expected, "{code} {address:x} {status}");
         opened += usize::from(expected != before);
-        let mut session = Session::from_raw(before);
+        let mut session = Session::from_raw(before, VectorsRecord::default());
         session.observe(Step::new(Access { code, address }, status.min(1) as u8));
-        assert_eq!(*session.as_raw_mut(), expected);
+        assert_eq!(session.as_raw_mut(), (&mut { expected }, &mut VectorsRecord::default()));
         let open = SessionRecord { monitor_address: 0, monitor_size: 0, ..before };
         assert_eq!(raw::opened(before), open);
     }
@@ -178,12 +216,15 @@ fn a_session_has_names_and_shows_no_secret() {
     assert_eq!(session.get(Register::X3), (0x5ec2e7, Taint::bytes(..7)));
     assert_eq!((session.known(Register::X3), session.known(Register::SP)), (None, Some(0x2000)));
     assert_eq!((session.pc(), session.monitor()), (64, None));
-    let record = *session.as_raw_mut();
-    let shown = format!("{session:?} {record:?}");
+    session.vectors_mut().set(VectorRegister::V7, 0x5ec2e7 << 64 | 5, VectorTaint::bytes(8..11));
+    let (&mut record, &mut vectors) = session.as_raw_mut();
+    let reply = raw::vector(7, &vectors.value, &vectors.taint);
+    let shown = format!("{session:?} {record:?} {vectors:?} {reply:?}");
     assert!(!shown.contains("5ec2e7") && shown.contains("0x00**************") && shown.contains("0x2000"));
+    assert_eq!(shown.matches("0x0000000000******0000000000000005").count(), 3);
 
-    session.as_raw_mut().monitor_address = 7;
-    session.as_raw_mut().monitor_size = 8;
+    session.as_raw_mut().0.monitor_address = 7;
+    session.as_raw_mut().0.monitor_size = 8;
     assert_eq!(session.monitor().map(|monitor| (monitor.address, monitor.bytes)), Some((7, 8)));
     session.open();
     assert_eq!(session.monitor(), None);
@@ -194,5 +235,5 @@ fn a_session_has_names_and_shows_no_secret() {
     let done = session.step(&mut memory, 0xf90003e3).unwrap(); // str x3, [sp]
     assert_eq!((done.access.code, done.access.address, done.failed), (72, 0x2000, false));
     assert_eq!(memory.taint()[..9], [1, 1, 1, 1, 1, 1, 1, 0, 0]);
-    assert!(Session::from_raw(*session.as_raw_mut()) == session);
+    assert!(Session::from_raw(*session.as_raw_mut().0, vectors) == session);
 }

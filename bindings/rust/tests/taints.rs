@@ -4,7 +4,7 @@
 mod reference;
 mod support;
 
-use milestarling::Taint;
+use milestarling::{Taint, VectorTaint};
 use support::Random;
 
 const CASES: usize = 20_000;
@@ -36,6 +36,29 @@ fn taints_are_sets_of_bytes() {
             assert_eq!((both, taint | of_bits(other)), (of_bits(bits | other), of_bits(bits | other)));
         }
     }
+}
+
+/// Each pair of a few halves, by its bits: a vector register's bytes are those of its halves.
+#[test]
+fn vector_taints_are_sets_of_bytes() {
+    let of_wide_bits = |bits: usize| {
+        let bytes = (0..16).filter(|byte| bits >> byte & 1 == 1);
+        bytes.fold(VectorTaint::NONE, |taint, byte| taint | VectorTaint::bytes(byte..=byte))
+    };
+    assert_eq!((VectorTaint::bytes(..), VectorTaint::bytes(3..99)), (VectorTaint::ALL, of_wide_bits(0xfff8)));
+    assert_eq!((VectorTaint::bytes(16..), VectorTaint::bytes(9..9)), (VectorTaint::NONE, VectorTaint::NONE));
+    assert!(!VectorTaint::ALL.contains(16) && !VectorTaint::ALL.contains(usize::MAX));
+    for bits in 0..1 << 16 {
+        let (low, high) = (of_bits(bits & 255), of_bits(bits >> 8));
+        let taint = VectorTaint::halves(low, high);
+        assert_eq!((taint, taint.low(), taint.high()), (of_wide_bits(bits), low, high));
+        assert!((0..16).all(|byte| taint.contains(byte) == (bits >> byte & 1 == 1)));
+        assert_eq!(taint.is_none(), bits == 0);
+        let mut both = taint;
+        both |= VectorTaint::bytes(5..11);
+        assert_eq!(both, of_wide_bits(bits | 0x07e0));
+    }
+    assert_eq!(format!("{:?}", of_wide_bits(0x8003)), "VectorTaint(1000000000000011)");
 }
 
 /// The bytes in which two values differ.

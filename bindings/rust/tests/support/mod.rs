@@ -4,8 +4,9 @@
 #![allow(dead_code)]
 
 use crate::reference::running::{Monitor, State};
-use milestarling::raw::SessionRecord;
+use milestarling::raw::{SessionRecord, VectorsRecord};
 use milestarling::Taint;
+use std::array::from_fn;
 use std::fs;
 use std::path::Path;
 
@@ -15,33 +16,32 @@ pub fn stored(program: &str, name: &str) -> Vec<u8> {
     fs::read(&path).unwrap_or_else(|error| panic!("{}: {error}", path.display()))
 }
 
-/// The reference's state of a session's record, in which any byte of a taint but 0 is a mark, with vectors of zeros.
-pub fn state_of(record: &SessionRecord) -> State {
+/// The reference's state of a session's records, in which any byte of a taint but 0 is a mark.
+pub fn state_of(record: &SessionRecord, vectors: &VectorsRecord) -> State {
+    let marks = |taint: Taint| taint.to_raw().to_le_bytes().map(|byte| byte != 0);
     State {
         registers: record.value,
-        taints: record.value_taint.map(|taint| taint.to_raw().to_le_bytes().map(|byte| byte != 0)),
+        taints: record.value_taint.map(marks),
         pc: record.pc,
         monitor: Monitor { address: record.monitor_address, size: record.monitor_size },
-        vectors: [0; 32],
-        vector_taints: [[false; 16]; 32],
+        vectors: vectors.value.map(joined),
+        vector_taints: vectors.taint.map(|halves| from_fn(|byte| marks(halves[byte / 8])[byte % 8])),
     }
 }
 
-/// The same with vector registers, and a taint for each byte of theirs, the low half of each first.
-pub fn state_with(record: &SessionRecord, vectors: &[[u64; 2]; 32], taint: &[[u64; 2]; 32]) -> State {
-    let joined = |[low, high]: [u64; 2]| low as u128 | (high as u128) << 64;
-    State {
-        vectors: vectors.map(joined),
-        vector_taints: taint.map(|halves| joined(halves).to_le_bytes().map(|byte| byte != 0)),
-        ..state_of(record)
-    }
+/// The number of two halves, the low one first.
+pub fn joined([low, high]: [u64; 2]) -> u128 {
+    u128::from(high) << 64 | u128::from(low)
 }
 
-/// Whether a call has left a record's taints as it has to: what it doesn't set keeps its bits, and the bytes of what it does
-/// become 0 or 1.
-pub fn kept_or_set(before: &SessionRecord, after: &SessionRecord) -> bool {
-    let pairs = before.value_taint.iter().zip(&after.value_taint);
-    pairs.into_iter().all(|(before, after)| after == before || after.to_raw() & !Taint::ALL.to_raw() == 0)
+/// Whether a call has left the taints of two records as it has to: what it doesn't set keeps its bits, and the bytes of what it
+/// does become 0 or 1.
+pub fn kept_or_set(before: (&SessionRecord, &VectorsRecord), after: (&SessionRecord, &VectorsRecord)) -> bool {
+    let taints = |(record, vectors): (&SessionRecord, &VectorsRecord)| -> Vec<Taint> {
+        record.value_taint.into_iter().chain(vectors.taint.into_iter().flatten()).collect()
+    };
+    let mut pairs = taints(before).into_iter().zip(taints(after));
+    pairs.all(|(before, after)| after == before || after.to_raw() & !Taint::ALL.to_raw() == 0)
 }
 
 /// A register's taint of which some bytes, or only those of one half, are marked, each by any number.
@@ -54,6 +54,18 @@ pub fn some_bytes(random: &mut Random) -> Taint {
         _ => u64::MAX,
     };
     Taint::from_raw(any & part)
+}
+
+/// Vector registers of any numbers, of which once in so many times a half has some bytes marked.
+pub fn some_vectors(random: &mut Random, rarity: usize) -> VectorsRecord {
+    let mut vectors = VectorsRecord::default();
+    vectors.value.iter_mut().flatten().for_each(|half| *half = random.next());
+    for half in vectors.taint.iter_mut().flatten() {
+        if random.once_in(rarity) {
+            *half = some_bytes(random);
+        }
+    }
+    vectors
 }
 
 /// Steele, Lea and Flood's SplitMix64.
