@@ -171,6 +171,8 @@ fn words_and_texts() {
         call(&["word"], b"f9400420 f9400420\n\n91000000"),
         Ended::well(&format!("{line}{line}91000000\t-\t2\tdoesn't touch memory\n"))
     );
+    let vectors = "3dc00420\tldr q0, [x1, #16]\t0\nad400421\tldp q1, q1, [x1]\t4\n7dc00020\t-\t3\n";
+    assert_eq!(call(&["word", "3dc00420", "ad400421", "7dc00020"], b""), Ended::well(vectors));
     // ld1 {v0.16b}, [x0]; dc zva, x5; an undefined and an unpredictable load
     let told = "4c407000\t-\t2\ttouches memory\nd50b7425\t-\t2\ttouches memory\n\
                 b8c00020\t-\t3\nf8408421\tldr x1, [x1], #8\t4\n";
@@ -243,6 +245,52 @@ sp 0x1010
     assert_eq!(call(&["run"], b"prfm pldl1keep, [x1]\n").status, Some(0));
 }
 
+/// Sixteen bytes are copied, with what was tainted of them, and shown where they are.
+#[test]
+fn runs_a_copy_by_a_vector_register() {
+    let case = "\
+origin 0x1000
+bytes 00 01
+tainted letters sesame42
+zeros 6
+zeros 16
+x1 0x1000
+q2 0xffffffffffffffffffffffffffffffff
+tainted q30 340282366920938463463374607431768211455
+tainted q31.0,7-8,15 0x10f0e0d0c0b0a090807060504030201
+ldr q0, [x1]
+str q0, [x1, #16]
+ldr b2, [x1]
+ldr h3, [x1, #2]
+";
+    let expected = "\
+step 1: load of 16 at 0x1000, by 3dc00020, `ldr q0, [x1]`
+step 2: store of 16 at 0x1010, by 3d800420, `str q0, [x1, #16]`
+step 3: load of 1 at 0x1000, by 3d400022, `ldr b2, [x1]`
+step 4: load of 2 at 0x1002, by 7d400423, `ldr h3, [x1, #2]`
+done, after 4 steps
+x1 0x1000
+q0 0x000000000000****************0100
+q3 0x0000000000000000000000000000****
+q30 0x********************************
+q31 0x**0f0e0d0c0b0a****070605040302**
+pc 0x10
+0x1000: 00 01 ** ** ** ** ** ** ** ** 00 00 00 00 00 00
+0x1010: 00 01 ** ** ** ** ** ** ** ** 00 00 00 00 00 00
+";
+    assert_eq!(call(&["run"], case.as_bytes()), Ended::well(expected));
+    let ended = call(&["run", "--secrets"], case.as_bytes());
+    let registers = "\
+x1 0x1000
+tainted q0.2-9 0x3234656d617365730100
+tainted q3.0-1 0x6573
+tainted q30 0xffffffffffffffffffffffffffffffff
+tainted q31.0,7-8,15 0x10f0e0d0c0b0a090807060504030201
+pc 0x10
+";
+    assert!(ended.wrote.contains(registers), "{ended:?}");
+}
+
 /// A spin lock's two halves: taken, and lost with the monitor of another place.
 #[test]
 fn runs_a_lock() {
@@ -302,6 +350,14 @@ fn a_wrong_case_is_named_by_its_line() {
         ("tainted x2.1 ", "is no number"),
         ("tainted x31.1 5", "tainted are"),
         ("x2.1 5", "refused (9)"),
+        ("x0 0x10000000000000000", "is no number of 64 bits"),
+        ("q32 1", "refused (9)"),
+        ("v0 1", "refused (9)"),
+        ("q0 0x100000000000000000000000000000000", "is no number of 128 bits"),
+        ("q0 +1", "is no number of 128 bits"),
+        ("tainted q32 1", "tainted are"),
+        ("tainted q2.16 5", "`16` is neither a byte of a register, 0 to 15"),
+        ("tainted q2.9-8 5", "`9-8` is neither a byte of a register, 0 to 15"),
         ("zeros 1073741825", "more than 1073741824 bytes"),
         ("zeros 18446744073709551615", "more than 1073741824 bytes"),
         ("word 123456789", "one to eight hexadecimal digits"),

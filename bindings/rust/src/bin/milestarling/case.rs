@@ -1,9 +1,13 @@
 //! `milestarling run`: a case in a readable form.
 
 use crate::input::{Failure, Source};
-use crate::{hexadecimal, number};
-use milestarling::{Access, Instruction, Memory, Monitor, Register, Session, Step, Taint, TaintedBytes, Window};
+use crate::{hexadecimal, number, wide_number};
+use milestarling::{
+    Access, Instruction, Memory, Monitor, Register, Session, Step, Taint, TaintedBytes, VectorRegister, VectorTaint,
+    Window,
+};
 use std::io::{self, Write};
+use std::ops::RangeInclusive;
 
 /// The most bytes of memory that a case may have.
 const MEMORY_MAX: usize = 1 << 30;
@@ -40,7 +44,7 @@ impl Case {
             ("tainted", rest) => {
                 let (name, value) = first_word(rest);
                 if !self.put(name, value, true)? {
-                    return Err("tainted are bytes, letters, zeros, x0 to x30 or sp".into());
+                    return Err("tainted are bytes, letters, zeros, x0 to x30, sp or q0 to q31".into());
                 }
             }
             (name, value) if self.put(name, value, false)? => {}
@@ -64,10 +68,27 @@ impl Case {
                 let length = number(value.trim())?;
                 self.add(length, std::iter::repeat(0).take(length as usize), tainted)?;
             }
-            _ => match register(name, tainted)? {
-                Some((register, taint)) => self.session.set(register, number(value.trim())?, taint),
-                None => return Ok(false),
-            },
+            _ => return self.set(name, value.trim(), tainted),
+        }
+        Ok(true)
+    }
+
+    /// Sets a register, and says whether the name is one's. A tainted one may say of which bytes: `x2.0-3,7`.
+    fn set(&mut self, name: &str, value: &str, tainted: bool) -> Result<bool, String> {
+        let (name, bytes) = match name.split_once('.') {
+            Some((name, bytes)) if tainted => (name, Some(bytes)),
+            _ => (name, None),
+        };
+        if let Ok(register) = name.parse::<Register>() {
+            let parts = tainted_bytes(bytes, tainted, 8)?;
+            let taint = parts.into_iter().fold(Taint::NONE, |taint, part| taint | Taint::bytes(part));
+            self.session.set(register, number(value)?, taint);
+        } else if let Ok(register) = name.parse::<VectorRegister>() {
+            let parts = tainted_bytes(bytes, tainted, 16)?;
+            let taint = parts.into_iter().fold(VectorTaint::NONE, |taint, part| taint | VectorTaint::bytes(part));
+            self.session.vectors_mut().set(register, wide_number(value)?, taint);
+        } else {
+            return Ok(false);
         }
         Ok(true)
     }
@@ -86,41 +107,31 @@ fn first_word(line: &str) -> (&str, &str) {
     line.split_once(char::is_whitespace).unwrap_or((line, ""))
 }
 
-/// The register of a name, with its taint; none where it is no register's. A tainted one may say of which bytes: `x2.0-3,7`.
-fn register(name: &str, tainted: bool) -> Result<Option<(Register, Taint)>, String> {
-    let (name, bytes) = match name.split_once('.') {
-        Some((name, bytes)) if tainted => (name, Some(bytes)),
-        _ => (name, None),
+/// The tainted bytes of a register that has so many: those that are named, each from one to another, or all of a tainted one.
+fn tainted_bytes(named: Option<&str>, tainted: bool, size: usize) -> Result<Vec<RangeInclusive<usize>>, String> {
+    let byte = |digits: &str| (0..size).find(|byte| byte.to_string() == digits);
+    let one = |part: &str| {
+        let (first, last) = part.split_once('-').unwrap_or((part, part));
+        let bytes = byte(first).zip(byte(last)).filter(|(first, last)| first <= last);
+        let wrong =
+            || format!("`{part}` is neither a byte of a register, 0 to {}, nor bytes from one to another", size - 1);
+        bytes.map(|(first, last)| first..=last).ok_or_else(wrong)
     };
-    let Ok(register) = name.parse::<Register>() else { return Ok(None) };
-    let taint = match bytes {
-        Some(bytes) => {
-            bytes.split(',').try_fold(Taint::NONE, |taint, part| Ok::<_, String>(taint | tainted_bytes(part)?))?
-        }
-        None if tainted => Taint::ALL,
-        None => Taint::NONE,
-    };
-    Ok(Some((register, taint)))
-}
-
-/// One byte of a register, or those from one to another.
-fn tainted_bytes(part: &str) -> Result<Taint, String> {
-    let byte = |digits: &str| (0..8).find(|byte: &usize| byte.to_string() == digits);
-    let (first, last) = part.split_once('-').unwrap_or((part, part));
-    match (byte(first), byte(last)) {
-        (Some(first), Some(last)) if first <= last => Ok(Taint::bytes(first..=last)),
-        _ => Err(format!("`{part}` is neither a byte of a register, 0 to 7, nor bytes from one to another")),
+    match named {
+        Some(named) => named.split(',').map(one).collect(),
+        None if tainted => Ok(vec![0..=size - 1]),
+        None => Ok(Vec::new()),
     }
 }
 
-/// What stands behind a register's name for its tainted bytes: nothing where it is all of them.
-fn named_bytes(taint: Taint) -> String {
-    if taint == Taint::ALL {
+/// What stands behind the name of a register of so many bytes for those that are tainted: nothing where it is all of them.
+fn named_bytes(size: usize, tainted: impl Fn(usize) -> bool) -> String {
+    if (0..size).all(&tainted) {
         return String::new();
     }
-    let starts = (0..8).filter(|&byte| taint.contains(byte) && (byte == 0 || !taint.contains(byte - 1)));
+    let starts = (0..size).filter(|&byte| tainted(byte) && (byte == 0 || !tainted(byte - 1)));
     let parts: Vec<String> = starts
-        .map(|first| match (first..8).take_while(|&byte| taint.contains(byte)).last() {
+        .map(|first| match (first..size).take_while(|&byte| tainted(byte)).last() {
             Some(last) if last != first => format!("{first}-{last}"),
             _ => first.to_string(),
         })
@@ -167,9 +178,18 @@ fn show_session(session: &Session, secrets: bool, output: &mut impl Write) -> io
     for register in Register::all() {
         let (value, taint) = session.get(register);
         if secrets && !taint.is_none() {
-            writeln!(output, "tainted {register}{} {value:#x}", named_bytes(taint))?;
+            writeln!(output, "tainted {register}{} {value:#x}", named_bytes(8, |byte| taint.contains(byte)))?;
         } else if session.known(register) != Some(0) {
             writeln!(output, "{register} {}", session.shown(register))?;
+        }
+    }
+    let vectors = session.vectors();
+    for register in VectorRegister::all() {
+        let (value, taint) = vectors.get(register);
+        if secrets && !taint.is_none() {
+            writeln!(output, "tainted {register}{} {value:#x}", named_bytes(16, |byte| taint.contains(byte)))?;
+        } else if vectors.known(register) != Some(0) {
+            writeln!(output, "{register} {}", vectors.shown(register))?;
         }
     }
     writeln!(output, "pc {:#x}", session.pc())?;

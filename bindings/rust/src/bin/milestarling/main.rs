@@ -33,7 +33,8 @@ milestarling: the loads and stores of an AArch64 emulator
 
   milestarling run [FILE] [--secrets]
       Runs a case and shows each step, and whether it is a store-exclusive that failed,
-      and then the registers that aren't 0, the monitor where it isn't open, and memory.
+      and then the registers and the vector registers that aren't 0, the monitor where
+      it isn't open, and memory.
       A tainted byte is shown as `**`, and by --secrets as it is: in memory with a star
       behind it, and in a register by a statement that begins with `tainted`. A case has
       one statement a line, with numbers in decimal or after 0x in hexadecimal:
@@ -46,14 +47,16 @@ milestarling: the loads and stores of an AArch64 emulator
         letters LETTERS      more bytes of memory: the rest of the line
         zeros NUMBER         more bytes of memory, so many and all 0
         x0 NUMBER            the value of x0 to x30, sp or pc, at first 0
+        q0 NUMBER            the value of a vector register, q0 to q31, at first 0, with
+                             up to 128 bits
         monitor NUMBER NUMBER
                              the address and the size that a load-exclusive has armed
                              the monitor with, at first open
         tainted STATEMENT    bytes, letters, zeros or a register that are tainted
         tainted x2.0-3 NUMBER
                              a register of which these bytes alone are tainted, 0 to 7
-                             from the lowest on: one, from one to another, or such
-                             parted by commas (x2.0-3,7)
+                             from the lowest on, and of a vector register 0 to 15: one,
+                             from one to another, or such parted by commas (x2.0-3,7)
         word HEX             one more word to run
         ldr x0, [x1, #8]     one more word to run, by its text: any line that begins
                              with none of these names
@@ -188,8 +191,14 @@ fn hexadecimal(word: &str) -> Result<u32, String> {
 
 /// A number of 64 bits, in decimal or after 0x in hexadecimal.
 fn number(word: &str) -> Result<u64, String> {
+    let number = wide_number(word).ok().and_then(|number| u64::try_from(number).ok());
+    number.ok_or_else(|| format!("`{word}` is no number of 64 bits"))
+}
+
+/// A number of 128 bits, likewise.
+fn wide_number(word: &str) -> Result<u128, String> {
     let (digits, radix) = word.strip_prefix("0x").map_or((word, 10), |digits| (digits, 16));
     // A sign is no digit, though Rust takes one.
-    let number = (!digits.starts_with(['+', '-'])).then(|| u64::from_str_radix(digits, radix).ok()).flatten();
-    number.ok_or_else(|| format!("`{word}` is no number of 64 bits"))
+    let number = (!digits.starts_with(['+', '-'])).then(|| u128::from_str_radix(digits, radix).ok()).flatten();
+    number.ok_or_else(|| format!("`{word}` is no number of 128 bits"))
 }
