@@ -307,7 +307,8 @@ struct milestarling_step_reply milestarling_step(
 void milestarling_set_register(
     struct milestarling_session *session, uint32_t number, uint64_t value, struct milestarling_taint taint);
 
-/* One of 32 vector registers with its taint as it stands there. Any number above 31 reads 0, not tainted. */
+/* One of 32 vector registers with its taint as it stands there. Any number above 31 reads 0, not tainted. Before C23 strict C
+   wants a cast for arrays that aren't const; milestarling_vectors_get needs none. */
 MILESTARLING_MUST_USE
 struct milestarling_vector_register milestarling_vector(
     uint32_t number, const uint64_t (*vectors)[2], const struct milestarling_taint (*vector_taint)[2]);

@@ -420,8 +420,8 @@ static void vector_registers_are_read_and_set(void)
 static void a_load_clears_what_it_does_not_fill(void)
 {
     static const uint32_t words[5] = {0x3d40003f, 0x7d40003f, 0xbd40003f, 0xfd40003f, 0x3dc0003f}; /* ldr b, h, s, d, q31, [x1] */
-    static const uint64_t halves[5][2] = {{7, 0}, {0x0707, 0}, {0x07070707, 0}, {0x0707070707070707, 0},
-        {0x0707070707070707, 0x0707070707070707}};
+    static const uint64_t halves[5][2] = {{1, 0}, {0x0201, 0}, {0x04030201, 0}, {UINT64_C(0x0807060504030201), 0},
+        {UINT64_C(0x0807060504030201), UINT64_C(0x100f0e0d0c0b0a09)}};
     static const unsigned bits[5] = {1, 1, 1, 1, 0x8001};
     unsigned i;
     for (i = 0; i < 5; i++) {
@@ -429,8 +429,11 @@ static void a_load_clears_what_it_does_not_fill(void)
         struct milestarling_session session;
         struct milestarling_vectors vectors, before;
         struct milestarling_step_reply reply;
+        size_t place;
         memset(&session, 0, sizeof session);
         milestarling_set_register(&session, 1, 4096, MILESTARLING_TAINT_NONE);
+        for (place = 0; place < sizeof bytes; place++)
+            bytes[place] = (uint8_t)(place + 1);
         fill(&vectors);
         before = vectors;
         taint[0] = 128;
