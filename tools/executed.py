@@ -7,8 +7,9 @@
 
 It fetches Debian's arm64 packages as tools/coverage.py does, and runs password hashes of libcrypt, logins by libpam with
 pam_unix, and OpenSSL, all from Debian's own dynamic linker on. tools/executed/lockstep.c does each load and store by the
-library, computes all else by Unicorn, which also does the loads and stores on a memory of its own, and compares all
-registers and the bytes stored after each. What a program writes, and its exit status, must be those under qemu-aarch64.
+library, and computes all else by Unicorn. Each program is run twice. First Unicorn does the loads and stores too, on a memory
+of its own, and all registers and the bytes stored are compared after each. Then it is handed none that the library takes. What
+a program writes, and its exit status, must be those under qemu-aarch64 both times.
 
 Programs choose their code by what the processor has. Shown are the least, floating point and vectors (`fp`, `asimd`), and
 no `dc zva`, as the README advises a host. More capabilities, and --zva, show what isn't taken then. It exits with 1 where
@@ -173,23 +174,32 @@ class Counted:
         print('| %s |' % ' | '.join(fields), flush=True)
 
 
-def run(program, capabilities, zva):
+def by_library(mode, program, capabilities, zva):
     """What was counted of a program; it has another output where it doesn't write and end as under qemu-aarch64."""
     report = os.path.join(ROOM, 'report')
-    expected = by_qemu(program)
-    done = subprocess.run([LOCKSTEP, report, ROOT, hex(capabilities), 'zva' if zva else 'no-zva', *program.command],
+    done = subprocess.run([LOCKSTEP, mode, report, ROOT, hex(capabilities), 'zva' if zva else 'no-zva', *program.command],
                           input=program.typed, capture_output=True, text=True)
     written, said = [], []
     for line in done.stderr.splitlines(keepends=True):
         (said if line.startswith('lockstep: ') else written).append(line)
     for line in said:
-        print('%s: %s' % (program.name, line), end='')
+        print('%s, %s: %s' % (program.name, mode, line), end='')
     if done.returncode == 125:
         raise SystemExit('%s: it could not be run' % program.name)
     counted = Counted()
     counted.read(report)
+    expected = by_qemu(program)
     counted.numbers['other outputs'] += (done.stdout, ''.join(written), done.returncode) != (
         expected.stdout, expected.stderr, expected.returncode)
+    return counted
+
+
+def run(program, capabilities, zva):
+    """Both runs: the counts of the first, and what differs in either."""
+    counted = by_library('compare', program, capabilities, zva)
+    alone = by_library('alone', program, capabilities, zva)
+    for name in ('differences', 'other outputs'):
+        counted.numbers[name] += alone.numbers[name]
     return counted
 
 

@@ -1,11 +1,14 @@
 // Runs a program for AArch64 Linux with its loads and stores done by Milestarling, and all else by Unicorn.
 //
-//   lockstep REPORT ROOT CAPABILITIES zva|no-zva PROGRAM [ARGUMENT..]
+//   lockstep compare|alone REPORT ROOT CAPABILITIES zva|no-zva PROGRAM [ARGUMENT..]
 //
-// Unicorn does the loads and stores too, on a memory of its own, and after each word all registers, pc and the bytes stored
-// are compared. What the kernel's part (linux.c) hands to the program and takes from it goes by the library's memory, which
-// nothing else stores to but the library; only of a word that the library refuses the bytes that Unicorn stored are copied.
-// At the end both memories are compared as a whole. Nothing is tainted, since Unicorn computes without taints.
+// By `compare` Unicorn does the loads and stores too, on a memory of its own, and after each word all registers, pc and the
+// bytes stored are compared. What the kernel's part (linux.c) hands to the program and takes from it goes by the library's
+// memory, which nothing else stores to but the library; only of a word that the library refuses the bytes that Unicorn stored
+// are copied. At the end both memories are compared as a whole. By `alone` there is the library's memory only, and a word that
+// the library has done never comes to Unicorn, which goes on behind it with the registers that the library left.
+//
+// Nothing is tainted, since Unicorn computes without taints.
 //
 // The report, a file, has a line for each number: `words N`, `kind KIND ANSWER N`, `refused WORD ANSWER N`, `differences N`,
 // `unknown-calls N`. Each difference is said on standard error. The exit status is the program's, or 125.
@@ -21,7 +24,9 @@
 #include <sys/mman.h>
 #include <unicorn/unicorn.h>
 
-enum { GENERAL = MILESTARLING_REGISTERS, VECTORS = 32, ANSWERS = 9, SHOWN = 20, ACCESSES = 128 };
+enum { GENERAL = MILESTARLING_REGISTERS, VECTORS = 32, ANSWERS = 9, SHOWN = 20, ACCESSES = 128, BESIDE = 32 };
+
+static int is_alone;
 
 // The library's memory with its taints, and Unicorn's.
 static uint8_t *ours, *taint, *theirs;
@@ -32,10 +37,12 @@ static struct milestarling_session session;
 static uint64_t vectors[VECTORS][2], vector_taint[VECTORS][2];
 #endif
 
-// Unicorn's registers.
+// Unicorn's registers, and how it names them: general ones and then vectors.
 static struct {
     uint64_t general[GENERAL], vector[VECTORS][2];
 } registers;
+static int names[GENERAL + VECTORS];
+static void *places[GENERAL + VECTORS];
 
 // The word that Unicorn does, whether it touches memory, and what the library made of it then.
 static struct {
@@ -159,19 +166,18 @@ static void differ(const char *what, uint64_t mine, uint64_t other) {
         what, (unsigned long long)mine, (unsigned long long)other);
 }
 
-static void read_registers(void) {
-    static int names[GENERAL + VECTORS];
-    static void *places[GENERAL + VECTORS];
-    if (places[0] == NULL) {
-        for (int i = 0; i < GENERAL; i++) {
-            names[i] = i < 29 ? UC_ARM64_REG_X0 + i : i == 29 ? UC_ARM64_REG_X29 : i == 30 ? UC_ARM64_REG_X30 : UC_ARM64_REG_SP;
-            places[i] = &registers.general[i];
-        }
-        for (int i = 0; i < VECTORS; i++) {
-            names[GENERAL + i] = UC_ARM64_REG_Q0 + i;
-            places[GENERAL + i] = registers.vector[i];
-        }
+static void name_registers(void) {
+    for (int i = 0; i < GENERAL; i++) {
+        names[i] = i < 29 ? UC_ARM64_REG_X0 + i : i == 29 ? UC_ARM64_REG_X29 : i == 30 ? UC_ARM64_REG_X30 : UC_ARM64_REG_SP;
+        places[i] = &registers.general[i];
     }
+    for (int i = 0; i < VECTORS; i++) {
+        names[GENERAL + i] = UC_ARM64_REG_Q0 + i;
+        places[GENERAL + i] = registers.vector[i];
+    }
+}
+
+static void read_registers(void) {
     check(uc_reg_read_batch(unicorn, names, places, GENERAL + VECTORS), "uc_reg_read_batch");
 }
 
@@ -185,6 +191,19 @@ static struct milestarling_step_reply step(uint32_t word, uint64_t pc) {
 #else
     return milestarling_step(word, &session, ORIGIN, 0, ours, MEMORY_LENGTH, taint, MEMORY_LENGTH);
 #endif
+}
+
+// Hands the registers that the step has changed to Unicorn, and has it go on at the next word.
+static void pass_over_word(void) {
+    for (int i = 0; i < GENERAL; i++)
+        if (session.value[i] != registers.general[i])
+            check(uc_reg_write(unicorn, names[i], &session.value[i]), "uc_reg_write");
+#ifdef WITH_VECTORS
+    for (int i = 0; i < VECTORS; i++)
+        if (memcmp(vectors[i], registers.vector[i], sizeof vectors[i]) != 0)
+            check(uc_reg_write(unicorn, names[GENERAL + i], vectors[i]), "uc_reg_write");
+#endif
+    check(uc_reg_write(unicorn, UC_ARM64_REG_PC, &session.pc), "uc_reg_write");
 }
 
 static void compare_registers(uint64_t pc) {
@@ -209,7 +228,9 @@ static void compare_registers(uint64_t pc) {
 static void compare_memory(void) {
     uint64_t address = current.reply.address, length = current.reply.code % MILESTARLING_STORE_CODE;
     int is_store = current.reply.code >= MILESTARLING_STORE_CODE;
-    if (is_store && memcmp(ours + (address - ORIGIN), theirs + (address - ORIGIN), length) != 0)
+    // With some bytes beside them, so that a store of too many is seen at once.
+    uint64_t from = address - ORIGIN < BESIDE ? 0 : address - ORIGIN - BESIDE, to = address - ORIGIN + length + BESIDE;
+    if (is_store && memcmp(ours + from, theirs + from, (to < MEMORY_LENGTH ? to : MEMORY_LENGTH) - from) != 0)
         differ("bytes stored at", address, address);
     // Unicorn reads before it stores exclusively, and shows a load across the border of its pages as two aligned ones too.
     for (size_t i = 0; i < access_count; i++)
@@ -220,6 +241,8 @@ static void compare_memory(void) {
 
 // What Unicorn stored by a word that the library refused.
 static void copy_stored(void) {
+    if (is_alone)
+        return;
     for (size_t i = 0; i < access_count; i++)
         if (accesses[i].is_store)
             memcpy(ours + (accesses[i].address - ORIGIN), theirs + (accesses[i].address - ORIGIN), accesses[i].length);
@@ -232,10 +255,11 @@ static void copy_stored(void) {
 
 // The current word is done, and pc has come to the next.
 static void finish_word(uint64_t pc) {
-    if (!current.touches_memory) {
+    int is_done = current.touches_memory && current.reply.answer == MILESTARLING_DONE;
+    if (!current.touches_memory || (is_done && is_alone)) {
         if (access_count != 0)
             differ("no access", 0, accesses[0].address);
-    } else if (current.reply.answer == MILESTARLING_DONE) {
+    } else if (is_done) {
         compare_registers(pc);
         compare_memory();
     } else {
@@ -254,6 +278,8 @@ static void begin_word(uint64_t pc) {
         counts[kind_of(current.word)][current.reply.answer]++;
         if (current.reply.answer != MILESTARLING_DONE)
             count_refused(current.word, current.reply.answer);
+        else if (is_alone)
+            pass_over_word();
     }
 }
 
@@ -312,7 +338,9 @@ static void hook(int type, void *function, int instruction) {
 }
 
 static void open_machine(int has_zva) {
-    ours = fresh_memory(), taint = fresh_memory(), theirs = fresh_memory();
+    ours = fresh_memory(), taint = fresh_memory();
+    theirs = is_alone ? ours : fresh_memory();
+    name_registers();
     check(uc_open(UC_ARCH_ARM64, UC_MODE_ARM, &unicorn), "uc_open");
     check(uc_ctl_set_cpu_model(unicorn, UC_CPU_ARM64_MAX), "uc_ctl_set_cpu_model");
     check(uc_mem_map_ptr(unicorn, ORIGIN, MEMORY_LENGTH, UC_PROT_ALL, theirs), "uc_mem_map_ptr");
@@ -326,16 +354,17 @@ static void open_machine(int has_zva) {
 }
 
 int main(int count, char **arguments) {
-    if (count < 6)
-        fail("usage: lockstep REPORT ROOT CAPABILITIES zva|no-zva PROGRAM [ARGUMENT..]");
-    open_machine(strcmp(arguments[4], "zva") == 0);
-    struct entry entry = load_program(arguments[2], arguments + 5, strtoull(arguments[3], NULL, 0));
+    if (count < 7)
+        fail("usage: lockstep compare|alone REPORT ROOT CAPABILITIES zva|no-zva PROGRAM [ARGUMENT..]");
+    is_alone = strcmp(arguments[1], "alone") == 0;
+    open_machine(strcmp(arguments[5], "zva") == 0);
+    struct entry entry = load_program(arguments[3], arguments + 6, strtoull(arguments[4], NULL, 0));
     check(uc_reg_write(unicorn, UC_ARM64_REG_SP, &entry.sp), "uc_reg_write");
     check(uc_emu_start(unicorn, entry.pc, 0, 0, 0), "uc_emu_start");
     if (!exited)
         fail("the program ended without a call");
     if (memcmp(ours, theirs, MEMORY_LENGTH) != 0)
         differ("the memories at the end", 0, 0);
-    report(arguments[1]);
+    report(arguments[2]);
     return exit_status;
 }
