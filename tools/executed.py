@@ -5,11 +5,12 @@
     bash tools/library.sh
     python3 tools/executed.py [PROGRAM..] [--capabilities NAMES] [--zva] [--mirror URL] [--suite NAME]
 
-It fetches Debian's arm64 packages as tools/coverage.py does, and runs password hashes of libcrypt, logins by libpam with
-pam_unix, and OpenSSL, all from Debian's own dynamic linker on. tools/executed/lockstep.c does each load and store by the
-library, and computes all else by Unicorn. Each program is run twice. First Unicorn does the loads and stores too, on a memory
-of its own, and all registers and the bytes stored are compared after each. Then it is handed none that the library takes. What
-a program writes, and its exit status, must be those under qemu-aarch64 both times.
+It fetches Debian's arm64 packages as tools/coverage.py does, and runs password hashes of libcrypt, logins by PAM, NSS, SASL
+and OpenSSL, all from Debian's own dynamic linker on. tools/executed/lockstep.c does each load and store by the library, and
+computes all else by Unicorn. Each program is run twice. First Unicorn does the loads and stores too, on a memory of its own,
+and all registers and the bytes stored are compared after each. Then it is handed none that the library takes. What a program
+writes, and its exit status, must be those under qemu-aarch64 both times. As root, or by `unshare -r`, since pam_unix reads the
+shadow file only then.
 
 Programs choose their code by what the processor has. Shown are the least, floating point and vectors (`fp`, `asimd`), and
 no `dc zva`, as the README advises a host. More capabilities, and --zva, show what isn't taken then. It exits with 1 where
@@ -33,7 +34,9 @@ ARCHIVE = os.path.join(TOP, 'target', 'staticlib', 'libmilestarling.a')
 
 TOOLS = ['gcc', 'libunicorn-dev', 'qemu-user', 'binutils-aarch64-linux-gnu', 'dpkg', 'xz-utils']
 PACKAGES = ['libc6', 'libc-bin', 'libcrypt1', 'whois', 'perl-base', 'libpam0g', 'libpam-modules', 'pamtester', 'libaudit1',
-            'libcap-ng0', 'libselinux1', 'libpcre2-8-0', 'libssl3', 'openssl']
+            'libcap-ng0', 'libselinux1', 'libpcre2-8-0', 'libpam-krb5', 'libkrb5-3', 'libk5crypto3', 'libkrb5support0',
+            'libcom-err2', 'libkeyutils1', 'libpam-ldapd', 'libnss-ldapd', 'sasl2-bin', 'libsasl2-2', 'libsasl2-modules',
+            'libsasl2-modules-db', 'libdb5.3', 'libssl3', 'openssl']
 
 # Bits of AT_HWCAP.
 CAPABILITIES = {'fp': 0, 'asimd': 1, 'aes': 3, 'pmull': 4, 'sha1': 5, 'sha2': 6, 'crc32': 7, 'atomics': 8, 'sha3': 17,
@@ -55,8 +58,8 @@ def hashed(method, salt):
     return Program(method, ['/usr/bin/mkpasswd', '-m', method, '-S', salt, 'secret'])
 
 
-def login(user, password):
-    return Program('%s, %s' % (user, password), ['/usr/bin/pamtester', 'login', user, 'authenticate', 'acct_mgmt'],
+def login(user, password, module='pam_unix'):
+    return Program('%s, %s, %s' % (module, user, password), ['/usr/bin/pamtester', module, user, 'authenticate', 'acct_mgmt'],
                    password + '\n')
 
 
@@ -84,9 +87,11 @@ GROUPS = {
     'libcrypt': HASHES + [
         # mkpasswd takes no salt for scrypt.
         Program('scrypt, N = 1024', ['/usr/bin/perl', '-e', 'print crypt("secret", q($7$8U..../....abcdefgh)), "\\n"'])],
-    'PAM with pam_unix': [login('yescrypt', 'secret'), login('sha512crypt', 'secret'), login('sha512crypt', 'mistyped'),
-                          login('nobody', 'secret')],
-    'NSS': [Program('getent', ['/usr/bin/getent', 'passwd', 'yescrypt'])],
+    # Of Kerberos and LDAP there is no server, which the programs find out and say.
+    'PAM': [login('yescrypt', 'secret'), login('sha512crypt', 'secret'), login('sha512crypt', 'mistyped'),
+            login('nobody', 'secret'), login('yescrypt', 'secret', 'pam_krb5'), login('yescrypt', 'secret', 'pam_ldap')],
+    'NSS': [Program(service, ['/usr/bin/getent', '-s', service, 'passwd', 'yescrypt']) for service in ('files', 'ldap')],
+    'SASL': [Program('the list of plugins', ['/usr/sbin/saslpluginviewer'])],
     'OpenSSL': [digest('sha256', '/usr/lib/ssl/openssl.cnf'), digest('sha512', '/usr/lib/ssl/openssl.cnf'),
                 digest('sha256', '/usr/bin/openssl'), digest('sha512', '/usr/bin/openssl'), derived('SHA1'), derived('SHA256'),
                 derived('SHA512'),
@@ -95,12 +100,14 @@ GROUPS = {
 
 
 def need(packages):
-    """Names the Debian packages that lack."""
+    """Says what lacks."""
     asked = subprocess.run(['dpkg-query', '-W', '-f', '${Package} ${db:Status-Status}\n', *packages], capture_output=True,
                            text=True).stdout.splitlines()
     missing = [package for package in packages if package + ' installed' not in asked]
     if missing:
         raise SystemExit('more packages are needed. As root: apt-get install --no-install-recommends ' + ' '.join(missing))
+    if os.geteuid() != 0:
+        raise SystemExit('pam_unix reads no shadow file for this user. As root, or: unshare -r python3 tools/executed.py')
     if not os.path.exists(ARCHIVE):
         raise SystemExit('%s is not there: make it by `bash tools/library.sh`' % ARCHIVE)
 
@@ -135,7 +142,10 @@ def furnish(mirror, suite):
     for name in PACKAGES:
         shutil.copytree(coverage.unpacked(mirror, known[name]), ROOT, symlinks=True, dirs_exist_ok=True)
     put('/etc/nsswitch.conf', ['passwd: files', 'shadow: files', 'group: files'])
-    put('/etc/pam.d/login', ['auth required pam_unix.so', 'account required pam_unix.so'])
+    put('/etc/krb5.conf', ['[libdefaults]', 'default_realm = EXAMPLE.ORG', 'dns_lookup_kdc = false', '[realms]',
+                           'EXAMPLE.ORG = {', 'kdc = 127.0.0.1:1', '}'])
+    for module in ('pam_unix', 'pam_krb5', 'pam_ldap'):
+        put('/etc/pam.d/' + module, ['auth required %s.so' % module, 'account required pam_unix.so'])
     put('/etc/passwd', ['%s:x:%d:%d::/:/bin/sh' % (one.name, 1000 + i, 1000 + i) for i, one in enumerate(HASHES)])
     put('/etc/shadow', ['%s:%s:19000:0:99999:7:::' % (one.name, by_qemu(one).stdout.strip()) for one in HASHES])
     return ['%s %s' % (name, known[name]['Version']) for name in PACKAGES]
@@ -174,8 +184,8 @@ class Counted:
         print('| %s |' % ' | '.join(fields), flush=True)
 
 
-def by_library(mode, program, capabilities, zva):
-    """What was counted of a program; it has another output where it doesn't write and end as under qemu-aarch64."""
+def by_library(mode, program, expected, capabilities, zva):
+    """What was counted of a program; it has another output where it doesn't write and end as expected."""
     report = os.path.join(ROOM, 'report')
     done = subprocess.run([LOCKSTEP, mode, report, ROOT, hex(capabilities), 'zva' if zva else 'no-zva', *program.command],
                           input=program.typed, capture_output=True, text=True)
@@ -188,7 +198,6 @@ def by_library(mode, program, capabilities, zva):
         raise SystemExit('%s: it could not be run' % program.name)
     counted = Counted()
     counted.read(report)
-    expected = by_qemu(program)
     counted.numbers['other outputs'] += (done.stdout, ''.join(written), done.returncode) != (
         expected.stdout, expected.stderr, expected.returncode)
     return counted
@@ -196,8 +205,9 @@ def by_library(mode, program, capabilities, zva):
 
 def run(program, capabilities, zva):
     """Both runs: the counts of the first, and what differs in either."""
-    counted = by_library('compare', program, capabilities, zva)
-    alone = by_library('alone', program, capabilities, zva)
+    expected = by_qemu(program)
+    counted = by_library('compare', program, expected, capabilities, zva)
+    alone = by_library('alone', program, expected, capabilities, zva)
     for name in ('differences', 'other outputs'):
         counted.numbers[name] += alone.numbers[name]
     return counted
