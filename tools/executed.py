@@ -54,7 +54,7 @@ class Program(NamedTuple):
 
 
 def hashed(method, salt):
-    """A hash at mkpasswd's own cost where the salt doesn't begin with another."""
+    """A hash at the cost that mkpasswd takes where none is named, which of yescrypt is j9T."""
     return Program(method, ['/usr/bin/mkpasswd', '-m', method, '-S', salt, 'secret'])
 
 
@@ -81,7 +81,6 @@ HASHES = [
     hashed('sha512crypt', 'abcdefgh'),
     hashed('bcrypt', 'abcdefghijklmnopqrstuu'),
     hashed('yescrypt', 'j9T$abcdefghijklmnop'),
-    hashed('gost-yescrypt', 'j75$abcdefghijklmnop'),
 ]
 GROUPS = {
     'libcrypt': HASHES + [
@@ -115,7 +114,7 @@ def need(packages):
 def build():
     """The program that runs others, over the library as its header declares it: with vector registers or without."""
     with open(os.path.join(TOP, 'include', 'milestarling.h')) as file:
-        switch = ['-DMILESTARLING_VECTORS'] if 'struct milestarling_vectors' in file.read() else []
+        switch = ['-DWITH_VECTORS'] if 'struct milestarling_vectors' in file.read() else []
     sources = [os.path.join(TOP, 'tools', 'executed', name) for name in ('lockstep.c', 'linux.c')]
     subprocess.run(['gcc', '-O2', '-std=gnu11', '-Wall', '-Wextra', *switch, '-I' + os.path.join(TOP, 'include'), '-o', LOCKSTEP,
                     *sources, ARCHIVE, '-lunicorn'], check=True)
@@ -178,7 +177,8 @@ class Counted:
         everything, taken = sum(self.kinds.values()), sum(self.kinds[kind, 0] for kind in KINDS)
         refused = [(kind, sum(count for (one, answer), count in self.kinds.items() if one == kind and answer)) for kind in KINDS]
         fields = [name, *('{:,}'.format(number) for number in (self.numbers['words'], everything)),
-                  '%.2f %%' % (100 * taken / everything), *('{:,}'.format(self.kinds[kind, 0]) for kind in TAKEN),
+                  # Rounded down, so that only all is 100.
+                  '%d.%02d %%' % divmod(10000 * taken // everything, 100), *('{:,}'.format(self.kinds[kind, 0]) for kind in TAKEN),
                   ', '.join('{} {:,}'.format(*entry) for entry in refused if entry[1]) or '-',
                   '{:,}'.format(self.numbers['differences']), 'ANOTHER' if self.numbers['other outputs'] else 'the same']
         print('| %s |' % ' | '.join(fields), flush=True)
@@ -248,7 +248,7 @@ def main():
                 counted = run(program, capabilities, chosen.zva)
                 counted.row('%s: %s' % (group, program.name))
                 of_group.add(counted)
-        if of_group.numbers:
+        if len(programs) > 1 and of_group.numbers:
             of_group.row(group)
         total.add(of_group)
     total.row('All')

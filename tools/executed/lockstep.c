@@ -34,7 +34,8 @@ static uc_engine *unicorn;
 
 static struct milestarling_session session;
 #ifdef WITH_VECTORS
-static uint64_t vectors[VECTORS][2], vector_taint[VECTORS][2];
+static uint64_t vectors[VECTORS][2];
+static struct milestarling_taint vector_taint[VECTORS][2];
 #endif
 
 // Unicorn's registers, and how it names them: general ones and then vectors.
@@ -219,8 +220,8 @@ static void compare_registers(uint64_t pc) {
     for (int i = 0; i < 2 * VECTORS; i++) {
         if (vectors[i / 2][i % 2] != registers.vector[i / 2][i % 2])
             differ("half a vector register", vectors[i / 2][i % 2], registers.vector[i / 2][i % 2]);
-        if (vector_taint[i / 2][i % 2] != 0)
-            differ("a vector register's taint", vector_taint[i / 2][i % 2], 0);
+        if (vector_taint[i / 2][i % 2].bytes != 0)
+            differ("a vector register's taint", vector_taint[i / 2][i % 2].bytes, 0);
     }
 #endif
 }
