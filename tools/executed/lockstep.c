@@ -102,7 +102,7 @@ enum kind { IS_GENERAL, IS_VECTOR, IS_EXCLUSIVE, IS_STRUCTURE, IS_ATOMIC, IS_DC_
 static uint64_t counts[KINDS][ANSWERS];
 
 // By the bits of Arm's table of loads and stores. Acquiring and releasing ones count as exclusive, and compare and swap as
-// atomic. Others are pairs of exclusives, unprivileged and authenticated ones, and tags.
+// atomic. Others are pairs of exclusives, unprivileged and authenticated ones, tags, and copies of memory.
 static enum kind kind_of(uint32_t word) {
     uint32_t family = word >> 27 & 7, upper = word >> 24 & 3, bit21 = word >> 21 & 1, low = word >> 10 & 3;
     int is_vector = word >> 26 & 1;
@@ -112,7 +112,7 @@ static enum kind kind_of(uint32_t word) {
         return IS_STRUCTURE;
     if (family == 1 && upper == 0 && bit21 == 1)
         return word >> 23 & 1 || word >> 31 == 0 ? IS_ATOMIC : IS_OTHER;
-    if ((family == 1 && upper == 0) || (family == 3 && upper == 1 && bit21 == 0))
+    if ((family == 1 && upper == 0) || (family == 3 && upper == 1 && bit21 == 0 && low == 0 && !is_vector))
         return IS_EXCLUSIVE;
     if (family == 7 && upper == 0 && bit21 == 1 && low == 0)
         return IS_ATOMIC;
@@ -274,6 +274,8 @@ static void begin_word(uint64_t pc) {
     memcpy(&current.word, guest_bytes(pc, sizeof current.word), sizeof current.word);
     current.touches_memory = milestarling_touches_memory_inline(current.word);
     words_done++;
+    if ((current.word & 0xfffff0ff) == 0xd503305f) // clrex, which is the host's to do
+        milestarling_open(&session);
     if (current.touches_memory) {
         current.reply = step(current.word, pc);
         counts[kind_of(current.word)][current.reply.answer]++;
