@@ -4,7 +4,7 @@ use mathlib.Core.Path.{_≡_, ap, _∙_}
 use mathlib.Core.List.{List}
 use mathlib.Core.Logic.{inl, inr}
 use Rattle.instruction.specs.Answers.{answerNumber}
-use Rattle.text.specs.Writing.{Outcome}
+use Rattle.printer.specs.Writing.{Outcome}
 use Rattle.reader.specs.declared.Reading.{Reading}
 use Rattle.reader.specs.Reading.{ReadOf}
 use Rattle.stream.specs.declared.Pushed.{Pushed}

@@ -5,7 +5,7 @@ use mathlib.Core.Path.{_≡_}
 use mathlib.Core.List.{List}
 use mathlib.Core.Logic.{_⊎_}
 use Rattle.instruction.specs.Answers.{answerNumber}
-use Rattle.text.specs.Writing.{Outcome}
+use Rattle.printer.specs.Writing.{Outcome}
 use Rattle.reader.specs.Reading.{LineOf}
 use Rattle.host.specs.declared.TextReply.{TextReply}
 use Rattle.stream.specs.declared.Lister.{Lister}

@@ -9,7 +9,7 @@ ghost use mathlib.Core.Path.{_≡_};
 ghost use Rattle.instruction.specs.Answers.{answerNumber};
 ghost use Rattle.machine.specs.Machine.{machineOf};
 ghost use Rattle.execution.specs.Walk.{log};
-ghost use Rattle.text.specs.Writing.{writeOf};
+ghost use Rattle.printer.specs.Writing.{writeOf};
 ghost use Rattle.listing.specs.Listing.{listOf};
 ghost use Rattle.stream.specs.Streams.{push, close, callOf};
 ghost use Rattle.host.specs.Replies.{textOutcome, numbered, ReadAs, listerOutcome, listerNumbered};
@@ -93,7 +93,7 @@ pub extern "C" fn milestarling_run(
 pub extern "C" fn milestarling_text(word: u32, buffer: &mut [u8]) -> TextReply
     ensures { λ r. ⌜ textOutcome r (now (buffer .exit)) ≡ numbered (writeOf word (now (buffer .entry))) ⌝ }
 {
-    let written = text::write(word, buffer);
+    let written = printer::write(word, buffer);
     let answer = written.answer;
     TextReply {
         answer: answer_number(answer),

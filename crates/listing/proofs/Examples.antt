@@ -12,8 +12,7 @@ use Rattle.instruction.specs.Operations.{sizedAt}
 use Rattle.decoder.specs.Decoding.{classOf}
 use Rattle.ascii.specs.Ascii.{dec, signedDec}
 use Rattle.text.specs.Hints.{hintText}
-use Rattle.text.specs.Texts.{registerText, baseText, offsetTail, postTail, extendName, amountText, extendText, indexTail, frontText, sizedText, textOf}
-use Rattle.text.specs.Writing.{wordText}
+use Rattle.text.specs.Texts.{registerText, baseText, offsetTail, postTail, extendName, amountText, extendText, indexTail, frontText, sizedText, textOf, wordText}
 use Rattle.listing.specs.Listing.{hexDigit, hex4, hex8, contentText, answerText, lineText, shortText, lineMost, wordOf, listingOf}
 use Rattle.listing.specs.Examples.{exampleBytes, exampleLines}
 

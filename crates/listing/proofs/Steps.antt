@@ -16,10 +16,9 @@ use Rattle.instruction.specs.declared.family.Instruction.{Instruction}
 use Rattle.instruction.specs.Answers.{answerNumber}
 use Rattle.instruction.specs.Table.{inSet, undefined, allocated, unpredictable, instructionOf}
 use Rattle.decoder.specs.Decoding.{decodeOf, classOf, empty}
-use Rattle.text.specs.Texts.{textOf, textMost}
+use Rattle.text.specs.Texts.{textOf, wordText, textMost}
 use Rattle.ascii.specs.Ascii.{asc}
 use Rattle.ascii.specs.route.Puts.{Puts}
-use Rattle.text.specs.Writing.{wordText}
 use Rattle.text.proofs.Lengths.{text-short}
 use Rattle.ascii.proofs.Pieces.{after, nothing}
 use Rattle.listing.specs.Listing.{hex4, hex8, contentText, answerText, lineText, shortText, lineMost, Within, wordOf, listingOf}

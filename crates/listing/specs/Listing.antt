@@ -9,8 +9,8 @@ use Rattle.instruction.specs.Answers.{answerNumber}
 use Rattle.instruction.specs.Table.{allocated}
 use Rattle.decoder.specs.Decoding.{classOf}
 use Rattle.ascii.specs.Ascii.{asc}
-use Rattle.text.specs.Texts.{textMost}
-use Rattle.text.specs.Writing.{wordText, Outcome, copied}
+use Rattle.text.specs.Texts.{wordText, textMost}
+use Rattle.printer.specs.Writing.{Outcome, copied}
 use Rattle.listing.specs.declared.Listed.{Listed}
 
 -- a digit in lower case

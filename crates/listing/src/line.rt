@@ -52,7 +52,7 @@ struct Content {
 fn put_content(output: &mut [u8], at: usize, word: u32) -> Content
     ensures { λ r. ⌜ (r .number ≡ answerNumber (classOf word)) × (r .number < 32) × Puts (now (output .entry)) at (contentText word) (now (output .exit)) (r .end) ⌝ }
 {
-    let shown = text::put(output, at, word);
+    let shown = printer::put(output, at, word);
     let answer = shown.answer;
     let number = instruction::answer_number(answer);
     let end = shown.end;

@@ -53,8 +53,8 @@ use Rattle.encoder.specs.Exact.{Word, Exact}
 use Rattle.encoder.proofs.RoundTrip.{encode-exact}
 use Rattle.ascii.specs.Ascii.{asc, dec}
 use Rattle.text.specs.Hints.{hintText}
-use Rattle.text.specs.Texts.{baseText, offsetTail, frontText, sizedText, textOf}
-use Rattle.text.specs.Writing.{Outcome, wordText, copied, writeOf}
+use Rattle.text.specs.Texts.{baseText, offsetTail, frontText, sizedText, textOf, wordText}
+use Rattle.printer.specs.Writing.{Outcome, copied, writeOf}
 use Rattle.text.proofs.Examples.{starred-examples}
 use Rattle.text.proofs.Lengths.{text-short, text-reached}
 use Rattle.listing.specs.Listing.{listingOf, listOf}

@@ -51,8 +51,8 @@ use Rattle.arm.specs.Choices.{badStart, armStep}
 use Rattle.machine.specs.Real.{Real}
 use Rattle.encoder.specs.Exact.{Word}
 use Rattle.ascii.specs.Ascii.{asc, dec}
-use Rattle.text.specs.Texts.{textOf, textMost}
-use Rattle.text.specs.Writing.{wordText, writeOf}
+use Rattle.text.specs.Texts.{textOf, wordText, textMost}
+use Rattle.printer.specs.Writing.{writeOf}
 use Rattle.text.specs.Examples.{Holds, examples}
 use Rattle.reader.specs.Examples.{HintsRead}
 use Rattle.listing.specs.Listing.{lineText, shortText, lineMost, Within, listingOf, listOf}

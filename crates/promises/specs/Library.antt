@@ -29,7 +29,7 @@ use Rattle.execution.specs.Run.{machineRun}
 use Rattle.execution.specs.Secrecy.{Same, Filled, SameRoom}
 use Rattle.arm.specs.Choices.{badStart, armStep}
 use Rattle.machine.specs.Real.{Real}
-use Rattle.text.specs.Writing.{writeOf}
+use Rattle.printer.specs.Writing.{writeOf}
 use Rattle.listing.specs.Listing.{listOf}
 use Rattle.reader.specs.Reading.{LineOf}
 use Rattle.stream.specs.declared.Lister.{Lister}

@@ -9,8 +9,7 @@ use lib.ListN.{length}
 use Rattle.instruction.specs.Table.{allocated}
 use Rattle.encoder.specs.Encoding.{encodeOf}
 use Rattle.instruction.specs.declared.answer.Encoded.{Encoded}
-use Rattle.text.specs.Texts.{textMost}
-use Rattle.text.specs.Writing.{wordText}
+use Rattle.text.specs.Texts.{wordText, textMost}
 use Rattle.text.proofs.Lengths.{text-short}
 use Rattle.reader.specs.Types.{Done, NoSuchText, Scan, Instruction}
 use Rattle.reader.specs.route.Scan.{stepOf, scanStart}

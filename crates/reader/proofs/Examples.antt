@@ -13,7 +13,7 @@ use Rattle.encoder.specs.Encoding.{encodeOf}
 use Rattle.instruction.specs.declared.answer.Encoded.{Encoded}
 use Rattle.ascii.specs.Ascii.{asc}
 use Rattle.mnemonic.specs.route.Names.{stemAt, nameAt}
-use Rattle.text.specs.Writing.{wordText}
+use Rattle.text.specs.Texts.{wordText}
 use Rattle.text.proofs.Examples.{starred-examples}
 use Rattle.reader.specs.Types.{Reading}
 use Rattle.reader.specs.route.Scan.{plainOf, stepOf, scanStart}

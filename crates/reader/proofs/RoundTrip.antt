@@ -15,8 +15,7 @@ use Rattle.encoder.specs.Encoding.{encodeOf}
 use Rattle.instruction.specs.declared.answer.Encoded.{Encoded}
 use Rattle.encoder.specs.Exact.{Exact}
 use Rattle.encoder.proofs.RoundTrip.{encode-decoded, encode-exact, not-encoded}
-use Rattle.text.specs.Texts.{textOf}
-use Rattle.text.specs.Writing.{wordText}
+use Rattle.text.specs.Texts.{textOf, wordText}
 use Rattle.reader.specs.Types.{Done, NoSuchText, Reading}
 use Rattle.reader.specs.route.Scan.{stepOf, scanStart}
 use Rattle.reader.specs.route.Build.{buildOf}

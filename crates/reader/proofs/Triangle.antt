@@ -11,8 +11,7 @@ use Rattle.encoder.specs.Encoding.{encodeOf}
 use Rattle.instruction.specs.declared.answer.Encoded.{Encoded}
 use Rattle.encoder.specs.Exact.{Exact}
 use Rattle.encoder.proofs.RoundTrip.{encode-decoded, encode-exact}
-use Rattle.text.specs.Texts.{textOf}
-use Rattle.text.specs.Writing.{wordText}
+use Rattle.text.specs.Texts.{textOf, wordText}
 use Rattle.reader.specs.Types.{Done, Instruction, Reading}
 use Rattle.reader.specs.Reading.{LineOf, ReadOf}
 use Rattle.reader.specs.Triangle.{Bijection, Allocated, Encodable, Readable}

@@ -8,9 +8,9 @@ use borrow.Author.Tests.{le-ltb}
 use lib.ListN.{length, take}
 use lib.Seq.{sets, sets-eq, length-sets, take-at}
 use Rattle.instruction.specs.Table.{allocated}
-use Rattle.text.specs.Writing.{Outcome, outcome, copied, writeOf, wordText}
-use Rattle.text.specs.declared.Written.{Written}
-use Rattle.text.specs.Texts.{textMost}
+use Rattle.printer.specs.Writing.{Outcome, outcome, copied, writeOf}
+use Rattle.printer.specs.declared.Written.{Written}
+use Rattle.text.specs.Texts.{wordText, textMost}
 use Rattle.text.proofs.Lengths.{text-short}
 use Rattle.reader.specs.Types.{Answer}
 

@@ -1,5 +1,5 @@
 // A line of text to its word. The text is scanned into keys and numbers; they say which instruction alone can
-// have this line; the text is taken exactly if it is that instruction's line, as text::write gives it.
+// have this line; the text is taken exactly if it is that instruction's line, as printer::write gives it.
 mod build;
 mod compare;
 mod first;
@@ -8,16 +8,16 @@ mod scan;
 mod tail;
 
 use instruction::Answer;
+use printer::write;
 use text::TEXT_MAX;
-use text::write;
 ghost use mathlib.Core.Path.{_≡_};
 ghost use mathlib.Core.Bool.{true};
 ghost use mathlib.Core.Logic.{_↔_};
 ghost use Rattle.instruction.specs.Table.{allocated};
-ghost use Rattle.text.specs.Writing.{wordText};
+ghost use Rattle.text.specs.Texts.{wordText};
 ghost use Rattle.reader.specs.Reading.{ReadOf};
 
-// Room for any text, with eight bytes behind it, so that text::write stores eight at a time.
+// Room for any text, with eight bytes behind it, so that printer::write stores eight at a time.
 const BUFFER: usize = TEXT_MAX + 8;
 
 // What reading a text returns. The word is 0 where the text is refused.

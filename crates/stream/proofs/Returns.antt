@@ -12,8 +12,8 @@ use Rattle.bits.specs.Choice.{pick}
 use Rattle.bits.proofs.Lists.{sets-front}
 use Rattle.instruction.specs.declared.answer.Answer.the-variants.{Done, NoRoom, Closed}
 use Rattle.instruction.specs.Answers.{answerNumber}
-use Rattle.text.specs.Writing.{copied}
-use Rattle.text.specs.Writing as text
+use Rattle.printer.specs.Writing.{copied}
+use Rattle.printer.specs.Writing as text
 use Rattle.listing.specs.Listing.{shortText, lineMost, listingOf}
 use Rattle.stream.specs.declared.Lister.{Lister}
 use Rattle.stream.specs.Streams.{Outcome, overIn, holding, shutOf, refuses, wholeOf, restOf, refused, handed, push, close, callOf}

@@ -10,8 +10,7 @@ use Rattle.instruction.specs.Operations.{sizedAt, literalAt, pairAt, modeAt, ex
 use Rattle.decoder.specs.Decoding.{classOf}
 use Rattle.ascii.specs.Ascii.{dec, signedDec}
 use Rattle.text.specs.Hints.{hintText}
-use Rattle.text.specs.Texts.{registerText, baseText, offsetTail, preTail, postTail, extendName, amountText, extendText, indexTail, frontText, literalText, pairText, sizedText, exclusiveText, storeExclusiveText, textOf}
-use Rattle.text.specs.Writing.{wordText}
+use Rattle.text.specs.Texts.{registerText, baseText, offsetTail, preTail, postTail, extendName, amountText, extendText, indexTail, frontText, literalText, pairText, sizedText, exclusiveText, storeExclusiveText, textOf, wordText}
 use Rattle.text.specs.Examples.{Holds, examples}
 
 pub starred-examples : Holds examples

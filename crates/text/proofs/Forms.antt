@@ -16,7 +16,7 @@ use Rattle.mnemonic.specs.Operands.{Operand, Narrow, Wide, Hint, VectorB, Vecto
 use Rattle.mnemonic.specs.route.Named.{Known, known, told}
 use Rattle.mnemonic.proofs.Registers.{Registered}
 use Rattle.text.specs.declared.piece.Piece.{Piece}
-use Rattle.text.specs.declared.store.Pieces.{Pieces}
+use Rattle.text.specs.declared.piece.Pieces.{Pieces}
 use Rattle.text.specs.Texts.{registerText, operandText, offsetTail, extendName, extendText, amountText, frontText}
 use Rattle.text.specs.route.Pieces.{textIn, Fit, Leads, Shows}
 use Rattle.text.proofs.Packing.{size}

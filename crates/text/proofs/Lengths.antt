@@ -32,8 +32,7 @@ use Rattle.mnemonic.specs.Operands.{Operand, Narrow, Wide, Hint, VectorB, Vecto
 use Rattle.mnemonic.proofs.Registers.{Registered, wide-or-narrow, vector-registered, pair-registered, access-registered}
 use Rattle.mnemonic.specs.Mnemonics.{sizeLetter, suffix, stemmed, plainName, unscaledName, orderedName, literalSized, pairName, exclusiveName}
 use Rattle.text.specs.Hints.{unnamed, hintText}
-use Rattle.text.specs.Texts.{isZero, registerText, baseText, operandText, offsetTail, preTail, postTail, pairTail, extendName, amountText, extendText, indexTail, frontText, literalText, pairText, sizedText, exclusiveText, storeExclusiveText, familyText, textOf, textMost}
-use Rattle.text.specs.Writing.{wordText}
+use Rattle.text.specs.Texts.{isZero, registerText, baseText, operandText, offsetTail, preTail, postTail, pairTail, extendName, amountText, extendText, indexTail, frontText, literalText, pairText, sizedText, exclusiveText, storeExclusiveText, familyText, textOf, textMost, wordText}
 use Rattle.ascii.proofs.Decimals.{dec-short}
 
 record Short (n : ℕ) (p : List ℕ) : Type 0 where

@@ -8,7 +8,7 @@ use Rattle.instruction.specs.Answers.{answerNumber}
 use Rattle.instruction.specs.Table.{allocated}
 use Rattle.decoder.specs.Decoding.{classOf}
 use Rattle.ascii.specs.Ascii.{asc}
-use Rattle.text.specs.Writing.{wordText}
+use Rattle.text.specs.Texts.{wordText}
 
 -- an allocated word with its text, or a word with its answer
 pub data Example : Type 0 where

@@ -25,6 +25,7 @@ use Rattle.instruction.specs.declared.family.StoreExclusiveOperands.{StoreExclu
 use Rattle.instruction.specs.declared.family.Family.{Family}
 use Rattle.instruction.specs.declared.family.Family.the-variants.{Empty, Literal, Pair, Ordered, Unscaled, PostIndex, PreIndex, Register, Unsigned, Exclusive, StoreExclusive}
 use Rattle.instruction.specs.Operations.{scaleOf, exclusiveCode, storeExclusiveCode}
+use Rattle.instruction.specs.Table.{instructionOf}
 
 -- ---- registers
 
@@ -129,6 +130,10 @@ familyText (StoreExclusive op o) = storeExclusiveText op o
 
 unfoldable pub textOf : Instruction → List ℕ
 textOf i = familyText (i .family)
+
+-- the text of an allocated word
+unfoldable pub wordText : ℕ → List ℕ
+wordText w = textOf (instructionOf w)
 
 -- the most bytes that the text of an allocated word has: 02, CR 4, with the names of CR 7
 abbrev pub textMost : ℕ

@@ -2,8 +2,8 @@
 use crate::form;
 use crate::piece;
 use crate::piece::Piece;
+use crate::piece::Pieces;
 use crate::register;
-use crate::store::Pieces;
 use instruction::IndexOperands;
 use mnemonic::Mnemonic;
 ghost use mathlib.Core.Path.{_≡_};

@@ -2,8 +2,8 @@
 use crate::form;
 use crate::index;
 use crate::piece::Piece;
+use crate::piece::Pieces;
 use crate::register;
-use crate::store::Pieces;
 use instruction::AccessSize;
 use instruction::ExclusiveOp;
 use instruction::ExclusiveOperands;

@@ -10,6 +10,16 @@ pub struct Piece {
     pub length: usize,
 }
 
+// A line of text in six pieces, of which some may be empty.
+pub struct Pieces {
+    pub name: Piece,
+    pub first: Piece,
+    pub second: Piece,
+    pub third: Piece,
+    pub fourth: Piece,
+    pub last: Piece,
+}
+
 // A byte before a piece.
 pub fn led(byte: u8, rest: Piece) -> Piece
     requires { ⌜ (rest .length ≤ 7) × Low rest ⌝ }

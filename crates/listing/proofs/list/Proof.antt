@@ -2,7 +2,7 @@
 use borrow.Author.Tests.{leb-true, leb-false, not-true, not-false}
 use mathlib.Core.Path.{sym, _∙_}
 use Rattle.listing.specs.Listing.{listOf}
-use Rattle.text.proofs.Writes.{copied-not, copied-is}
+use Rattle.printer.proofs.Writes.{copied-not, copied-is}
 use borrow.Author.Needs.{needs}
 use Rattle.listing.proofs.list.Statement.{statement}
 use Rattle.listing.proofs.list.Tie as tie

@@ -1,5 +1,5 @@
 -- A line of text in six pieces: the route of the code to the texts of Texts.
-use Prim.Native.Nat.{ℕ, _+_}
+use Prim.Native.Nat.{ℕ}
 use mathlib.Core.Path.{_≡_}
 use mathlib.Core.List.{List, [], _++_}
 use lib.Dec.{eqb}
@@ -9,7 +9,7 @@ use Rattle.text.specs.Hints.{hintKind, hintLevel, hintPolicy, unnamed, h
 use Rattle.text.specs.Texts.{registerText, extendName, amountText}
 use Rattle.mnemonic.specs.declared.Mnemonic.{Mnemonic}
 use Rattle.mnemonic.specs.route.Named.{known}
-use Rattle.text.specs.declared.store.Pieces.{Pieces}
+use Rattle.text.specs.declared.piece.Pieces.{Pieces}
 use Rattle.text.specs.route.Pieces.{textIn, Fit}
 
 pub record Sound (p : Pieces) : Type 0 where
@@ -22,9 +22,6 @@ pub record Sound (p : Pieces) : Type 0 where
 
 abbrev pub whole : Pieces → List ℕ
 whole p = textIn (p .name) ++ textIn (p .first) ++ textIn (p .second) ++ textIn (p .third) ++ textIn (p .fourth) ++ textIn (p .last)
-
-abbrev pub totalOf : Pieces → ℕ
-totalOf p = p .name .length + p .first .length + p .second .length + p .third .length + p .fourth .length + p .last .length
 
 pub record Made (t : List ℕ) (p : Pieces) : Type 0 where
   pub text : whole p ≡ t

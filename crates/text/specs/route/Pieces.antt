@@ -3,8 +3,7 @@ use Prim.Native.Nat.{ℕ, zero, suc, _+_, _/_, _%_, _^_, _≤_, _<_}
 use mathlib.Core.Path.{_≡_}
 use mathlib.Core.List.{List, [], _∷_, _++_}
 use lib.Dec.{ltb}
-use lib.ListN.{length, replicate}
-use lib.Seq.{sets}
+use lib.ListN.{length}
 use Rattle.bits.specs.Choice.{pick}
 use Rattle.bits.specs.Bytes.{bytesOf}
 use Rattle.text.specs.declared.piece.Piece.{Piece}
@@ -35,13 +34,6 @@ pub record Fit (p : Piece) : Type 0 where
 pub record Shows (t : List ℕ) (p : Piece) : Type 0 where
   pub text : textIn p ≡ t
   pub fit : Fit p
-
--- a text that is put into a line at a position, with some zeros behind it, and the position behind the text
-pub record Spills (before : List ℕ) (at : ℕ) (t after : List ℕ) (next : ℕ) : Type 0 where
-  pub zeros : ℕ
-  pub few : zeros ≤ 8
-  pub text : after ≡ sets before at (t ++ replicate zeros 0)
-  pub place : next ≡ at + length t
 
 -- the last k digits of a number, with zeros in front
 abbrev pub padded : ℕ → ℕ → List ℕ
