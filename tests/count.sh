@@ -23,7 +23,7 @@ counted() { # WAY LIST STEPS
 }
 
 for way in run step; do
-    for list in mixed loads stores ldr str; do
+    for list in mixed loads stores vectors ldr str ldr_q str_q; do
         few=$(counted "$way" "$list" 4096)
         many=$(counted "$way" "$list" 12288)
         awk -v way="$way" -v list="$list" -v n="$((many - few))" 'BEGIN { printf "%s\t%s\t%.1f\n", way, list, n / 8192 }'

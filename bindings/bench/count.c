@@ -43,16 +43,34 @@ static const uint32_t mixed[] = {
     0xf8408426, // ldr x6, [x1], #8
     0xf81f8c27, // str x7, [x1, #-8]!
 };
-static const uint32_t load[] = {0xf9400425};  // ldr x5, [x1, #8]
-static const uint32_t store[] = {0xf9000425}; // str x5, [x1, #8]
+static const uint32_t vectors[] = {
+    0x3dc00425, // ldr q5, [x1, #16]
+    0xad401c26, // ldp q6, q7, [x1]
+    0x3d800825, // str q5, [x1, #32]
+    0xad021c26, // stp q6, q7, [x1, #64]
+    0xfd400428, // ldr d8, [x1, #8]
+    0xbd000c28, // str s8, [x1, #12]
+    0x3cc10429, // ldr q9, [x1], #16
+    0x3c9f0c29, // str q9, [x1, #-16]!
+};
+static const uint32_t load[] = {0xf9400425};    // ldr x5, [x1, #8]
+static const uint32_t store[] = {0xf9000425};   // str x5, [x1, #8]
+static const uint32_t load_q[] = {0x3dc00425};  // ldr q5, [x1, #16]
+static const uint32_t store_q[] = {0x3d800825}; // str q5, [x1, #32]
 
 static const struct {
     const char *name;
     const uint32_t *words;
     size_t length;
 } lists[] = {
-    {"mixed", mixed, sizeof mixed / 4}, {"loads", loads, sizeof loads / 4}, {"stores", stores, sizeof stores / 4},
-    {"ldr", load, sizeof load / 4},     {"str", store, sizeof store / 4},
+    {"mixed", mixed, sizeof mixed / 4},
+    {"loads", loads, sizeof loads / 4},
+    {"stores", stores, sizeof stores / 4},
+    {"vectors", vectors, sizeof vectors / 4},
+    {"ldr", load, sizeof load / 4},
+    {"str", store, sizeof store / 4},
+    {"ldr_q", load_q, sizeof load_q / 4},
+    {"str_q", store_q, sizeof store_q / 4},
 };
 
 static uint8_t bytes[MEMORY], taint[MEMORY], statuses[MOST];
@@ -85,15 +103,16 @@ int main(int count, char **arguments)
     fill_words(arguments[2], steps);
     struct milestarling_memory memory = {bytes, MEMORY, taint, MEMORY, ORIGIN, 0};
     struct milestarling_session session = {0};
+    struct milestarling_vectors files = {0};
     milestarling_set_register(&session, 1, ORIGIN + 1024, MILESTARLING_TAINT_NONE);
     milestarling_set_register(&session, 2, 64, MILESTARLING_TAINT_NONE);
     if (strcmp(arguments[1], "run") == 0) {
-        if (milestarling_session_run(memory, &session, words, steps, trace, steps, statuses, steps).answer != MILESTARLING_DONE)
+        if (milestarling_session_run(memory, &session, &files, words, steps, trace, steps, statuses, steps).answer != MILESTARLING_DONE)
             fail("the run was refused");
         return 0;
     }
     for (size_t i = 0; i < steps; i++)
-        if (milestarling_session_step(memory, &session, words[i]).answer != MILESTARLING_DONE)
+        if (milestarling_session_step(memory, &session, &files, words[i]).answer != MILESTARLING_DONE)
             fail("a step was refused");
     return 0;
 }
