@@ -74,7 +74,7 @@ module _ (s : Arm) (l : length (s .registers) ≡ 64) where
 
   pub set-r : (vector : Bool) (n width v : ℕ) → setR vector n width v s ≡ withRegisters (set (s .registers) (slot vector n) v) s
   unfolding setVec
-  set-r true n width v = rw (zero-extend width 128 v)
+  set-r true n width v = ap (λ (x : ℕ). withRegisters (set (s .registers) (32 + n) x) s) (omega (arith, zero-extend width 128 v))
   set-r false n width v = set-x s l n width v
 
 pub r-memory : (vector : Bool) (n width v : ℕ) (s : Arm) → setR vector n width v s .memory ≡ s .memory

@@ -1,7 +1,6 @@
 // Bytes of standard input, and the numbers in them, little-endian. Past the end of the bytes there is nothing but 0.
 use registers::Registers;
 use vectors::Halves;
-ghost use Prim.Native.Nat.{_≤_};
 
 // Says whether the input had as many.
 pub fn fill(bytes: &mut [u8]) -> bool {
@@ -34,24 +33,23 @@ pub fn registers(bytes: &[u8]) -> Registers {
 
 // The vector registers: 32 of two numbers each, the low half first.
 pub fn vectors(bytes: &[u8]) -> [[u64; 2]; 32] {
-    file_at(bytes, 0)
+    file_from(bytes, 0)
 }
 
 // And behind them their taints, likewise.
 pub fn vector_taint(bytes: &[u8]) -> [[u64; 2]; 32] {
-    file_at(bytes, 512)
+    file_from(bytes, 32)
 }
 
-fn file_at(bytes: &[u8], at: usize) -> [[u64; 2]; 32]
-    requires { ⌜ at ≤ 512 ⌝ }
-{
+// As many from a place on, of 64 places.
+fn file_from(bytes: &[u8], first: u32) -> [[u64; 2]; 32] {
     let mut file = [[0u64; 2]; 32];
     let mut n = 0;
     while n < 32 {
-        let low_at = at + 16 * (n as usize);
+        let at = (first % 64 + n) as usize;
         let halves = Halves {
-            low: number(bytes, low_at, 8),
-            high: number(bytes, low_at + 8, 8),
+            low: number(bytes, 16 * at, 8),
+            high: number(bytes, 16 * at + 8, 8),
         };
         let next = vectors::set(file, n, halves);
         file = next;

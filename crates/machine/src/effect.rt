@@ -180,13 +180,16 @@ fn load_taints(n: u32, at: usize, taint: &[u8]) -> Halves
     requires { ⌜ (n ≤ 16) × (at + n ≤ length (now taint)) ⌝ }
     ensures { λ r. ⌜ r ≡ halvesIn (map normal (now (taint .entry))) at n ⌝ }
 {
-    let low = memory::load_taints(&taint[at..], n as usize);
+    let first = memory::load_taints(&taint[at..], n as usize);
     if n <= 8 {
-        return Halves { low, high: 0 };
+        return Halves {
+            low: first,
+            high: 0,
+        };
     }
     let mid = at + 8;
     Halves {
-        low,
+        low: first,
         high: memory::load_taints(&taint[mid..], (n - 8) as usize),
     }
 }
