@@ -5,12 +5,12 @@ crates/CRATE/proofs/FUNCTION/Proof.antt.
     python3 tools/lent.py
 
 A function that the record is lent to, in `session`, is thin: it copies the record out whole, calls a function that takes
-it by value, with every slice and every file of vector registers lent on, and stores what comes back whole. What is called returns the record alone, or the
-record and then a reply:
+it by value, with every slice and every file of vector registers lent on, and stores what comes back whole. What is called
+returns the record alone, or the record and then a reply:
 
     *record = by_value(.., *record, ..);
 
-    let result = by_value(.., *record, .., slices..);
+    let result = by_value(.., *record, files.., .., slices..);
     *record = result.RECORD;
     result.REPLY
 
@@ -20,7 +20,7 @@ is then in it, alone or with the reply:
     lent(.., &mut record, ..);
     record
 
-    let reply = lent(.., &mut record, .., slices..);
+    let reply = lent(.., &mut record, files.., .., slices..);
     RESULT { RECORD: record, REPLY: reply }
 
 The check has no rule for a reference to a struct, so that the proof is a walk of the function's MIR in the program logic.
@@ -40,13 +40,14 @@ TYPES = {BYTES: 'List ℕ', FILE: 'List (List ℕ)'}
 WIDTHS = {'u8': 8, 'u32': 32, 'u64': 64}
 # The parts of what is known of a reference.
 REFERENCE = ('ptr .0', 'ptr .1', 'name', 'now')
-STEP = [('word', 'u32'), ('state', RECORD), ('vectors', FILE), ('vector-taint', FILE), ('origin', 'u64'), ('readonly', 'u64'), ('memory', BYTES), ('taint', BYTES)]
+STEP = [('word', 'u32'), ('state', RECORD), ('vectors', FILE), ('vector-taint', FILE), ('origin', 'u64'), ('readonly', 'u64'),
+        ('memory', BYTES), ('taint', BYTES)]
 SET = [('state', RECORD), ('n', 'u32'), ('value', 'u64'), ('marks', 'u64')]
 
-# Of each function: what it calls; its parameters in order, the files behind the record and the slices last; the struct that holds the record and the
-# reply, and the reply's, if there is one, and their names in it; and what is ensured of the call, from the record h and
-# now-NAME of what is lent on at entry, of NAME′ at exit and of what comes back: the result r in `session`, in `lending` the record s and
-# the reply r; with the names of `specs/` that this needs.
+# Of each function: what it calls; its parameters in order, the files behind the record and the slices last; the struct that
+# holds the record and the reply, and the reply's, if there is one, and their names in it; and what is ensured of the call,
+# from the record h and now-NAME of what is lent on at entry, of NAME′ at exit and of what comes back: the result r in
+# `session`, in `lending` the record s and the reply r; with the names of `specs/` that this needs.
 FUNCTIONS = {
     'session': {
         'milestarling_step': dict(
