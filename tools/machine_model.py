@@ -106,6 +106,10 @@ class Access(NamedTuple):
     def length(self):
         return self.width * len(self.targets)
 
+    def capacity(self):
+        """The bytes of a register that is moved."""
+        return 16 if self.vector else 8
+
 
 class State:
     """Everything that a step gets beside its word. The length of the window is that of the memory."""
@@ -349,7 +353,7 @@ class Model:
         """A register's, from the taint of the bytes that it is loaded from and from its own as it was."""
         loaded = self.read_marks(taint)
         above = {ZEROS: 0, SIGNED_64: 8, SIGNED_32: 4}[access.above] - access.width
-        return (loaded + bytes([self.sign_mark(loaded)]) * above).ljust(16 if access.vector else 8, b'\0')
+        return (loaded + bytes([self.sign_mark(loaded)]) * above).ljust(access.capacity(), b'\0')
 
     def read_marks(self, taint):
         """The marks of bytes of memory."""

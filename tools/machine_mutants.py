@@ -125,7 +125,7 @@ class TaintsLoadedAndStored(Model):
     """Whatever is loaded or stored becomes tainted."""
 
     def loaded_taint(self, access, taint, old):
-        return ALL
+        return b'\1' * access.capacity()
 
     def stored_taint(self, access, taint, old):
         return b'\1' * access.width
@@ -133,7 +133,7 @@ class TaintsLoadedAndStored(Model):
 
 class TaintsNoLoad(Model):
     def loaded_taint(self, access, taint, old):
-        return NONE
+        return bytes(access.capacity())
 
 
 class TaintsNoStore(Model):

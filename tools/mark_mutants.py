@@ -104,7 +104,7 @@ class MarksFirstStored(Model):
 
 class LiteralUnmarked(Model):
     def loaded_taint(self, access, taint, old):
-        return NONE if access.family == LITERAL else super().loaded_taint(access, taint, old)
+        return bytes(access.capacity()) if access.family == LITERAL else super().loaded_taint(access, taint, old)
 
 
 # Addresses: too little is tested.
@@ -244,7 +244,7 @@ class MarksWholeRegister(Model):
     """A register is marked whole where one of its bytes is: 01 without CR 13."""
 
     def loaded_taint(self, access, taint, old):
-        return ALL if any(taint) else NONE
+        return bytes([any(taint)]) * access.capacity()
 
 
 class MarksEachLoaded(Model):

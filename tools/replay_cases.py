@@ -16,7 +16,7 @@ Which words are 2, 3 and 4 is also held against crates/list/stdout, which LLVM a
 windows, taints, the trace and the statuses' list are the model's alone. None of it comes from this project's code.
 
 replay_format.py has the format. The stored input ends inside a case, and the option --endings makes the other endings.
-Made with unicorn 2.0.1 from Debian 12, in some twenty seconds. The output is the same each time.
+Made with unicorn 2.0.1 from Debian 12, in less than a minute. The output is the same each time.
 """
 import argparse
 import collections

@@ -45,8 +45,10 @@ def filled(case, byte):
 
 def bytes_of(state):
     """Each byte of registers and memory, with its taint."""
-    for value, taint in zip(state.registers + state.vectors, state.taints + state.vector_taints):
-        yield from zip(value.to_bytes(len(taint), 'little'), taint)
+    for value, taint in zip(state.registers, state.taints):
+        yield from zip(value.to_bytes(8, 'little'), taint)
+    for value, taint in zip(state.vectors, state.vector_taints):
+        yield from zip(value.to_bytes(16, 'little'), taint)
     yield from zip(state.memory, state.taint)
 
 

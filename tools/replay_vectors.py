@@ -45,16 +45,16 @@ def stores(family):
 def examples():
     """Words on bytes 0 to 63 at 4096, of which two are marked, and what V0 and V1 hold with their marks, low byte first."""
     quad, marks = bytes(range(16, 32)).hex(), '0100000000000000' + '0000000000000001'
-    wide, other = bytes(range(32, 48)).hex(), '00' * 16
-    for word, length, first, second in (
-            # ldr b0, h0, s0, d0 and q0, [x1]
-            (0x3d400020, 1, (quad[:2], marks[:2]), None), (0x7d400020, 2, (quad[:4], marks[:4]), None),
-            (0xbd400020, 4, (quad[:8], marks[:8]), None), (0xfd400020, 8, (quad[:16], marks[:16]), None),
-            (0x3dc00020, 16, (quad, marks), None),
-            # ldr q0, [x2, #16]; ldp d0, d1, [x1]; ldp q0, q1, [x1]
-            (0x3dc00440, 16, (quad, marks), None), (0x6d400420, 16, (quad[:16], marks[:16]), (quad[16:], marks[16:])),
-            (0xad400420, 32, (quad, marks), (wide, other))):
-        yield word, length, first, second
+    next_quad, unmarked = bytes(range(32, 48)).hex(), '00' * 16
+    return [
+        # ldr b0, h0, s0, d0 and q0, [x1]
+        (0x3d400020, 1, (quad[:2], marks[:2]), None), (0x7d400020, 2, (quad[:4], marks[:4]), None),
+        (0xbd400020, 4, (quad[:8], marks[:8]), None), (0xfd400020, 8, (quad[:16], marks[:16]), None),
+        (0x3dc00020, 16, (quad, marks), None),
+        # ldr q0, [x2, #16]; ldp d0, d1, [x1]; ldp q0, q1, [x1]
+        (0x3dc00440, 16, (quad, marks), None), (0x6d400420, 16, (quad[:16], marks[:16]), (quad[16:], marks[16:])),
+        (0xad400420, 32, (quad, marks), (next_quad, unmarked)),
+    ]
 
 
 def example_cases(rng):
