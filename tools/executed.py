@@ -214,13 +214,12 @@ def run(program, capabilities, zva):
 
 
 def print_refused(refused):
-    """The words that weren't taken, by objdump's mnemonics."""
+    """The words that weren't taken, by objdump's mnemonics and with their answers."""
     names = collections.Counter()
-    words = list(refused)
-    for (_, answer), said, count in zip(words, gnu_disassembly([word for word, _ in words]), refused.values()):
-        mnemonic = ' '.join(said.text.split()[:2] if said.text.startswith('dc') else said.text.split()[:1])
-        names[mnemonic.rstrip(','), answer] += count
-    print('Not taken: ' + ', '.join('%s %s (answer %d)' % (name, '{:,}'.format(count), answer)
+    for ((_, answer), count), said in zip(refused.items(), gnu_disassembly([word for word, _ in refused])):
+        fields = (said.text or 'unknown').replace(',', '').split()
+        names[' '.join(fields[:2 if fields[0] == 'dc' else 1]), answer] += count
+    print('Not taken: ' + ', '.join('{} {:,} (answer {})'.format(name, count, answer)
                                     for (name, answer), count in names.most_common()))
 
 

@@ -336,7 +336,10 @@ static uint64_t put_folder(uint64_t address, uint64_t length) {
     return 2;
 }
 
-uint64_t system_call(uint64_t number, const uint64_t *a) {
+// What one of the following gives for a call that isn't its own. No call answers so: the numbers of errors end at 4095.
+static const uint64_t not_here = -(uint64_t)4096;
+
+static uint64_t file_call(uint64_t number, const uint64_t *a) {
     struct stat found;
     switch (number) {
     case OPENAT:
@@ -347,8 +350,6 @@ uint64_t system_call(uint64_t number, const uint64_t *a) {
         return fill(a[1], read_file, (int)a[0], a[2]);
     case GETDENTS64:
         return fill(a[1], read_folder, (int)a[0], a[2]);
-    case GETRANDOM:
-        return fill(a[0], read_random, 0, a[1]);
     case PREAD64:
         return answer(read_into((int)a[0], a[3], a[1], a[2]));
     case WRITE:
@@ -368,18 +369,39 @@ uint64_t system_call(uint64_t number, const uint64_t *a) {
         return answer(faccessat((int)a[0], host_path(guest_path(a[1])), (int)a[2], 0));
     case READLINKAT:
         return read_link(a);
-    case GETCWD:
-        return put_folder(a[0], a[1]);
+    default:
+        return not_here;
+    }
+}
+
+static uint64_t memory_call(uint64_t number, const uint64_t *a) {
+    enum { GUEST_DONTNEED = 4 };
+    switch (number) {
     case MMAP:
         return map(a);
     case MREMAP:
         return map_anew(a[0], a[1], a[2]);
-    case MADVISE:
-        if (a[2] == 4) // MADV_DONTNEED
-            clear(a[0], a[1]);
-        return 0;
     case BRK:
         return set_heap_end(a[0]);
+    case MADVISE:
+        if (a[2] == GUEST_DONTNEED)
+            clear(a[0], a[1]);
+        return 0;
+    case MPROTECT:
+    case MUNMAP:
+        return 0;
+    default:
+        return not_here;
+    }
+}
+
+// What a program asks about itself and where it runs.
+static uint64_t question(uint64_t number, const uint64_t *a) {
+    switch (number) {
+    case GETRANDOM:
+        return fill(a[0], read_random, 0, a[1]);
+    case GETCWD:
+        return put_folder(a[0], a[1]);
     case CLOCK_GETTIME:
         return put_time((int)a[0], a[1], 1);
     case GETTIMEOFDAY:
@@ -396,13 +418,20 @@ uint64_t system_call(uint64_t number, const uint64_t *a) {
         return 2;
     case GETPPID:
         return 1;
-    case FUTEX:
     case GETEGID:
     case GETEUID:
     case GETGID:
     case GETUID:
-    case MPROTECT:
-    case MUNMAP:
+        return 0;
+    default:
+        return not_here;
+    }
+}
+
+// What is taken without doing anything, as one process with one thread can, and what is refused.
+static uint64_t plain_answer(uint64_t number) {
+    switch (number) {
+    case FUTEX:
     case PRCTL:
     case PSELECT6: // time passes at once
     case RT_SIGACTION:
@@ -412,20 +441,29 @@ uint64_t system_call(uint64_t number, const uint64_t *a) {
         return 0;
     case IOCTL:
         return refused(ENOTTY);
+    case SOCKET:
+        return refused(EAFNOSUPPORT);
     case FSTATFS:
     case RSEQ:
     case STATFS:
         return refused(ENOSYS);
-    case SOCKET:
-        return refused(EAFNOSUPPORT);
-    case EXIT:
-    case EXIT_GROUP:
-        exited = 1;
-        exit_status = (int)a[0];
-        return 0;
     default:
         unknown_calls++;
         fprintf(stderr, "lockstep: system call %d isn't known\n", (int)number);
         return refused(ENOSYS);
     }
+}
+
+uint64_t system_call(uint64_t number, const uint64_t *a) {
+    if (number == EXIT || number == EXIT_GROUP) {
+        exited = 1;
+        exit_status = (int)a[0];
+        return 0;
+    }
+    uint64_t result = file_call(number, a);
+    if (result == not_here)
+        result = memory_call(number, a);
+    if (result == not_here)
+        result = question(number, a);
+    return result == not_here ? plain_answer(number) : result;
 }
