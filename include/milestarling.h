@@ -186,7 +186,8 @@ struct milestarling_taint {
  * - after another session's step in the same memory, milestarling_observe_step;
  * - after another session's run in it, milestarling_observe_run;
  * - after a write of the host's own, or of a thread that runs no session, milestarling_open; or milestarling_observed with
- *   the code of a store, MILESTARLING_STORE_CODE plus the number of its bytes, which opens it only where it watches them.
+ *   the code of a store, MILESTARLING_STORE_CODE plus the number of its bytes, which opens it only where it watches them;
+ * - at the plugin's own clrex, which is no load or store and so the host's to compute, milestarling_open.
  *
  * Without that two sessions take one lock at once. To open it at each turn of another's, whatever that did, is no way out:
  * two sessions that take turns of one word then never take the lock. examples/turns.c shows all three.
