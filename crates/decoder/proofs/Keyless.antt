@@ -1,8 +1,10 @@
--- Words whose keys are those of no row. Assumes nothing.
+-- Words whose keys are those of no row, and those of the ninth family, whose code tests bits. Assumes nothing.
 use Prim.Native.Nat.{ℕ, _+_, _*_}
 use mathlib.Core.Path.{_≡_}
+use mathlib.Core.Bool.{Bool, true, false}
 use native.Mathlib.Omega.{arith}
-use Rattle.bits.specs.Fields.{field}
+use Rattle.bits.specs.Choice.{pick}
+use Rattle.bits.specs.Fields.{field, part}
 use Rattle.instruction.specs.declared.row.Row.{Row}
 use Rattle.instruction.proofs.Rows.{group, form, Keys}
 
@@ -66,3 +68,31 @@ module _ (w : ℕ) where
   no-exclusive g x a Row.LoadExclusiveRow k = x (k .1) (k .2) (k .3) (k .4)
   no-exclusive g x a Row.StoreExclusiveRow k = x (k .1) (k .2) (k .3) (k .4)
   no-exclusive g x a Row.AcquireReleaseRow k = a (k .1) (k .2) (k .3) (k .4) (k .5)
+
+  -- bits 23, 22 and 15, by which its rows go
+  abbrev pub exclusiveForm : ℕ
+  exclusiveForm = field 23 23 w * 4 + field 22 22 w * 2 + field 15 15 w
+
+  module _ (g : group w ≡ 0b001_0) where
+    pub not-exclusive : (field 24 24 w ≡ 0 → field 26 26 w ≡ 0 → field 21 21 w ≡ 0 → ⊥) → (l : Row) → Keys w l → ⊥
+    not-exclusive z = no-exclusive g (λ a v b d. z a v b) (λ a v b d e. z a v b)
+
+    module _ (v : ¬ (field 26 26 w ≡ 1)) (a : ¬ (field 24 24 w ≡ 1)) (b : ¬ (field 21 21 w ≡ 1)) where
+      clear : (field 24 24 w ≡ 0) × (field 26 26 w ≡ 0) × (field 21 21 w ≡ 0)
+      unfolding part
+      clear = (omega arith, omega arith, omega arith)
+
+      pub store-keys : (m : Bool) → exclusiveForm ≡ pick m 0b001 0b000 → Keys w Row.StoreExclusiveRow
+      unfolding part
+      store-keys true e = (g, clear .0, clear .1, clear .2, omega arith, omega arith)
+      store-keys false e = (g, clear .0, clear .1, clear .2, omega arith, omega arith)
+
+      pub load-keys : (m : Bool) → exclusiveForm ≡ pick m 0b011 0b010 → Keys w Row.LoadExclusiveRow
+      unfolding part
+      load-keys true e = (g, clear .0, clear .1, clear .2, omega arith, omega arith)
+      load-keys false e = (g, clear .0, clear .1, clear .2, omega arith, omega arith)
+
+      pub acquire-keys : (m : Bool) → exclusiveForm ≡ pick m 0b111 0b101 → Keys w Row.AcquireReleaseRow
+      unfolding part
+      acquire-keys true e = (g, clear .0, clear .1, clear .2, omega arith, omega arith)
+      acquire-keys false e = (g, clear .0, clear .1, clear .2, omega arith, omega arith)

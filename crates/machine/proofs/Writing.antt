@@ -16,10 +16,10 @@ use Rattle.memory.specs.Taints.{normal}
 use Rattle.memory.specs.Sources.{loadedTaint}
 use Rattle.memory.proofs.Taints.{span-normal}
 use Rattle.memory.proofs.Sources.{no-source, whole-taints}
-use Rattle.vectors.specs.File.{wide, numberOf, halvesAt, withVector}
-use Rattle.vectors.proofs.Slots.{Plain, plain-get, plain-set, vector-get, wide-get, read-general, all-plain, then-vectors, wide-set, length-map}
+use Rattle.vectors.specs.File.{wide, numberOf, halvesAt, withVector, vectorSlot}
+use Rattle.vectors.proofs.Slots.{Plain, vector-low, plain-get, plain-set, vector-get, wide-get, read-general, all-plain, then-vectors, wide-set, length-map, files-kept, taints-kept}
 use Rattle.vectors.proofs.Wide.{halves-joined}
-use Rattle.access.proofs.Bounds.{Whole, VectorBounds, Placed}
+use Rattle.access.proofs.Bounds.{Whole, VectorBounds, Bounded, Placed}
 use Rattle.access.specs.declared.addressing.Addressing.{Addressing}
 use Rattle.plan.specs.Operands.{operandsIn}
 use Rattle.bits.proofs.Choices.{neither}
@@ -28,8 +28,8 @@ use Rattle.access.specs.declared.transfer.Transfer.{Transfer}
 use Rattle.machine.specs.Monitor.{monitorAfter, fails, madeOf}
 use Rattle.machine.specs.Rule.{moveRule, storedIn, storedTaints}
 use Rattle.machine.specs.Machine.{Machine, machineOf, storedBytes, effectOf}
-use Rattle.machine.specs.Step.{Step, stopped, moved, Outcome, performed}
-use Rattle.machine.specs.route.Writing.{Full, basedOf, loadsOf, halvesIn, fillsOf, Ended, ended, ends, told}
+use Rattle.machine.specs.Step.{Step, stopped, moved, Outcome, outcome, performed}
+use Rattle.machine.specs.route.Writing.{Full, basedOf, loadsOf, halvesIn, fillsOf, afterStore, afterLoad, completedOf, Ended, ended, ends, told}
 use Rattle.machine.specs.declared.monitor.Monitor.{Monitor}
 use Rattle.machine.specs.declared.State.{State}
 use Rattle.machine.specs.declared.Shown.{Shown}
@@ -197,6 +197,19 @@ module _ (x : Transfer) (written at next : ℕ) (r : Monitor) (shown : Shown) (s
         taints-are (x .more) (x .extent) k (at + x .bytes) (b .wholes),
       )
 
+  pub store-tells : {n l : List ℕ} (more : Bool) → x .store ≡ true → (more ≡ false → (r ≡ s .monitor) × (length v ≤ written) × (length u ≤ written))
+      → n ≡ storedBytes x at (v ++ w) m → l ≡ storedTaints x at (u ++ q) k → told s vs ms (afterStore more written next shown r) n l ≡ made
+  store-tells true e h f g = store-writes e f g
+  store-tells false e h f g = let none = h refl in store-passes e (none .0) (none .1) (none .2) f g
+
+  pub load-tells : x .store ≡ false → Bounded x → told s vs ms (afterLoad x written at next shown r m k) m k ≡ made
+  load-tells e b = by (vectorSlot (x .target)) refl
+    where
+      by : (z : Bool) → vectorSlot (x .target) ≡ z
+          → told s vs ms (pick z (Decision.Vectors shown (basedOf written next r) (fillsOf x at m k)) (Wrote shown (loadsOf x written next r at m k))) m k ≡ made
+      by true z = load-fills e (vector-low (x .target) z .0) (b .vector z)
+      by false z = load-writes e z (b .general z .1)
+
 -- ---- what is made of a decision
 
 -- what a step returns and leaves
@@ -209,6 +222,14 @@ shown-at m (moved n shown) = refl
 
 pub shows : (m : Machine) (s : Step Machine) {e : Ended} → e ≡ ended m s → shownOf e ≡ performed m s
 shows m s h = ap shownOf h ∙ shown-at m s
+
+-- what is returned of a decision, with the files that were handed in, is what it tells
+pub completes : (s : State) (vs ms : List (List ℕ)) (m k : List ℕ) → length vs ≡ 32 → length ms ≡ 32 → (d : Decision)
+    → outcome (completedOf s d) vs ms m k ≡ shownOf (told s vs ms d m k)
+completes s vs ms m k h i (Decision.Refused answer address) = rw (files-kept vs h, taints-kept ms i)
+completes s vs ms m k h i (Decision.Passed shown) = rw (files-kept vs h, taints-kept ms i)
+completes s vs ms m k h i (Decision.Wrote shown w) = rw (files-kept vs h, taints-kept ms i)
+completes s vs ms m k h i (Decision.Vectors shown w x) = refl
 
 step-at : (m : Machine) (s : Step Machine) → ended m s .step ≡ s
 step-at m (stopped answer address) = refl

@@ -15,6 +15,8 @@ use registers::Registers;
 use vectors::VectorWrites;
 ghost use mathlib.Core.Path.{_≡_};
 ghost use Prim.Native.Nat.{ℕ, _+_, _≤_};
+ghost use mathlib.Core.Bool.{_||_};
+ghost use lib.Dec.{ltb};
 ghost use lib.ListN.{length};
 ghost use Rattle.vectors.proofs.Slots.{Plain};
 ghost use Rattle.access.proofs.Bounds.{Within, Bounded, Placed};
@@ -23,7 +25,7 @@ ghost use Rattle.machine.specs.Monitor.{monitorAfter, madeOf};
 ghost use Rattle.machine.specs.Machine.{machineOf, opened, nextPc, effectOf};
 ghost use Rattle.machine.specs.Step.{shown, moved, stepOf, outcome, leaves};
 ghost use Rattle.machine.specs.route.Parts.{wordStep, accessStep};
-ghost use Rattle.machine.specs.route.Writing.{Full, stateOf, passedOn, settledOf, ends, told};
+ghost use Rattle.machine.specs.route.Writing.{Full, stateOf, passedOn, settledOf, completedOf, afterStore, afterLoad, ends, told};
 
 #[repr(C)]
 pub struct State {
@@ -68,7 +70,7 @@ pub fn step(
 ) -> Stepped
     ensures { λ r. ⌜ outcome r vectors «vector_taint» (now (memory .exit)) (now (taint .exit)) ≡ leaves (stepOf window word) (machineOf state vectors «vector_taint» (now (memory .entry)) (now (taint .entry))) ⌝ }
 {
-    match decide(
+    let decision = decide(
         word,
         state.pc,
         state.monitor,
@@ -79,7 +81,15 @@ pub fn step(
         &vector_taint,
         memory,
         taint,
-    ) {
+    );
+    completed(decision, state)
+}
+
+// The second half, whatever the first has decided.
+fn completed(decision: Decision, state: State) -> Stepped
+    ensures { λ r. ⌜ r ≡ completedOf state decision ⌝ }
+{
+    match decision {
         Decision::Refused(answer, address) => Stepped {
             state,
             answer,
@@ -353,20 +363,52 @@ fn touched(
             memory,
             taint,
         );
-        if effect::sets_more(t.exclusive, written, value, tainted) {
-            return Decision::Wrote(shown, effect::written_back(written, next, after));
-        }
-        return Decision::Passed(shown);
+        return after_store(t.exclusive, written, next, shown, after, value, tainted);
     }
+    after_load(t, written, at, next, shown, after, memory, taint)
+}
+
+// A store that is made leaves the base or the status to set, and the monitor, or nothing.
+fn after_store(
+    exclusive: bool,
+    written: u32,
+    next: u64,
+    shown: Shown,
+    monitor: Monitor,
+    value: &[u64],
+    tainted: &[u64],
+) -> Decision
+    ensures { λ r. ⌜ r ≡ afterStore (exclusive || (ltb written (length (now (value .entry))) || ltb written (length (now (tainted .entry))))) written next shown monitor ⌝ }
+{
+    if effect::sets_more(exclusive, written, value, tainted) {
+        return Decision::Wrote(shown, effect::written_back(written, next, monitor));
+    }
+    Decision::Passed(shown)
+}
+
+// A load sets general registers, or vector registers.
+fn after_load(
+    t: Transfer,
+    written: u32,
+    at: usize,
+    next: u64,
+    shown: Shown,
+    monitor: Monitor,
+    memory: &[u8],
+    taint: &[u8],
+) -> Decision
+    requires { ⌜ Bounded t × (at + totalOf t ≤ length (now memory)) × (length (now taint) ≡ length (now memory)) ⌝ }
+    ensures { λ r. ⌜ r ≡ afterLoad t written at next shown monitor (now (memory .entry)) (now (taint .entry)) ⌝ }
+{
     if vectors::is_vector(t.target) {
         return Decision::Vectors(
             shown,
-            effect::written_back(written, next, after),
+            effect::written_back(written, next, monitor),
             effect::fills(t, at, memory, taint),
         );
     }
     Decision::Wrote(
         shown,
-        effect::loads(t, written, next, after, at, memory, taint),
+        effect::loads(t, written, next, monitor, at, memory, taint),
     )
 }

@@ -2,8 +2,10 @@
 -- this is how the two halves come to it.
 use Prim.Native.Nat.{ℕ, _+_, _-_, min}
 use mathlib.Core.Path.{_≡_}
+use mathlib.Core.Bool.{Bool}
 use mathlib.Core.List.{List, map}
 use lib.ListN.{length}
+use Rattle.bits.specs.Choice.{pick}
 use Rattle.bits.specs.Bytes.{joined, spanOf}
 use Rattle.bits.specs.Extension.{extendedOf}
 use Rattle.memory.specs.Taints.{normal}
@@ -12,13 +14,15 @@ use Rattle.registers.specs.declared.Registers.{Registers}
 use Rattle.registers.specs.File.{setAt}
 use Rattle.vectors.specs.declared.Halves.{Halves}
 use Rattle.vectors.specs.declared.VectorWrites.{VectorWrites}
-use Rattle.vectors.specs.File.{filesAfter, taintsAfter}
+use Rattle.vectors.specs.File.{filesAfter, taintsAfter, noWrites, vectorSlot}
+use Rattle.instruction.specs.declared.answer.Answer.the-variants.{Done}
 use Rattle.access.specs.declared.transfer.Transfer.{Transfer}
 use Rattle.machine.specs.Machine.{Machine, machineOf, nextPc}
-use Rattle.machine.specs.Step.{Step, stopped, moved}
+use Rattle.machine.specs.Step.{Step, stopped, moved, shown}
 use Rattle.machine.specs.declared.monitor.Monitor.{Monitor}
 use Rattle.machine.specs.declared.State.{State}
 use Rattle.machine.specs.declared.Shown.{Shown}
+use Rattle.machine.specs.declared.Stepped.{Stepped}
 use Rattle.machine.specs.declared.Decision.{Decision}
 use Rattle.machine.specs.declared.Decision.the-variants.{Refused, Passed, Wrote, Vectors}
 use Rattle.machine.specs.declared.effect.Writes.{Writes}
@@ -75,6 +79,17 @@ fillsOf t at m k =
       taint2 = halvesIn (map normal k) (at + t .bytes) (t .more);
     }
 
+-- ---- what an access that is made decides
+
+-- a store, by whether it leaves anything to set
+abbrev pub afterStore : Bool → ℕ → ℕ → Shown → Monitor → Decision
+afterStore more written next shown monitor = pick more (Wrote shown (basedOf written next monitor)) (Passed shown)
+
+-- a load at an index
+abbrev pub afterLoad : Transfer → ℕ → ℕ → ℕ → Shown → Monitor → List ℕ → List ℕ → Decision
+afterLoad t written at next shown monitor m k =
+    pick (vectorSlot (t .target)) (Vectors shown (basedOf written next monitor) (fillsOf t at m k)) (Wrote shown (loadsOf t written next monitor at m k))
+
 -- ---- the state after the second half
 
 -- no register is set
@@ -83,6 +98,13 @@ passedOn s = record { registers = s .registers; pc = nextPc (s .pc); monitor = s
 
 abbrev pub settledOf : Writes → State → State
 settledOf w s = record { registers = writtenOf w (s .registers); pc = nextPc (s .pc); monitor = w .monitor }
+
+-- what a step returns of a decision
+abbrev pub completedOf : State → Decision → Stepped
+completedOf s (Refused answer address) = record { state = s; answer = answer; shown = shown 0 address 0; vectors = noWrites }
+completedOf s (Passed shown) = record { state = passedOn s; answer = Done; shown = shown; vectors = noWrites }
+completedOf s (Wrote shown w) = record { state = settledOf w s; answer = Done; shown = shown; vectors = noWrites }
+completedOf s (Vectors shown w x) = record { state = settledOf w s; answer = Done; shown = shown; vectors = x }
 
 -- ---- both halves
 
