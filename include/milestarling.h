@@ -108,7 +108,11 @@ enum milestarling_answer {
     /* the numbers are those of no word's instruction */
     MILESTARLING_NO_SUCH_INSTRUCTION = 11,
     /* the lister is closed, or is said to hold more than three bytes */
-    MILESTARLING_CLOSED = 16
+    MILESTARLING_CLOSED = 16,
+    /* words, trace or statuses are too short for the steps, or a step is none that a run leaves */
+    MILESTARLING_BAD_TRACE = 17,
+    /* the step lies after the last one */
+    MILESTARLING_AFTER_END = 18
 };
 
 /* The length is 0 where the answer isn't. */
@@ -751,6 +755,10 @@ static inline const char *milestarling_answer_text(uint64_t answer)
         return "no word has this instruction";
     case MILESTARLING_CLOSED:
         return "the lister is closed, or is said to hold more than three bytes";
+    case MILESTARLING_BAD_TRACE:
+        return "the words, the trace or the statuses are too short for the steps, or no run leaves them so";
+    case MILESTARLING_AFTER_END:
+        return "the step asked about lies after the last one";
     default:
         return "this number is no answer's";
     }

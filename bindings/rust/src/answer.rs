@@ -46,6 +46,10 @@ pub enum Answer {
     NoSuchInstruction = 11,
     /// The lister is closed, or is said to hold more than three bytes.
     Closed = 16,
+    /// The words, the trace or the statuses are too short for the steps, or no run leaves them so.
+    BadTrace = 17,
+    /// The step asked about lies after the last one.
+    AfterEnd = 18,
 }
 
 impl Answer {
@@ -64,11 +68,13 @@ impl Answer {
         Answer::NoRoom,
         Answer::NoSuchInstruction,
         Answer::Closed,
+        Answer::BadTrace,
+        Answer::AfterEnd,
     ];
 
     /// The answer of each number up to the largest: not every number is an answer's.
-    const BY_NUMBER: [Option<Answer>; Answer::Closed as usize + 1] = {
-        let mut table = [None; Answer::Closed as usize + 1];
+    const BY_NUMBER: [Option<Answer>; Answer::AfterEnd as usize + 1] = {
+        let mut table = [None; Answer::AfterEnd as usize + 1];
         let mut place = 0;
         while place < Answer::ALL.len() {
             table[Answer::ALL[place] as usize] = Some(Answer::ALL[place]);
@@ -113,6 +119,10 @@ impl fmt::Display for Answer {
             Answer::NoRoom => "the buffer, the trace or the list of statuses lent is too short",
             Answer::NoSuchInstruction => "no word has this instruction",
             Answer::Closed => "the lister is closed, or is said to hold more than three bytes",
+            Answer::BadTrace => {
+                "the words, the trace or the statuses are too short for the steps, or no run leaves them so"
+            }
+            Answer::AfterEnd => "the step asked about lies after the last one",
         })
     }
 }

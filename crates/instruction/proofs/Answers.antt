@@ -1,17 +1,20 @@
 -- An answer's number tells which it is. Assumes nothing.
-use Prim.Native.Nat.{ℕ}
+use Prim.Native.Nat.{ℕ, _-_}
 use mathlib.Core.Path.{_≡_, refl, sym, ap, _∙_}
 use mathlib.Core.List.{_∷_, []}
+use lib.Dec.{ltb}
 use lib.ListN.{getD}
+use Rattle.bits.specs.Choice.{pick}
 use Rattle.instruction.specs.Types.{Answer}
 use Rattle.instruction.specs.Answers.{answerNumber}
 
+-- 12 to 15 are no number of an answer
 answerAt : ℕ → Answer
 answerAt n =
     getD
     (Answer.Done ∷ Answer.BadWindow ∷ Answer.NotInSet ∷ Answer.Undefined ∷ Answer.Unpredictable ∷ Answer.TaintedAddress ∷ Answer.Misaligned ∷ Answer.OutOfWindow
-    ∷ Answer.ReadOnly ∷ Answer.NoSuchText ∷ Answer.NoRoom ∷ Answer.NoSuchInstruction ∷ [])
-    n Answer.Closed
+    ∷ Answer.ReadOnly ∷ Answer.NoSuchText ∷ Answer.NoRoom ∷ Answer.NoSuchInstruction ∷ Answer.Closed ∷ Answer.BadTrace ∷ Answer.AfterEnd ∷ [])
+    (pick (ltb n 12) n (n - 4)) Answer.Done
 
 number-back : (a : Answer) → answerAt (answerNumber a) ≡ a
 unfolding answerAt
@@ -28,6 +31,8 @@ number-back Answer.NoSuchText = refl
 number-back Answer.NoRoom = refl
 number-back Answer.NoSuchInstruction = refl
 number-back Answer.Closed = refl
+number-back Answer.BadTrace = refl
+number-back Answer.AfterEnd = refl
 
 pub number-once : (a b : Answer) → answerNumber a ≡ answerNumber b → a ≡ b
 number-once a b e = sym (number-back a) ∙ ap answerAt e ∙ number-back b

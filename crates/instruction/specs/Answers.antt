@@ -16,3 +16,5 @@ answerNumber Answer.NoSuchText = 9
 answerNumber Answer.NoRoom = 10
 answerNumber Answer.NoSuchInstruction = 11
 answerNumber Answer.Closed = 16
+answerNumber Answer.BadTrace = 17
+answerNumber Answer.AfterEnd = 18

@@ -19,6 +19,8 @@ pub enum Answer {
     NoRoom,
     NoSuchInstruction,
     Closed,
+    BadTrace,
+    AfterEnd,
 }
 
 // 01's number of an answer.
@@ -39,6 +41,8 @@ pub fn answer_number(answer: Answer) -> u32
         Answer::NoRoom => 10,
         Answer::NoSuchInstruction => 11,
         Answer::Closed => 16,
+        Answer::BadTrace => 17,
+        Answer::AfterEnd => 18,
     }
 }
 
