@@ -62,11 +62,11 @@ walk-end f ws i m l last h = rw (drop-of-length-le ws) (halts i m l Done last)
 -- ---- lengths
 
 -- two numbers for each step done
-numbers-long : (ss : List Shown) → length (numbersOf ss) ≡ length ss * 2
+pub numbers-long : (ss : List Shown) → length (numbersOf ss) ≡ length ss * 2
 numbers-long [] = refl
 numbers-long (s ∷ ss) = omega (arith, numbers-long ss)
 
-statuses-long : (ss : List Shown) → length (statusesOf ss) ≡ length ss
+pub statuses-long : (ss : List Shown) → length (statusesOf ss) ≡ length ss
 statuses-long [] = refl
 statuses-long (s ∷ ss) = ap suc (statuses-long ss)
 
@@ -85,22 +85,22 @@ module _ {A : Type 0} (f : ℕ → A → Step A) where
   go-short m rest l k (moved n s) = omega (arith, k n s)
 
   -- no more steps than words
-  walk-short : (ws : List ℕ) (m : A) (last : Shown) → length (walkOf f ws m last .done) ≤ length ws
+  pub walk-short : (ws : List ℕ) (m : A) (last : Shown) → length (walkOf f ws m last .done) ≤ length ws
   unfolding walkOf
   walk-short [] m last = omega arith
   walk-short (w ∷ ws) m last = go-short m (walkOf f ws) (length ws) (walk-short ws) (f w m)
 
   module _ (ws : List ℕ) (m : A) (l : Log) (e : short ws l ≡ false) where
-    abbrev walked : List Shown
+    abbrev pub walked : List Shown
     walked = walkOf f ws m (shown 0 0 0) .done
 
     -- what the trace of a walk begins with, and its statuses
-    trace-begins : take ((0 + length walked) * 2) (logged 0 l walked .trace) ≡ numbersOf walked
+    pub trace-begins : take ((0 + length walked) * 2) (logged 0 l walked .trace) ≡ numbersOf walked
     trace-begins =
         let fit : length (numbersOf walked) ≤ length (l .trace) = omega (arith, long-enough ws l e .0, numbers-long walked, walk-short ws m (shown 0 0 0)) in
         rw (zero-add, ← numbers-long walked) (sets-front (numbersOf walked) (l .trace) fit)
 
-    statuses-begin : take (0 + length walked) (logged 0 l walked .statuses) ≡ statusesOf walked
+    pub statuses-begin : take (0 + length walked) (logged 0 l walked .statuses) ≡ statusesOf walked
     statuses-begin =
         let fit : length (statusesOf walked) ≤ length (l .statuses) = omega (arith, long-enough ws l e .1, statuses-long walked, walk-short ws m (shown 0 0 0)) in
         rw (zero-add, ← statuses-long walked) (sets-front (statusesOf walked) (l .statuses) fit)
@@ -157,12 +157,12 @@ module _ {A : Type 0} (R : A → A → Type 0) (f : ℕ → A → Step A) (shows
 -- ---- a rule over the steps done
 
 -- a log of just these steps
-abbrev logOf : List Shown → Log
+abbrev pub logOf : List Shown → Log
 logOf ss = log (numbersOf ss) (statusesOf ss)
 
 module _ {B : Type 0} (rule : ℕ → Shown → B → B) where
   -- one step more at the front
-  after-cons : (w : ℕ) (ws : List ℕ) (s : Shown) (ss : List Shown) (j : ℕ) (b : B) → afterSteps rule (w ∷ ws) (logOf (s ∷ ss)) (suc j) b ≡ afterSteps rule ws (logOf ss) j (rule w s b)
+  pub after-cons : (w : ℕ) (ws : List ℕ) (s : Shown) (ss : List Shown) (j : ℕ) (b : B) → afterSteps rule (w ∷ ws) (logOf (s ∷ ss)) (suc j) b ≡ afterSteps rule ws (logOf ss) j (rule w s b)
   unfolding afterSteps
   after-cons w ws s ss zero b = refl
   after-cons w ws s ss (suc j) b =
@@ -170,11 +170,11 @@ module _ {B : Type 0} (rule : ℕ → Shown → B → B) where
       let e : suc j * 2 + 1 ≡ suc (suc (j * 2 + 1)) = omega arith in
       rw (e, d, ← after-cons w ws s ss j b)
 
-  same-at : (t u : List ℕ) (n i : ℕ) → take n t ≡ take n u → i < n → getD t i 0 ≡ getD u i 0
+  pub same-at : (t u : List ℕ) (n i : ℕ) → take n t ≡ take n u → i < n → getD t i 0 ≡ getD u i 0
   same-at t u n i e l = sym (getD-take n t i 0 l) ∙ ap (λ (v : List ℕ). getD v i 0) e ∙ getD-take n u i 0 l
 
   -- what a log holds of the first steps decides
-  after-log : (ws : List ℕ) (t u : Log) (n j : ℕ) (b : B) → take (n * 2) (t .trace) ≡ take (n * 2) (u .trace) → take n (t .statuses) ≡ take n (u .statuses) → j ≤ n
+  pub after-log : (ws : List ℕ) (t u : Log) (n j : ℕ) (b : B) → take (n * 2) (t .trace) ≡ take (n * 2) (u .trace) → take n (t .statuses) ≡ take n (u .statuses) → j ≤ n
       → afterSteps rule ws t j b ≡ afterSteps rule ws u j b
   unfolding afterSteps
   after-log ws t u n zero b e f h = refl

@@ -65,8 +65,8 @@ pub fn run(
     )
 }
 
-// Answer 10, by the lengths of the words, the trace and the status list.
-fn is_short(words: usize, trace: usize, statuses: usize) -> bool
+// Whether a trace or a status list is shorter than so many words ask: answer 10.
+pub fn is_short(words: usize, trace: usize, statuses: usize) -> bool
     ensures { λ r. ⌜ r ≡ tooShort words trace statuses ⌝ }
 {
     if trace / 2 < words {

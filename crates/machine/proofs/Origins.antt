@@ -23,7 +23,7 @@ use Rattle.access.specs.declared.Access.the-variants.{Nothing, Moves}
 use Rattle.machine.proofs.Taints.{sets-kept}
 use Rattle.machine.specs.Rule.{Taints, moveRule, ruleOf}
 use Rattle.machine.specs.Monitor.{madeOf}
-use Rattle.machine.specs.route.Origins.{Place, ofRegister, ofMemory, Origin, none, from, taintOf, taintBy, originIn, among, originOf, originAt}
+use Rattle.machine.specs.Origins.{Place, ofRegister, ofMemory, Origin, none, from, taintOf, taintBy, originIn, among, originOf, originAt}
 
 -- ---- an element after setting one, and several
 

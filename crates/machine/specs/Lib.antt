@@ -1,5 +1,6 @@
 pub mod Monitor
 pub mod Rule
+pub mod Origins
 pub mod Machine
 pub mod Real
 pub mod Refusals

@@ -7,8 +7,10 @@ use access::Access;
 use access::Addressing;
 use access::Transfer;
 pub use effect::Writes;
+pub use effect::code;
 use instruction::Answer;
 pub use monitor::Monitor;
+pub use monitor::fails;
 use plan::Plan;
 pub use plan::Window;
 use registers::Registers;
@@ -209,7 +211,7 @@ pub fn decide<'a>(
 }
 
 // How long an array is, which nothing says of one behind a reference. No code comes of it.
-fn counted(numbers: [u64; 32])
+pub fn counted(numbers: [u64; 32])
     ensures { λ r. ⌜ length numbers ≡ 32 ⌝ }
 {
     nothing();

@@ -57,7 +57,8 @@ fn remains(address: u64, total: u64) -> bool
     address % total != 0
 }
 
-fn is_outside(total: u64, address: u64, origin: u64, len: u64) -> bool
+// Answer 7, of so many bytes at an address.
+pub fn is_outside(total: u64, address: u64, origin: u64, len: u64) -> bool
     ensures { λ r. ⌜ r ≡ outside total address origin len ⌝ }
 {
     if address < origin {

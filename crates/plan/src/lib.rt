@@ -7,6 +7,7 @@ mod window;
 
 use access::Addressing;
 use access::Transfer;
+pub use admission::is_outside;
 use instruction::Answer;
 pub use operands::Operands;
 pub use operands::operands_of;
@@ -14,6 +15,7 @@ pub use window::Window;
 pub use window::is_bad;
 ghost use mathlib.Core.Path.{_≡_};
 ghost use Rattle.plan.specs.Admission.{admitOf};
+ghost use Rattle.plan.specs.Refusals.{answerIn};
 ghost use Rattle.plan.specs.Plans.{misalignedStack, planOf};
 
 // A refusal has an answer and the address that it reports; a touch the address of the first byte, and the
@@ -45,6 +47,13 @@ pub fn planned(
         return Plan::Refuse(answer, address);
     }
     Plan::Touch(address, sum)
+}
+
+// What an access at an address is refused with, whatever the registers hold.
+pub fn admitted(transfer: Transfer, address: u64, window: Window, len: u64) -> Answer
+    ensures { λ r. ⌜ r ≡ answerIn (admitOf window len transfer address) ⌝ }
+{
+    admission::admission(transfer, address, window, len)
 }
 
 // Whether SP is the base of an access and not a multiple of 16.
