@@ -1,0 +1,9 @@
+pub mod Sources
+pub mod Trails
+pub mod Traces
+pub mod Runs
+pub mod Said
+pub mod Spots
+pub mod Starts
+pub mod Walked
+pub mod Tests

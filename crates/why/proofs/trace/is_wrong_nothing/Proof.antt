@@ -1,0 +1,11 @@
+-- `why::trace::is_wrong_nothing` meets its contract. Assumes nothing.
+use borrow.Author.Tests.{eq-eqb, ne-eqb}
+use Rattle.why.proofs.trace.is_wrong_nothing.Statement.{statement}
+use Rattle.why.proofs.trace.is_wrong_nothing.Tie as tie
+
+pub is-wrong-nothing-spec : {M : Type 1} → statement M
+is-wrong-nothing-spec =
+    tie.close
+    (tie.spec
+    (λ c. rw (eq-eqb _ _ (c .if1 .taken)))
+    (λ c. rw (ne-eqb _ _ (c .if1 .left))))
