@@ -2,4 +2,5 @@ pub mod Answered
 pub mod Demands
 pub mod Library
 pub mod Numbers
+pub mod Why
 pub mod Vectors

@@ -154,7 +154,7 @@ vector-above vectors vector-taint n value marks h g l =
 
 -- ---- a run
 
-run-gives : (c : RunCall) → RunGives c (machineRun (c .window) (c .words) (runStart c) (lentLog c))
+pub run-gives : (c : RunCall) → RunGives c (machineRun (c .window) (c .words) (runStart c) (lentLog c))
 run-gives c =
     let (values, vectors) = held-part (c .reply .session .registers .value) (c .after .vectors) (c .held′ .values) (ap (λ (h : Hosted). h .machine .values) (c .allowed)) in
     let (marks, vector-marks) = held-part (c .reply .session .registers .taint) (c .after .vector-taint) (c .held′ .taints) (ap (λ (h : Hosted). h .machine .taints .registers) (c .allowed)) in

@@ -2,3 +2,4 @@ pub mod Answered
 pub mod Demands
 pub mod Library
 pub mod Numbers
+pub mod Why
