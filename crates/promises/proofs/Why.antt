@@ -170,7 +170,7 @@ why =
       vector-link = vector-slot-of;
       memory-link = λ origin j step. refl;
       listed = λ origin l ls. refl;
-      few = λ c. rw (count-is c) (said-few (c .window) (c .memory-length) (pastOf c) (c .steps) (c .step) (c .question) (c .links));
+      few = λ c. omega (arith, count-is c, said-few (c .window) (c .memory-length) (pastOf c) (c .steps) (c .step) (c .question) (c .links));
       run-asked = call-asked;
       run-told = call-told;
     }

@@ -25,7 +25,7 @@ use Rattle.why.specs.declared.source.Spot.the-variants.{Part, Cell}
 use Rattle.why.specs.declared.source.Came.{Came}
 use Rattle.why.specs.declared.source.Came.the-variants.{Kept, Cleared, Copied}
 use Rattle.why.specs.Trail.{originBefore}
-use Rattle.why.specs.route.Came.{spotPlace, originBy, loadedFrom, writtenCame, partIn, cellIn, cameOf, Steps, pastOf, cameAt, accessAt, indexAt}
+use Rattle.why.specs.route.Came.{spotPlace, originBy, loadedFrom, writtenCame, cellCame, partIn, cellIn, cameOf, Steps, pastOf, cameAt, accessAt, indexAt}
 use Rattle.why.proofs.Sources.{source-at}
 
 -- ---- a byte of a number
@@ -178,3 +178,20 @@ pub origin-came : (g : Steps) (u k : List ℕ) (j : ℕ) (q : Spot) → originBe
 unfolding cameOf
 origin-came g u k j (Part n) = part-at (accessAt g j) (shownAt (g .log) j .status) (indexAt g j) n (ltb 1023 n) refl
 origin-came g u k j (Cell i) = cell-at (accessAt g j) (shownAt (g .log) j .status) (indexAt g j) i (bounded (getD (g .words) j 0))
+
+-- ---- a byte of memory, test by test
+
+module _ (t : Transfer) (status at i : ℕ) (s : not (t .store) ≡ false) where
+  pub came-failed : fails t status ≡ true → Kept ≡ cellCame t status at i
+  came-failed f = rw (s, f)
+
+  module _ (f : fails t status ≡ false) where
+    pub came-second : among i (at + t .bytes) (t .more) ≡ true → (n : ℕ) → n ≡ 16 * t .second + (i - (at + t .bytes)) % 16 → Copied n ≡ cellCame t status at i
+    came-second m n e = rw (s, f, m, e)
+
+    module _ (m : among i (at + t .bytes) (t .more) ≡ false) where
+      pub came-first : among i at (t .bytes) ≡ true → (n : ℕ) → n ≡ 16 * t .target + (i - at) % 16 → Copied n ≡ cellCame t status at i
+      came-first k n e = rw (s, f, m, k, e)
+
+      pub came-kept : among i at (t .bytes) ≡ false → Kept ≡ cellCame t status at i
+      came-kept k = rw (s, f, m, k)

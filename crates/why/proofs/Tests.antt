@@ -98,6 +98,34 @@ asks w len ws trace statuses u k steps step q a small far =
     fits : (g : Steps) (k : List ℕ) (j : ℕ) → indexAt g j + totalIn (accessAt g j) ≤ length k → length k < 2 ^ 64 → indexAt g j + totalIn (accessAt g j) < 2 ^ 64
     fits g k j h s = omega arith
 
+-- ---- the first test that holds
+
+module _ (w : Window) (len : ℕ) (g : Past) (steps step : ℕ) (q : Question) where
+  abbrev first : Answer
+  first = answerIn (earlyRefusals w len g steps step q)
+
+  pub first-window : badWindow w len (length (g .start .bytes)) 0 ≡ true → BadWindow ≡ first
+  first-window a = rw a
+
+  module _ (a : badWindow w len (length (g .start .bytes)) 0 ≡ false) where
+    pub first-byte : noByte w len q ≡ true → OutOfWindow ≡ first
+    first-byte b = rw (a, b)
+
+    module _ (b : noByte w len q ≡ false) where
+      pub first-register : noRegister q ≡ true → NoSuchInstruction ≡ first
+      first-register c = rw (a, b, c)
+
+      module _ (c : noRegister q ≡ false) where
+        pub first-trace : wrongTrace w len (g .words) (g .log) steps ≡ true → BadTrace ≡ first
+        first-trace d = rw (a, b, c, d)
+
+        module _ (d : wrongTrace w len (g .words) (g .log) steps ≡ false) where
+          pub first-step : steps < step → AfterEnd ≡ first
+          first-step e = rw (a, b, c, d, lt-ltb steps step e)
+
+          pub first-none : step ≤ steps → Done ≡ first
+          first-none e = rw (a, b, c, d, le-ltb steps step e)
+
 -- ---- what is said
 
 told-by : (origin : ℕ) (b : Bool) (xs : List Link) (before after : List ℕ) (n : ℕ) → ¬ (length (pick b xs []) ≡ 0) → length (pick b xs []) * 3 ≤ length before → after ≡ putAll origin 0 xs before → n ≡ pick b (0 + length xs) 0

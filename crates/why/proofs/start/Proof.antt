@@ -1,41 +1,26 @@
 -- `why::start` meets its contract. Assumes nothing.
+use mathlib.Core.Path.{_≡_}
+use mathlib.Core.List.{[], _∷_}
 use borrow.Author.Needs.{needs}
+use Rattle.why.specs.route.Reached.{putOne}
 use Rattle.why.proofs.start.Statement.{statement}
 use Rattle.why.proofs.start.Tie as tie
-
-put-requires : tie.Need-put-requires
-put-requires c κs = search needs
-
-add-ended : tie.Need-add-ended
-add-ended c = search needs
-
-ended-requires : tie.Need-ended-requires
-ended-requires c κs = search needs
-
-same-length : tie.Need-same-length
-same-length c = search needs
-
-returns : tie.Need-returns
-returns c = (rw (c .before .if1 .taken) (c .ended .ensures), c .before .before .before .before .put .ensures)
-
-ended-requires-2 : tie.Need-ended-requires-2
-ended-requires-2 c κs = search needs
-
-same-length-2 : tie.Need-same-length-2
-same-length-2 c = search needs
-
-returns-2 : tie.Need-returns-2
-returns-2 c = (rw (c .before .if1 .left) (c .ended2 .ensures), c .before .before .before .before .put .ensures)
 
 pub start-spec : {M : Type 1} → statement M
 start-spec =
     tie.close
     (tie.spec
-    put-requires
-    add-ended
-    ended-requires
-    same-length
-    returns
-    ended-requires-2
-    same-length-2
-    returns-2)
+    (λ c κs. search needs)
+    (λ c. search needs)
+    (λ c κs. search needs)
+    (λ c. search needs)
+    (λ c.
+    let a = c .before .before .before .before .before .before .before .args in
+    let put : _ ≡ putOne (a .depth) (a .kind ∷ a .number ∷ 0 ∷ []) (a .links .now) = c .before .before .before .before .put .ensures in
+    (rw (c .before .if1 .taken) (c .ended .ensures), put))
+    (λ c κs. search needs)
+    (λ c. search needs)
+    (λ c.
+    let a = c .before .before .before .before .before .before .before .args in
+    let put : _ ≡ putOne (a .depth) (a .kind ∷ a .number ∷ 0 ∷ []) (a .links .now) = c .before .before .before .before .put .ensures in
+    (rw (c .before .if1 .left) (c .ended2 .ensures), put)))
