@@ -1,12 +1,12 @@
 -- The page of "why" holds: each sentence is a theorem of the crate, carried over the equation of the contract. Assumes nothing.
-use Prim.Native.Nat.{ℕ, suc, _+_, _*_, _%_, _≤_, _<_}
-use mathlib.Core.Path.{_≡_, refl, sym, ap, subst, _∙_}
+use Prim.Native.Nat.{ℕ, _+_, _*_, _%_, _≤_, _<_}
+use mathlib.Core.Path.{_≡_, refl, sym, ap, _∙_}
 use mathlib.Core.Bool.{Bool, true, false}
 use mathlib.Core.List.{List, [], _∷_, _++_, map}
 use mathlib.Core.Logic.{_↔_}
 use native.Mathlib.Omega.{arith}
 use borrow.Author.Tests.{eqb-true, eqb-false, eq-eqb, ne-eqb, lt-ltb, le-ltb}
-use lib.Dec.{eqb, ltb}
+use lib.Dec.{eqb}
 use lib.ListN.{length, length-append}
 use lib.Seq.{sets}
 use Rattle.instruction.specs.declared.answer.Answer.the-variants.{Done}
@@ -15,7 +15,6 @@ use Rattle.vectors.specs.File.{wide}
 use Rattle.vectors.proofs.Slots.{length-map}
 use Rattle.plan.specs.declared.window.Window.{Window}
 use Rattle.plan.proofs.Refusals.{first-by}
-use Rattle.machine.specs.Machine.{Machine}
 use Rattle.machine.specs.Step.{stepOf}
 use Rattle.machine.specs.Origins.{ofRegister, taintOf}
 use Rattle.execution.specs.Walk.{Log, log}
@@ -23,7 +22,7 @@ use Rattle.execution.specs.Ends.{alone}
 use Rattle.execution.specs.Run.{machineRun}
 use Rattle.why.specs.declared.Question.{Question}
 use Rattle.why.specs.Trail.{Past, lent, taintsAt, Link, link, numbersOf}
-use Rattle.why.specs.Reply.{placeOf, linksOf, whyRefusals, flat, Said, saidOf}
+use Rattle.why.specs.Reply.{linksOf, whyRefusals, flat, Said, saidOf}
 use Rattle.why.specs.Links.{Explains, ranPast}
 use Rattle.why.proofs.Said.{said-unmarked, said-explained, answered, said-few, answer-given, refused-unchanged, run-asked, run-told}
 use Rattle.promises.specs.Answered.{oneOf}
