@@ -32,7 +32,8 @@
  *
  * A compiler that can warns where what a function answers is dropped (MILESTARLING_MUST_USE).
  *
- * The last part of this file has the run and the step over a struct for memory, whose parts can't be taken for each other.
+ * The last part of this file has the run, the step and the question why a byte is tainted over structs, whose parts can't be
+ * taken for each other.
  */
 #ifndef MILESTARLING_H
 #define MILESTARLING_H
@@ -69,6 +70,10 @@ extern "C" {
 #define MILESTARLING_TRACE_NUMBERS 2
 #define MILESTARLING_STORE_CODE 64
 
+/* The numbers of a list of links for each link, and by what a link's number multiplies that of a register. */
+#define MILESTARLING_LINK_NUMBERS 3
+#define MILESTARLING_LINK_BYTES 16
+
 /* The bytes of a word, and the most bytes of the line for bytes that are left over. */
 #define MILESTARLING_WORD_BYTES 4
 #define MILESTARLING_SHORT_MAX 10
@@ -97,15 +102,15 @@ enum milestarling_answer {
     /* SP as the base that isn't a multiple of 16 (the address is SP), an ordered access that isn't inside one block of
        16 bytes, or an exclusive access whose address isn't a multiple of its size */
     MILESTARLING_MISALIGNED = 6,
-    /* an access that isn't inside memory */
+    /* an access that isn't inside memory, or a byte asked about that isn't */
     MILESTARLING_OUT_OF_WINDOW = 7,
     /* a store to the read-only part */
     MILESTARLING_READ_ONLY = 8,
     /* the text is no instruction's line */
     MILESTARLING_NO_SUCH_TEXT = 9,
-    /* a slice is too short for what belongs there: a text, lines, a trace or a list of statuses */
+    /* a slice is too short for what belongs there: a text, lines, a trace, or a list of statuses or links */
     MILESTARLING_NO_ROOM = 10,
-    /* the numbers are those of no word's instruction */
+    /* the numbers are those of no word's instruction; or a kind of place, a register or a byte of one that there isn't */
     MILESTARLING_NO_SUCH_INSTRUCTION = 11,
     /* the lister is closed, or is said to hold more than three bytes */
     MILESTARLING_CLOSED = 16,
@@ -265,6 +270,12 @@ struct milestarling_lister_reply {
     uint64_t length;
 };
 
+/* How many links there are: 0 where the place isn't tainted, and where the answer isn't 0. */
+struct milestarling_why_reply {
+    uint64_t answer;
+    uint64_t links;
+};
+
 /*
  * Does a step for each word, in order, up to the first that is refused. A refused step changes nothing.
  *
@@ -337,6 +348,69 @@ struct milestarling_session milestarling_opened(struct milestarling_session sess
 MILESTARLING_MUST_USE
 struct milestarling_session milestarling_observed(
     struct milestarling_session session, uint64_t code, uint64_t address, uint64_t status);
+
+/* The kinds of places whose taint is asked about. */
+enum milestarling_place_kind {
+    MILESTARLING_PLACE_REGISTER = 0, /* a byte of x0 to x30 or sp */
+    MILESTARLING_PLACE_MEMORY = 1,   /* a byte of memory */
+    MILESTARLING_PLACE_VECTOR = 2    /* a byte of v0 to v31 */
+};
+
+/*
+ * Why a place is tainted just before a step of a run. Each byte has its taint from the one byte that it was copied from, so that
+ * the reason is a list of links: the place, the byte that it was copied from by a load or a store, the byte that this was copied
+ * from at an earlier step, and so on, back to a byte that was tainted at the start.
+ *
+ * words            those of the run, of which there may be more than its steps
+ * trace            as the run has written it
+ * statuses         as the run has written them
+ * steps            how many steps the run has done, refused then or not
+ * register_taint   the taints of the 32 registers before the run, as in the record
+ * vector_taint     those of the 32 vector registers before it
+ * taint            the taint bytes of memory before it
+ * origin           the address of memory's first byte
+ * readonly         how many bytes at the start of memory aren't stored to
+ * memory_length    how many bytes memory has
+ * step             counted from 0; the number of steps stands for the end
+ * kind             enum milestarling_place_kind
+ * number           of the register, 0 to 31, where 31 is sp or v31; or the address of the byte of memory
+ * byte             of the register, 0 to 7, or 0 to 15 of a vector register, from the lowest; of memory it isn't looked at
+ * links            three numbers for each link, the latest link first: the kind; 16 times the register plus the byte, or the
+ *                  address; and the step that tainted this place plus 1, or 0 for the start
+ *
+ * A run changes the taints that it is lent, so that a host that means to ask keeps a copy of them from before. One that steps a
+ * word at a time keeps each word that was done, with the code, the address and the status of its reply. What a host sets or
+ * stores by itself is in no trace: there it begins a new one, with a new copy of the taints. Bytes of memory and values of
+ * registers aren't handed in, so that no link tells one.
+ *
+ * Answers, of which the first that holds is given; the list changes only with 0, and a longer one keeps its rest:
+ *
+ *  1   memory ends above the address space or is shorter than its read-only part, or it hasn't as many bytes as taint bytes
+ *  7   the byte of memory isn't inside it
+ * 11   there is no such kind, register or byte of a register
+ * 17   words, trace or statuses are too short for the steps; or some step, after the one asked about too, is none that a run
+ *      leaves: its word has answer 2, 3 or 4, its code isn't the word's, its status is neither 0 nor 1, the address of a
+ *      prefetch isn't 0, or that of an access would be refused with 6 (but for SP's own value), 7 or 8. A status of 1 where the
+ *      word is no store-exclusive says nothing
+ * 18   the step lies after the last one
+ * 10   the list has fewer than three numbers for each link
+ *  0   the links are written, or there are none, and the place isn't tainted
+ *
+ * There are never more than step + 1 links: a list of MILESTARLING_LINK_NUMBERS * (step + 1) numbers always suffices.
+ * milestarling_session_why, below, takes the same from where it stands. Before C23 strict C wants a cast here for taints of vector
+ * registers that aren't const, and none there.
+ */
+MILESTARLING_MUST_USE
+struct milestarling_why_reply milestarling_why(
+    const uint32_t *words, size_t words_length,
+    const uint64_t *trace, size_t trace_length,
+    const uint8_t *statuses, size_t statuses_length,
+    uint64_t steps,
+    const struct milestarling_taint *register_taint, const struct milestarling_taint (*vector_taint)[2],
+    const uint8_t *taint, size_t taint_length,
+    uint64_t origin, uint64_t readonly, uint64_t memory_length,
+    uint64_t step, uint64_t kind, uint64_t number, uint64_t byte,
+    uint64_t *links, size_t links_length);
 
 /*
  * Writes the line of text of a word to the start of a buffer, without a zero at its end. Answers 0, 2, 3 or 10;
@@ -721,6 +795,111 @@ static inline void milestarling_observe_run(
     uint64_t i;
     for (i = 0; i < steps && session->monitor_size != 0; i++)
         *session = milestarling_observed(*session, trace[i].code, trace[i].address, statuses[i]);
+}
+
+/* ---- Why a byte is tainted, over structs. */
+
+/* A byte whose taint is asked about. */
+struct milestarling_place {
+    uint64_t kind;   /* enum milestarling_place_kind */
+    uint64_t number; /* of the register, or the address */
+    uint64_t byte;   /* of the register, from the lowest */
+};
+
+/* A byte of x0 to x30 or sp, of v0 to v31, and of memory. One that there isn't is refused when it is asked about, with 11 or 7. */
+MILESTARLING_MUST_USE
+static inline struct milestarling_place milestarling_place_register(uint64_t number, uint64_t byte)
+{
+    struct milestarling_place place;
+    place.kind = MILESTARLING_PLACE_REGISTER;
+    place.number = number;
+    place.byte = byte;
+    return place;
+}
+
+MILESTARLING_MUST_USE
+static inline struct milestarling_place milestarling_place_vector(uint64_t number, uint64_t byte)
+{
+    struct milestarling_place place = milestarling_place_register(number, byte);
+    place.kind = MILESTARLING_PLACE_VECTOR;
+    return place;
+}
+
+MILESTARLING_MUST_USE
+static inline struct milestarling_place milestarling_place_memory(uint64_t address)
+{
+    struct milestarling_place place = milestarling_place_register(address, 0);
+    place.kind = MILESTARLING_PLACE_MEMORY;
+    return place;
+}
+
+/* One link, as milestarling_why writes its three numbers. */
+struct milestarling_link {
+    uint64_t kind;   /* enum milestarling_place_kind */
+    uint64_t number; /* 16 times the register plus the byte, or the address */
+    uint64_t step;   /* the step that tainted it plus 1, by words[step - 1], or 0 for the start */
+};
+
+/* The register of a link, 0 to 31, of either kind; 0 for a byte of memory, whose address is the link's number. */
+MILESTARLING_MUST_USE
+static inline uint64_t milestarling_link_register(struct milestarling_link link)
+{
+    return link.kind == MILESTARLING_PLACE_MEMORY ? 0 : link.number / MILESTARLING_LINK_BYTES;
+}
+
+/* The byte of that register, 0 to 7, or to 15 of a vector register; 0 for a byte of memory. */
+MILESTARLING_MUST_USE
+static inline uint64_t milestarling_link_byte(struct milestarling_link link)
+{
+    return link.kind == MILESTARLING_PLACE_MEMORY ? 0 : link.number % MILESTARLING_LINK_BYTES;
+}
+
+/* What a run started with: the session and its vector registers, of which only the taints are looked at, the taint bytes of
+   memory, and memory's place and length. The run changes the first three, so that the host points to copies from before it. */
+struct milestarling_start {
+    const struct milestarling_session *session;
+    const struct milestarling_vectors *vectors;
+    const uint8_t *taint;
+    size_t taint_length;
+    uint64_t origin;
+    uint64_t readonly;
+    uint64_t memory_length;
+};
+
+/* What it was handed and has left: words, trace and statuses, and the steps of its reply. */
+struct milestarling_history {
+    const uint32_t *words;
+    size_t words_length;
+    const struct milestarling_access *trace;
+    size_t trace_length;
+    const uint8_t *statuses;
+    size_t statuses_length;
+    uint64_t steps;
+};
+
+/*
+ * milestarling_why of a run, by its start and its history. There is room for links_length links, of which there are never more
+ * than step + 1. What has length 0 may be null, but neither the session nor the vector registers.
+ */
+MILESTARLING_MUST_USE
+static inline struct milestarling_why_reply milestarling_session_why(
+    struct milestarling_start start, struct milestarling_history history,
+    uint64_t step, struct milestarling_place place,
+    struct milestarling_link *links, size_t links_length)
+{
+    const uint32_t no_words[1] = {0};
+    const uint64_t no_trace[1] = {0};
+    const uint8_t no_statuses[1] = {0}, no_taint[1] = {0};
+    uint64_t no_links[1] = {0};
+    return milestarling_why(
+        history.words_length != 0 ? history.words : no_words, history.words_length,
+        history.trace_length != 0 ? &history.trace->code : no_trace, MILESTARLING_TRACE_NUMBERS * history.trace_length,
+        history.statuses_length != 0 ? history.statuses : no_statuses, history.statuses_length,
+        history.steps, start.session->value_taint, start.vectors->taint,
+        start.taint_length != 0 ? start.taint : no_taint, start.taint_length,
+        start.origin, start.readonly, start.memory_length,
+        step, place.kind, place.number, place.byte,
+        links_length != 0 ? &links->kind : no_links, MILESTARLING_LINK_NUMBERS * links_length);
 }
 
 /* An answer in words, those of docs/ANSWERS.md. */

@@ -36,6 +36,9 @@ typedef char run_reply_has_568_bytes[sizeof(struct milestarling_run_reply) == 56
 typedef char lister_has_5_bytes[sizeof(struct milestarling_lister) == 5 ? 1 : -1];
 typedef char lister_reply_has_24_bytes[sizeof(struct milestarling_lister_reply) == 24 ? 1 : -1];
 typedef char memory_has_48_bytes[sizeof(struct milestarling_memory) == 48 ? 1 : -1];
+typedef char why_reply_has_16_bytes[sizeof(struct milestarling_why_reply) == 16 ? 1 : -1];
+typedef char link_has_24_bytes[sizeof(struct milestarling_link) == 8 * MILESTARLING_LINK_NUMBERS ? 1 : -1];
+typedef char access_has_16_bytes[sizeof(struct milestarling_access) == 8 * MILESTARLING_TRACE_NUMBERS ? 1 : -1];
 
 static int same(const struct milestarling_session *one, const struct milestarling_session *other)
 {
@@ -484,6 +487,80 @@ static void a_vector_register_copies_taints(void)
     hold(ran.answer == MILESTARLING_NO_ROOM && same_vectors(&vectors, &before), "a refusal changes no vector register");
 }
 
+static int same_link(struct milestarling_link link, uint64_t kind, uint64_t number, uint64_t step)
+{
+    return link.kind == kind && link.number == number && link.step == step;
+}
+
+/* Of no run at all, and with neither memory nor room: what is tainted is so from the start. */
+static void the_start_is_explained(void)
+{
+    struct milestarling_session session;
+    struct milestarling_start start;
+    struct milestarling_history history;
+    struct milestarling_why_reply why;
+    struct milestarling_link link = {9, 9, 9};
+    memset(&session, 0, sizeof session);
+    memset(&start, 0, sizeof start);
+    memset(&history, 0, sizeof history);
+    milestarling_set_register(&session, MILESTARLING_SP, 0, milestarling_taint_bytes(7, 1));
+    start.session = &session;
+    start.vectors = &unused;
+    why = milestarling_session_why(start, history, 0, milestarling_place_register(MILESTARLING_SP, 6), NULL, 0);
+    hold(why.answer == MILESTARLING_DONE && why.links == 0, "a byte that isn't tainted");
+    why = milestarling_session_why(start, history, 0, milestarling_place_register(MILESTARLING_SP, 7), NULL, 0);
+    hold(why.answer == MILESTARLING_NO_ROOM && why.links == 0, "one that is, and no room");
+    why = milestarling_session_why(start, history, 0, milestarling_place_register(MILESTARLING_SP, 7), &link, 1);
+    hold(why.answer == MILESTARLING_DONE && why.links == 1, "and room");
+    hold(same_link(link, MILESTARLING_PLACE_REGISTER, 16 * 31 + 7, 0), "sp");
+    hold(milestarling_link_register(link) == MILESTARLING_SP && milestarling_link_byte(link) == 7, "its number and its byte");
+    why = milestarling_session_why(start, history, 0, milestarling_place_vector(31, 15), &link, 1);
+    hold(why.answer == MILESTARLING_DONE && why.links == 1, "a vector register");
+    hold(same_link(link, MILESTARLING_PLACE_VECTOR, 16 * 31 + 15, 0), "v31");
+    hold(milestarling_link_register(link) == 31 && milestarling_link_byte(link) == 15, "its number and its byte");
+    why = milestarling_session_why(start, history, 0, milestarling_place_memory(0), &link, 1);
+    hold(why.answer == MILESTARLING_OUT_OF_WINDOW && why.links == 0, "no memory");
+    why = milestarling_session_why(start, history, 1, milestarling_place_vector(31, 15), &link, 1);
+    hold(why.answer == MILESTARLING_AFTER_END && why.links == 0, "no step");
+}
+
+/* A tainted byte is copied, and taken for an index, which is refused: by the structs, and by the numbers themselves. */
+static void a_copy_is_explained(void)
+{
+    struct milestarling_memory memory = small();
+    struct milestarling_session session, before;
+    struct milestarling_access trace[3];
+    struct milestarling_link links[4];
+    struct milestarling_why_reply why;
+    uint8_t statuses[3], taint_before[sizeof bytes];
+    const uint32_t words[3] = {0x39400c02, 0x39002402, 0x38626801}; /* ldrb w2, [x0, #3]; strb w2, [x0, #9]; ldrb w1, [x0, x2] */
+    const struct milestarling_start start = {&before, &unused, taint_before, sizeof taint_before, memory.origin, 0, memory.length};
+    struct milestarling_history history = {words, 3, trace, 3, statuses, 3, 0};
+    memset(&session, 0, sizeof session);
+    memset(links, 0xff, sizeof links);
+    milestarling_set_register(&session, 0, 4096, MILESTARLING_TAINT_NONE);
+    taint[3] = 255;
+    before = session;
+    memcpy(taint_before, taint, sizeof taint_before);
+    history.steps = milestarling_session_run(memory, &session, &unused, words, 3, trace, 3, statuses, 3).steps;
+    hold(history.steps == 2 && milestarling_tainted(&session, 2) && taint[9] == 1, "an index that is tainted");
+
+    why = milestarling_session_why(start, history, 2, milestarling_place_memory(4105), links, 2);
+    hold(why.answer == MILESTARLING_NO_ROOM && why.links == 0 && links[0].kind == UINT64_MAX, "no room for three links");
+    why = milestarling_session_why(start, history, 2, milestarling_place_memory(4105), links, 4);
+    hold(why.answer == MILESTARLING_DONE && why.links == 3, "a copy's links");
+    hold(same_link(links[0], MILESTARLING_PLACE_MEMORY, 4105, 2), "it was stored");
+    hold(same_link(links[1], MILESTARLING_PLACE_REGISTER, 16 * 2, 1), "of a register that was loaded");
+    hold(same_link(links[2], MILESTARLING_PLACE_MEMORY, 4099, 0), "from a byte tainted at the start");
+    hold(same_link(links[3], UINT64_MAX, UINT64_MAX, UINT64_MAX), "and the rest is kept");
+    hold(milestarling_link_register(links[2]) == 0 && milestarling_link_byte(links[2]) == 0, "a byte of memory has no register");
+    why = milestarling_why(words, 3, &trace->code, 6, statuses, 3, 2, before.value_taint, start.vectors->taint, taint_before, 16, 4096,
+        0, 16, 2, MILESTARLING_PLACE_REGISTER, 2, 0, &links->kind, 6);
+    hold(why.answer == MILESTARLING_DONE && why.links == 2, "by the numbers themselves");
+    hold(same_link(links[0], MILESTARLING_PLACE_REGISTER, 16 * 2, 1) && same_link(links[1], MILESTARLING_PLACE_MEMORY, 4099, 0)
+        && same_link(links[2], MILESTARLING_PLACE_MEMORY, 4099, 0), "and no more");
+}
+
 int main(void)
 {
     uint64_t answer;
@@ -503,6 +580,8 @@ int main(void)
     vector_registers_are_read_and_set();
     a_load_clears_what_it_does_not_fill();
     a_vector_register_copies_taints();
+    the_start_is_explained();
+    a_copy_is_explained();
     hold(same_vectors(&unused, &before), "words without vector registers leave them alone");
     hold(milestarling_list(over, 3, short_line, sizeof short_line).length == MILESTARLING_SHORT_MAX, "the short line");
     for (answer = 0; answer < 64; answer++) {

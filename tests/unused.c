@@ -26,9 +26,13 @@ int main(void)
     struct milestarling_lister lister = {0, 0, 0, 0, 0};
     struct milestarling_instruction numbers = {0, 0, 0, 0, 0, 0, 0, 0, 0, 0, 0, 0, 0};
     uint8_t bytes[4] = {0}, taint[4] = {0}, statuses[1] = {0};
-    uint64_t trace[2] = {0};
+    uint64_t trace[2] = {0}, numbered[3] = {0};
     const struct milestarling_taint none = MILESTARLING_TAINT_NONE;
     const uint32_t words[1] = {0};
+    const struct milestarling_start start = {&session, &vectors, NULL, 0, 0, 0, 0};
+    const struct milestarling_history history = {NULL, 0, NULL, 0, NULL, 0, 0};
+    const struct milestarling_place place = {0, 0, 0};
+    const struct milestarling_link link = {0, 0, 0};
 
     ANSWER(struct milestarling_run_reply, milestarling_run(words, 1, session, vectors.value, vectors.taint, 0, 0, bytes, 4, taint, 4,
         trace, 2, statuses, 1));
@@ -36,6 +40,8 @@ int main(void)
     ANSWER(struct milestarling_vector_register, milestarling_vector(0, kept->value, kept->taint));
     ANSWER(struct milestarling_session, milestarling_opened(session));
     ANSWER(struct milestarling_session, milestarling_observed(session, 0, 0, 0));
+    ANSWER(struct milestarling_why_reply, milestarling_why(words, 1, trace, 2, statuses, 1, 0, session.value_taint, kept->taint,
+        taint, 4, 0, 0, 4, 0, 0, 0, 0, numbered, 3));
     ANSWER(struct milestarling_text_reply, milestarling_text(0, bytes, 4));
     ANSWER(struct milestarling_word_reply, milestarling_word(bytes, 4));
     ANSWER(struct milestarling_text_reply, milestarling_list(bytes, 4, taint, 4));
@@ -57,6 +63,12 @@ int main(void)
     ANSWER(int, milestarling_vectors_tainted(&vectors, 0));
     ANSWER(struct milestarling_run_reply, milestarling_session_run(memory, &session, &vectors, words, 1, NULL, 0, statuses, 1));
     ANSWER(struct milestarling_step_reply, milestarling_session_step(memory, &session, &vectors, 0));
+    ANSWER(struct milestarling_place, milestarling_place_register(0, 0));
+    ANSWER(struct milestarling_place, milestarling_place_vector(0, 0));
+    ANSWER(struct milestarling_place, milestarling_place_memory(0));
+    ANSWER(uint64_t, milestarling_link_register(link));
+    ANSWER(uint64_t, milestarling_link_byte(link));
+    ANSWER(struct milestarling_why_reply, milestarling_session_why(start, history, 0, place, NULL, 0));
     ANSWER(const char *, milestarling_answer_text(0));
     return 0;
 }
