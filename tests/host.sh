@@ -29,10 +29,12 @@ try turns.c tests/turns.expected examples/lock.bin
 try plugin.c tests/plugin.expected examples/plugin/{compare,compare_early,look_up,look_up_kind,copy_by_kind,copy_by_letter}.bin
 echo "host: the examples wrote what tests/*.expected have"
 
-# Instructions as numbers, held against their text.
+# Instructions as numbers, held against their text; and why a byte is tainted, against answers worked by hand.
 for level in -O0 -O2; do
-    cc -std=c11 "$level" "${strict[@]}" -Iinclude -o "$room/records" tests/records.c "$archive"
-    "$room/records"
+    for program in records why; do
+        cc -std=c11 "$level" "${strict[@]}" -Iinclude -o "$room/$program" "tests/$program.c" "$archive"
+        "$room/$program"
+    done
 done
 
 # Which words touch memory, of all values of the bits that say so.
