@@ -26,6 +26,7 @@ try login.cpp tests/host.expected
 try stream.c tests/stream.expected
 try lock_host.c tests/lock.expected
 try turns.c tests/turns.expected examples/lock.bin
+try why.c tests/why.expected
 try plugin.c tests/plugin.expected examples/plugin/{compare,compare_early,look_up,look_up_kind,copy_by_kind,copy_by_letter}.bin
 echo "host: the examples wrote what tests/*.expected have"
 
