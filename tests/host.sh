@@ -95,7 +95,7 @@ needed=$(nm -u "$archive" | awk 'NF == 2 && $2 !~ /^mem(cpy|move|set|cmp)$/ { pr
 [ -z "$needed" ] || { echo "host: the library needs $needed"; exit 1; }
 cc -shared -Wl,--no-undefined -Wl,-z,text -o "$room/shared.so" -Wl,--whole-archive "$archive" -Wl,--no-whole-archive
 
-# What the README prints for C, as it is printed: each of three blocks that begin with an include. The first is a program.
+# What the README prints for C, as it is printed: each of four blocks that begin with an include. The first is a program.
 awk -v room="$room" '/^    #include/ && !inside { inside = 1; count++ } !/^(    |$)/ { inside = 0 }
     inside { print substr($0, 5) > (room "/readme" count ".c") }' README.md
 for printed in "$room"/readme*.c; do
@@ -104,8 +104,8 @@ for printed in "$room"/readme*.c; do
 done
 cc -o "$room/readme" "$room/readme1.o" "$archive"
 printf 'done: code 8, address 4104\nx1 is tainted\n' | diff - <("$room/readme")
-[ -f "$room/readme3.o" ] && [ ! -f "$room/readme4.o" ]
-echo "host: the README's three pieces of C were compiled, and the first was run"
+[ -f "$room/readme4.o" ] && [ ! -f "$room/readme5.o" ]
+echo "host: the README's four pieces of C were compiled, and the first was run"
 
 # An installed library, found by pkg-config where that is there.
 bash tools/install.sh "$room/prefix" > /dev/null
