@@ -24,6 +24,8 @@ if [ -z "${MILESTARLING_LIB:-}" ]; then
     bash tools/library.sh
 fi
 
-make -C bindings/bench
+make -C bindings/bench LIBRARY="$(realpath "${MILESTARLING_LIB:-target/staticlib}")/libmilestarling.a"
+# Paths of a million links, on the stack that Linux gives a program by itself.
+(ulimit -s 8192 && bindings/bench/build/why)
 cd bindings/rust
 cargo run --release --offline --example bench

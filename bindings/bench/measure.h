@@ -1,4 +1,4 @@
-// What both programs share: reading a file, the clock, and the lines that the benchmark reads.
+// What the programs share: reading a file, the clock, and the lines that the benchmark reads.
 #include <stdint.h>
 #include <stdio.h>
 #include <stdlib.h>
