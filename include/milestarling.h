@@ -929,9 +929,9 @@ static inline const char *milestarling_answer_text(uint64_t answer)
     case MILESTARLING_NO_SUCH_TEXT:
         return "the text isn't the line of any load or store";
     case MILESTARLING_NO_ROOM:
-        return "the buffer, the trace or the list of statuses lent is too short";
+        return "the buffer, the trace or the list of statuses or links lent is too short";
     case MILESTARLING_NO_SUCH_INSTRUCTION:
-        return "no word has this instruction";
+        return "no word has this instruction, or there is no such register or byte";
     case MILESTARLING_CLOSED:
         return "the lister is closed, or is said to hold more than three bytes";
     case MILESTARLING_BAD_TRACE:

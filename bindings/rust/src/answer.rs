@@ -40,9 +40,9 @@ pub enum Answer {
     ReadOnly = 8,
     /// The text isn't the line of any word.
     NoSuchText = 9,
-    /// A lent buffer, trace or list of statuses is too short.
+    /// A lent buffer, trace or list of statuses or links is too short.
     NoRoom = 10,
-    /// No word has this instruction.
+    /// No word has this instruction; or it was asked about a register, or a byte of one, that there isn't.
     NoSuchInstruction = 11,
     /// The lister is closed, or is said to hold more than three bytes.
     Closed = 16,
@@ -116,8 +116,8 @@ impl fmt::Display for Answer {
             Answer::OutOfWindow => "the access isn't wholly inside the memory window",
             Answer::ReadOnly => "the store touches read-only memory",
             Answer::NoSuchText => "the text isn't the line of any load or store",
-            Answer::NoRoom => "the buffer, the trace or the list of statuses lent is too short",
-            Answer::NoSuchInstruction => "no word has this instruction",
+            Answer::NoRoom => "the buffer, the trace or the list of statuses or links lent is too short",
+            Answer::NoSuchInstruction => "no word has this instruction, or there is no such register or byte",
             Answer::Closed => "the lister is closed, or is said to hold more than three bytes",
             Answer::BadTrace => {
                 "the words, the trace or the statuses are too short for the steps, or no run leaves them so"
