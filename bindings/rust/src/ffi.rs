@@ -3,7 +3,8 @@
 #![allow(unsafe_code)]
 
 use crate::raw::{
-    DecodeReply, Lister, ListerReply, Numbers, RunReply, SessionRecord, StepReply, TextReply, VectorReply, WordReply,
+    DecodeReply, Lister, ListerReply, Numbers, RunReply, SessionRecord, StepReply, TextReply, VectorReply, WhyReply,
+    WordReply,
 };
 use crate::Taint;
 
@@ -65,6 +66,28 @@ extern "C" {
     fn milestarling_touches_memory(word: u32) -> u64;
     fn milestarling_decode(word: u32) -> DecodeReply;
     fn milestarling_encode(numbers: Numbers) -> WordReply;
+    fn milestarling_why(
+        words: *const u32,
+        words_len: usize,
+        trace: *const u64,
+        trace_len: usize,
+        statuses: *const u8,
+        statuses_len: usize,
+        steps: u64,
+        register_taint: *const Taint,
+        vector_taint: *const [Taint; 2],
+        taint: *const u8,
+        taint_len: usize,
+        origin: u64,
+        readonly: u64,
+        memory_length: u64,
+        step: u64,
+        kind: u64,
+        number: u64,
+        byte: u64,
+        links: *mut u64,
+        links_len: usize,
+    ) -> WhyReply;
 }
 
 // All are proved for any numbers and any slices, without a trap and without an endless loop. What is left for a
@@ -238,9 +261,62 @@ pub(crate) fn encode(numbers: Numbers) -> WordReply {
     unsafe { milestarling_encode(numbers) }
 }
 
+#[allow(clippy::too_many_arguments)]
+#[inline]
+pub(crate) fn why(
+    words: &[u32],
+    trace: &[u64],
+    statuses: &[u8],
+    steps: u64,
+    register_taint: &[Taint; 32],
+    vector_taint: &[[Taint; 2]; 32],
+    taint: &[u8],
+    origin: u64,
+    readonly: u64,
+    memory_length: u64,
+    step: u64,
+    kind: u64,
+    number: u64,
+    byte: u64,
+    links: &mut [u64],
+) -> WhyReply {
+    // SAFETY: each pointer and length come from one slice, and the arrays have 32 elements.
+    unsafe {
+        milestarling_why(
+            words.as_ptr(),
+            words.len(),
+            trace.as_ptr(),
+            trace.len(),
+            statuses.as_ptr(),
+            statuses.len(),
+            steps,
+            register_taint.as_ptr(),
+            vector_taint.as_ptr(),
+            taint.as_ptr(),
+            taint.len(),
+            origin,
+            readonly,
+            memory_length,
+            step,
+            kind,
+            number,
+            byte,
+            links.as_mut_ptr(),
+            links.len(),
+        )
+    }
+}
+
 /// The trace as the library writes it, two numbers for each step.
 #[inline]
 pub(crate) fn rows(trace: &mut [crate::Access]) -> &mut [u64] {
     // SAFETY: an `Access` is two `u64` in C's layout, without padding, and any two numbers are one.
     unsafe { std::slice::from_raw_parts_mut(trace.as_mut_ptr().cast(), trace.len() * 2) }
+}
+
+/// The trace as the library reads it.
+#[inline]
+pub(crate) fn rows_of(trace: &[crate::Access]) -> &[u64] {
+    // SAFETY: an `Access` is two `u64` in C's layout, without padding.
+    unsafe { std::slice::from_raw_parts(trace.as_ptr().cast(), trace.len() * 2) }
 }

@@ -8,6 +8,8 @@
 //!   does steps and runs in a [`Memory`], which owns its bytes and their taints or borrows them, and [`step_in`] does so in
 //!   several.
 //! - [`Taint`] says which bytes of a register are secret, and [`VectorTaint`] which of a vector register.
+//! - [`Past`] does a run and keeps what it leaves with the taints that it started with, tells why a byte is tainted, and has a
+//!   text without values, for a help desk.
 //! - [`Instruction`] goes from words to lines of text and back, and to [`Numbers`] and back.
 //! - [`words`] goes through an image, word by word, and [`touches_memory`] says which words a host steps.
 //! - [`listing`] lists bytes, and [`Lister`] and [`ListingWriter`] list what comes in fragments.
@@ -61,6 +63,8 @@ mod ffi;
 mod image;
 mod memory;
 mod numbers;
+mod past;
+mod place;
 pub mod raw;
 mod register;
 mod session;
@@ -68,16 +72,20 @@ mod shown;
 mod stream;
 mod taint;
 mod text;
+mod trace_text;
 mod vectors;
 
 pub use answer::{Answer, Refusal, UnknownAnswer};
 pub use image::{words, Words};
 pub use memory::{step_in, Access, Memory, TaintedBytes, Window};
 pub use numbers::{classify, touches_memory};
+pub use past::{Past, Start};
+pub use place::{Copied, Link, Place};
 pub use raw::Numbers;
 pub use register::{Register, UnknownRegister, VectorRegister};
 pub use session::{Monitor, Run, Session, Step};
 pub use stream::{Lister, ListingWriter};
-pub use taint::{Taint, VectorTaint};
+pub use taint::{Taint, UnknownByte, VectorTaint};
 pub use text::{list, listing, Instruction, LINE_MAX};
+pub use trace_text::BadTraceText;
 pub use vectors::Vectors;

@@ -143,6 +143,17 @@ pub struct ListerReply {
     pub length: u64,
 }
 
+/// What asking why a byte is tainted returns beside the links.
+#[must_use]
+#[repr(C)]
+#[derive(Clone, Copy, Debug, Default, PartialEq, Eq)]
+pub struct WhyReply {
+    /// The answer: 0, 1, 7, 11, 17, 18 or 10, and the first of these that holds.
+    pub answer: u64,
+    /// How many links were written; 0 for a refusal, and with answer 0 where the byte isn't tainted.
+    pub links: u64,
+}
+
 /// Runs a list of words.
 ///
 /// `session` is the record to begin with, and the reply has the one after the steps done. `vectors` and `vector_taint` are the
@@ -416,4 +427,67 @@ pub fn decode(word: u32) -> DecodeReply {
 #[inline]
 pub fn encode(numbers: Numbers) -> WordReply {
     ffi::encode(numbers)
+}
+
+/// Why a byte is tainted just before a step of a run: the links of its way back to a starting taint, the latest first.
+///
+/// `words`, `trace`, `statuses` and `steps` are what [`run`] got, wrote and returned. `register_taint`, `vector_taint` and
+/// `taint` are those of registers, vector registers and memory before it, in which any byte but 0 is a taint; and `origin`,
+/// `readonly` and `memory_length` its memory. `step` counts from 0, and the number of steps stands for the end. The byte is one
+/// of a register (kind 0, and 31 is SP) or of a vector register (kind 2), by `number` and `byte`, or one of memory (kind 1), by
+/// its address in `number`.
+///
+/// A link is three numbers: the kind; 16 times the register and the byte, or the address; and the step that tainted it plus 1,
+/// or 0 for the start. There are never more than `step + 1`. [`Past`](crate::Past) is the same with names, and keeps together
+/// what belongs together.
+///
+/// ```
+/// use milestarling::raw::why;
+/// use milestarling::Taint;
+///
+/// let (words, trace, statuses) = ([0x39400002], [1, 4096], [0]); // ldrb w2, [x0]
+/// let (registers, vectors, taint) = ([Taint::NONE; 32], [[Taint::NONE; 2]; 32], [1, 0]);
+/// let mut links = [9; 6];
+/// let reply = why(
+///     &words, &trace, &statuses, 1, &registers, &vectors, &taint, 4096, 0, 2, 1, 0, 2, 0, &mut links,
+/// );
+/// assert_eq!((reply.answer, reply.links), (0, 2));
+/// assert_eq!(links, [0, 16 * 2 + 0, 1, 1, 4096, 0]);
+/// ```
+#[allow(clippy::too_many_arguments)]
+#[inline]
+pub fn why(
+    words: &[u32],
+    trace: &[u64],
+    statuses: &[u8],
+    steps: u64,
+    register_taint: &[Taint; 32],
+    vector_taint: &[[Taint; 2]; 32],
+    taint: &[u8],
+    origin: u64,
+    readonly: u64,
+    memory_length: u64,
+    step: u64,
+    kind: u64,
+    number: u64,
+    byte: u64,
+    links: &mut [u64],
+) -> WhyReply {
+    ffi::why(
+        words,
+        trace,
+        statuses,
+        steps,
+        register_taint,
+        vector_taint,
+        taint,
+        origin,
+        readonly,
+        memory_length,
+        step,
+        kind,
+        number,
+        byte,
+        links,
+    )
 }

@@ -1,5 +1,7 @@
+use std::error::Error;
 use std::fmt;
-use std::ops::{BitOr, BitOrAssign, RangeBounds};
+use std::ops::{BitOr, BitOrAssign, RangeBounds, RangeInclusive};
+use std::str::FromStr;
 
 /// Which of a register's eight bytes are secret, or came of a secret. Byte 0 is the lowest.
 ///
@@ -12,6 +14,7 @@ use std::ops::{BitOr, BitOrAssign, RangeBounds};
 /// let taint = Taint::bytes(0..2) | Taint::bytes(5..=5);
 /// assert!(taint.contains(1) && !taint.contains(2));
 /// assert_eq!(format!("{taint:?}"), "Taint(00100011)");
+/// assert_eq!((taint.to_string().as_str(), "0-1,5".parse()), ("0-1,5", Ok(taint)));
 /// assert_eq!(taint | Taint::ALL, Taint::ALL);
 /// assert_eq!(taint | Taint::NONE, taint);
 /// ```
@@ -133,6 +136,22 @@ impl fmt::Debug for Taint {
     }
 }
 
+/// The bytes, parted by commas, those beside each other as the first and the last (`0-3,7`): nothing where none is tainted.
+impl fmt::Display for Taint {
+    fn fmt(&self, f: &mut fmt::Formatter<'_>) -> fmt::Result {
+        f.pad(&ranges(8, |byte| self.contains(byte)))
+    }
+}
+
+/// At least one byte of 0 to 7, as they are shown, in any order.
+impl FromStr for Taint {
+    type Err = UnknownByte;
+
+    fn from_str(text: &str) -> Result<Taint, UnknownByte> {
+        text.split(',').try_fold(Taint::NONE, |taint, part| Ok(taint | Taint::bytes(range(part, 8)?)))
+    }
+}
+
 /// Which of a vector register's sixteen bytes are secret, or came of a secret: a [`Taint`] for each of its halves. Byte 0 is the
 /// lowest.
 ///
@@ -143,6 +162,7 @@ impl fmt::Debug for Taint {
 /// assert_eq!((taint.low(), taint.high()), (Taint::bytes(7..), Taint::bytes(..1) | Taint::bytes(7..)));
 /// assert_eq!(VectorTaint::halves(Taint::NONE, Taint::ALL), VectorTaint::bytes(8..));
 /// assert_eq!(format!("{taint:?}"), "VectorTaint(1000000110000000)");
+/// assert_eq!((taint.to_string().as_str(), "7-8,15".parse()), ("7-8,15", Ok(taint)));
 /// assert!(taint.contains(8) && !taint.contains(9));
 /// ```
 ///
@@ -221,6 +241,58 @@ impl fmt::Debug for VectorTaint {
     fn fmt(&self, f: &mut fmt::Formatter<'_>) -> fmt::Result {
         write!(f, "VectorTaint({})", digits(16, |byte| self.contains(byte)))
     }
+}
+
+/// As a [`Taint`] is shown.
+impl fmt::Display for VectorTaint {
+    fn fmt(&self, f: &mut fmt::Formatter<'_>) -> fmt::Result {
+        f.pad(&ranges(16, |byte| self.contains(byte)))
+    }
+}
+
+/// At least one byte of 0 to 15, as they are shown, in any order.
+impl FromStr for VectorTaint {
+    type Err = UnknownByte;
+
+    fn from_str(text: &str) -> Result<VectorTaint, UnknownByte> {
+        text.split(',').try_fold(VectorTaint::NONE, |taint, part| Ok(taint | VectorTaint::bytes(range(part, 16)?)))
+    }
+}
+
+/// A part of a taint's text that names no bytes.
+#[derive(Clone, Debug, PartialEq, Eq)]
+pub struct UnknownByte {
+    part: String,
+    size: usize,
+}
+
+impl fmt::Display for UnknownByte {
+    fn fmt(&self, f: &mut fmt::Formatter<'_>) -> fmt::Result {
+        let UnknownByte { part, size } = self;
+        write!(f, "`{part}` is neither a byte of a register, 0 to {}, nor bytes from one to another", size - 1)
+    }
+}
+
+impl Error for UnknownByte {}
+
+/// The bytes of a part of a text, of a register that has so many.
+fn range(part: &str, size: usize) -> Result<RangeInclusive<usize>, UnknownByte> {
+    let byte = |digits: &str| (0..size).find(|byte| byte.to_string() == digits);
+    let (first, last) = part.split_once('-').unwrap_or((part, part));
+    let bytes = byte(first).zip(byte(last)).filter(|(first, last)| first <= last);
+    bytes.map(|(first, last)| first..=last).ok_or_else(|| UnknownByte { part: part.into(), size })
+}
+
+/// The tainted bytes of so many as a text.
+fn ranges(size: usize, tainted: impl Fn(usize) -> bool) -> String {
+    let starts = (0..size).filter(|&byte| tainted(byte) && (byte == 0 || !tainted(byte - 1)));
+    let parts: Vec<String> = starts
+        .map(|first| match (first..size).take_while(|&byte| tainted(byte)).last() {
+            Some(last) if last != first => format!("{first}-{last}"),
+            _ => first.to_string(),
+        })
+        .collect();
+    parts.join(",")
 }
 
 /// 1 for each byte that is tainted and 0 for any other, the highest first.

@@ -61,6 +61,22 @@ fn vector_taints_are_sets_of_bytes() {
     assert_eq!(format!("{:?}", of_wide_bits(0x8003)), "VectorTaint(1000000000000011)");
 }
 
+/// A taint's text names its bytes, and is read as that taint.
+#[test]
+fn taints_have_texts() {
+    for bits in 1..256 {
+        let (taint, wide) = (of_bits(bits), VectorTaint::halves(of_bits(bits), of_bits(bits ^ 0xff)));
+        assert_eq!((taint.to_string().parse(), wide.to_string().parse()), (Ok(taint), Ok(wide)));
+    }
+    let texts = [(0b1, "0"), (0b11, "0-1"), (0b1000_1101, "0,2-3,7"), (0xff, "0-7"), (0, "")];
+    texts.iter().for_each(|&(bits, text)| assert_eq!(of_bits(bits).to_string(), text));
+    assert_eq!(("7,0-3,2".parse(), "8-15".parse()), (Ok(of_bits(0x8f)), Ok(VectorTaint::bytes(8..))));
+    for wrong in ["", ",", "0,", "8", "3-2", "0-8", "-1", "+1", "01", "0 ", "0-1-2", "x"] {
+        assert!(wrong.parse::<Taint>().is_err(), "{wrong}");
+    }
+    assert!("16".parse::<VectorTaint>().is_err());
+}
+
 /// The bytes in which two values differ.
 fn difference(one: u64, other: u64) -> Taint {
     of_bits((0..8).filter(|byte| (one ^ other) >> (8 * byte) & 0xff != 0).map(|byte| 1 << byte).sum())

@@ -9,13 +9,14 @@
 #![allow(dead_code)]
 
 pub mod decoding;
+pub mod explaining;
 pub mod listing;
 pub mod reading;
 pub mod running;
 pub mod streaming;
 pub mod writing;
 
-// The answer numbers that can come up outside the encoder.
+// The answer numbers.
 pub const DONE: u8 = 0;
 pub const BAD_WINDOW: u8 = 1;
 pub const NOT_IN_SET: u8 = 2;
@@ -27,4 +28,7 @@ pub const OUT_OF_WINDOW: u8 = 7;
 pub const READ_ONLY: u8 = 8;
 pub const NO_SUCH_TEXT: u8 = 9;
 pub const NO_ROOM: u8 = 10;
+pub const NO_SUCH_INSTRUCTION: u8 = 11;
 pub const CLOSED: u8 = 16;
+pub const BAD_TRACE: u8 = 17;
+pub const AFTER_END: u8 = 18;

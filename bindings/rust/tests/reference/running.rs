@@ -145,7 +145,7 @@ fn is_index_marked(instruction: &Instruction, marks: Marks) -> bool {
 }
 
 /// Answer 6: an exclusive goes by its size, and what acquires or releases by the block of 16 bytes.
-fn is_misaligned(instruction: &Instruction, address: u64, length: usize) -> bool {
+pub fn is_misaligned(instruction: &Instruction, address: u64, length: usize) -> bool {
     match instruction.family {
         Family::Exclusive { monitored: true, .. } => address % length as u64 != 0,
         Family::Ordered | Family::Exclusive { .. } => address % 16 + length as u64 > 16,
