@@ -147,10 +147,10 @@ fn lists_the_executable_segments_of_an_elf_file() {
 fn a_failed_read_or_write_is_no_end() {
     call(&["list", "/no/such/file"], b"").fails(1, "/no/such/file: ");
     let directory = env!("CARGO_MANIFEST_DIR");
-    for name in ["list", "run"] {
+    for name in ["list", "run", "why", "trace"] {
         call(&[name, directory], b"").fails(1, "read: ");
     }
-    for name in ["list", "run", "word", "text"] {
+    for name in ["list", "run", "why", "trace", "word", "text"] {
         let output = command(&[name]).stdin(File::open(directory).unwrap()).output().unwrap();
         assert!(output.stdout.is_empty() && output.status.code() == Some(1), "{name}");
         assert!(String::from_utf8(output.stderr).unwrap().contains("read: "), "{name}");
@@ -213,9 +213,9 @@ word 386268a4
 fn runs_a_case() {
     let ended = call(&["run"], CASE.as_bytes());
     let expected = "\
-step 1: load of 1 at 0x1000, by 39400002, `ldrb w2, [x0]`
-step 2: store of 1 at 0x1008, by 39000022, `strb w2, [x1]`
-refused (5): the address would come from a secret value, by 386268a4, `ldrb w4, [x5, x2]`, after 2 steps
+step 1: load of 1 at 0x1000, by 39400002, `ldrb w2, [x0]`, taints x2 byte 0
+step 2: store of 1 at 0x1008, by 39000022, `strb w2, [x1]`, taints 0x1008
+refused (5): the address would come from a secret value, by 386268a4, `ldrb w4, [x5, x2]`, after 2 steps: x2 byte 0 is tainted
 x0 0x1000
 x1 0x1008
 x2 0x00000000000000**
@@ -264,10 +264,10 @@ ldr b2, [x1]
 ldr h3, [x1, #2]
 ";
     let expected = "\
-step 1: load of 16 at 0x1000, by 3dc00020, `ldr q0, [x1]`
-step 2: store of 16 at 0x1010, by 3d800420, `str q0, [x1, #16]`
+step 1: load of 16 at 0x1000, by 3dc00020, `ldr q0, [x1]`, taints q0 bytes 2 to 9
+step 2: store of 16 at 0x1010, by 3d800420, `str q0, [x1, #16]`, taints 0x1012 to 0x1019
 step 3: load of 1 at 0x1000, by 3d400022, `ldr b2, [x1]`
-step 4: load of 2 at 0x1002, by 7d400423, `ldr h3, [x1, #2]`
+step 4: load of 2 at 0x1002, by 7d400423, `ldr h3, [x1, #2]`, taints q3 bytes 0 to 1
 done, after 4 steps
 x1 0x1000
 q0 0x000000000000****************0100
@@ -328,6 +328,221 @@ fn runs_the_example() {
     assert_eq!(ended.status, Some(1));
 }
 
+/// Pairs, sign copies, a store-exclusive that fails, and a register that is written back.
+const COPIES: &str = "\
+origin 0x1000
+tainted letters sesame42
+zeros 24
+x0 0x1000
+x1 0x1010
+tainted x5 0x11
+tainted x9.0-3,7 0x2200000000
+ldp w2, w3, [x0]
+stp x2, x9, [x1]
+ldrsh w4, [x0, #2]
+stxr w5, w3, [x1]
+ldur q31, [x0, #8]
+ldr x6, [x1], #8
+prfm pldl1keep, [x5]
+";
+
+#[test]
+fn shows_what_each_step_taints() {
+    let steps = "\
+step 1: load of 8 at 0x1000, by 29400c02, `ldp w2, w3, [x0]`, taints x2 bytes 0 to 3 and x3 bytes 0 to 3
+step 2: store of 16 at 0x1010, by a9002422, `stp x2, x9, [x1]`, taints 0x1010 to 0x1013, 0x1018 to 0x101b and 0x101f
+step 3: load of 2 at 0x1002, by 79c00404, `ldrsh w4, [x0, #2]`, taints x4 bytes 0 to 3
+step 4: store of 4 at 0x1010, which failed, by 88057c23, `stxr w5, w3, [x1]`
+step 5: load of 16 at 0x1008, by 3cc0801f, `ldur q31, [x0, #8]`, taints q31 bytes 8 to 11
+step 6: load of 8 at 0x1010, by f8408426, `ldr x6, [x1], #8`, taints x6 bytes 0 to 3
+step 7: prefetch, by f98000a0, `prfm pldl1keep, [x5]`
+done, after 7 steps
+";
+    let ended = call(&["run"], COPIES.as_bytes());
+    assert!(ended.wrote.starts_with(steps) && ended.status == Some(0), "{ended:?}");
+}
+
+/// Each register and byte to blame for an answer 5, the base's before the index's.
+#[test]
+fn blames_the_bytes_of_an_address() {
+    let blamed = |taints: &str, line: &str| {
+        let ended = call(&["run"], format!("zeros 16\n{taints}{line}\n").as_bytes());
+        let said = ended.wrote.lines().next().unwrap().to_string();
+        assert!(said.starts_with("refused (5): ") && ended.status == Some(1), "{ended:?}");
+        said.rsplit_once("`: ").unwrap().1.to_string()
+    };
+    let taints = "tainted x1.0-1,4,6-7 0\ntainted x2.3-4 0\ntainted sp 0\n";
+    assert_eq!(blamed(taints, "ldr x0, [x1]"), "x1 bytes 0 to 1, x1 byte 4 and x1 bytes 6 to 7 are tainted");
+    assert_eq!(blamed(taints, "ldr x0, [x3, x2]"), "x2 bytes 3 to 4 are tainted");
+    assert_eq!(blamed(taints, "ldr x0, [x3, w2, sxtw]"), "x2 byte 3 is tainted");
+    assert_eq!(blamed(taints, "strb w0, [sp, x2, lsl #0]"), "sp bytes 0 to 7 and x2 bytes 3 to 4 are tainted");
+    assert_eq!(blamed(taints, "ldp q0, q1, [sp], #32"), "sp bytes 0 to 7 are tainted");
+    // Bytes that aren't used don't count.
+    let ended = call(&["run"], b"zeros 16\ntainted x2.4 0\nldr x0, [x3, w2, sxtw]\n");
+    assert_eq!(ended.status, Some(0));
+}
+
+#[test]
+fn tells_why() {
+    let path = made("copies", COPIES.as_bytes());
+    let path = path.to_str().unwrap();
+    let traced = call(&["trace", path], b"");
+    let trace = made("copies.trace", traced.wrote.as_bytes());
+    let rows: &[(&[&str], &str)] = &[
+        (&["x2"], "x2 bytes 0 to 3: step 1, ldp w2, w3, [x0], from 0x1000 to 0x1003\n0x1000 to 0x1003: tainted at the start\n"),
+        (&["x3.1"], "x3 byte 1: step 1, ldp w2, w3, [x0], from 0x1005\n0x1005: tainted at the start\n"),
+        (&["x3.4"], "x3 byte 4: not tainted\n"),
+        // A sign copy has the way of the top byte loaded.
+        (
+            &["x4"],
+            "\
+x4 bytes 0 to 1: step 3, ldrsh w4, [x0, #2], from 0x1002 to 0x1003
+0x1002 to 0x1003: tainted at the start
+
+x4 bytes 2 to 3: step 3, ldrsh w4, [x0, #2], from 0x1003
+0x1003: tainted at the start
+",
+        ),
+        // The status is no secret; before the store it was one.
+        (&["x5"], "x5: not tainted\n"),
+        (&["x5", "--at", "3"], "x5 bytes 0 to 7: tainted at the start\n"),
+        (&["x9"], "x9 bytes 0 to 3: tainted at the start\n\nx9 byte 7: tainted at the start\n"),
+        // The store-exclusive has failed, and the byte is the one of step 2.
+        (
+            &["x6.0"],
+            "\
+x6 byte 0: step 6, ldr x6, [x1], #8, from 0x1010
+0x1010: step 2, stp x2, x9, [x1], from x2 byte 0
+x2 byte 0: step 1, ldp w2, w3, [x0], from 0x1000
+0x1000: tainted at the start
+",
+        ),
+        (&["0x101f"], "0x101f: step 2, stp x2, x9, [x1], from x9 byte 7\nx9 byte 7: tainted at the start\n"),
+        (&["4127"], "0x101f: step 2, stp x2, x9, [x1], from x9 byte 7\nx9 byte 7: tainted at the start\n"),
+        (&["0x101f", "--at", "1"], "0x101f: not tainted\n"),
+        (&["0x1000", "--at", "0"], "0x1000: tainted at the start\n"),
+        (&["sp"], "sp: not tainted\n"),
+        (&["q31.7"], "q31 byte 7: not tainted\n"),
+        (
+            &["v31"],
+            "\
+q31 bytes 8 to 11: step 5, ldur q31, [x0, #8], from 0x1010 to 0x1013
+0x1010 to 0x1013: step 2, stp x2, x9, [x1], from x2 bytes 0 to 3
+x2 bytes 0 to 3: step 1, ldp w2, w3, [x0], from 0x1000 to 0x1003
+0x1000 to 0x1003: tainted at the start
+",
+        ),
+    ];
+    for (asked, expected) in rows {
+        for file in [path, trace.to_str().unwrap()] {
+            assert_eq!(call(&[&["why", file], *asked].concat(), b""), Ended::well(expected), "{asked:?}");
+        }
+    }
+    assert_eq!(call(&["why", "-", "sp"], COPIES.as_bytes()), Ended::well("sp: not tainted\n"));
+    call(&["why", path], b"").fails(2, "no word was refused for a tainted address: name a place");
+}
+
+/// Without a place it is the refused word's address that is asked about.
+#[test]
+fn tells_why_a_word_was_refused() {
+    let told = "\
+step 3, ldrb w4, [x5, x2], at 0x8008: refused for x2 byte 0
+x2 byte 0: step 1, ldrb w2, [x0], from 0x1000
+0x1000: tainted at the start
+";
+    assert_eq!(call(&["why"], CASE.as_bytes()), Ended::well(told));
+    let trace = call(&["trace"], CASE.as_bytes());
+    assert_eq!(call(&["why"], trace.wrote.as_bytes()), Ended::well(told));
+    let case = "zeros 16\ntainted x1.1,6-7 0\nldr x0, [x1]\n";
+    let told = "\
+step 1, ldr x0, [x1], at 0x0: refused for x1 byte 1 and x1 bytes 6 to 7
+x1 byte 1: tainted at the start
+
+x1 bytes 6 to 7: tainted at the start
+";
+    assert_eq!(call(&["why"], case.as_bytes()), Ended::well(told));
+    // Refused for something else, though its base is tainted: a window, PC, or the word itself.
+    for other in ["pc 2", "readonly 17", "word 0", "ldr x1, [x1], #8"] {
+        let ended = call(&["why"], case.replace("zeros 16", &format!("zeros 16\n{other}")).as_bytes());
+        assert!(ended.wrote.is_empty() && ended.status != Some(0), "{other}: {ended:?}");
+    }
+}
+
+#[test]
+fn writes_a_trace() {
+    let expected = "\
+milestarling trace 1
+origin 0x1000
+readonly 0
+length 32
+pc 0x0
+tainted x5
+tainted x9.0-3,7
+tainted 0x1000 8
+step 29400c02 8 0x1000 0
+step a9002422 80 0x1010 0
+step 79c00404 2 0x1002 0
+step 88057c23 68 0x1010 1
+word 00000000
+word f8408426
+word f98000a0
+";
+    let case = COPIES.replace("ldur q31, [x0, #8]", "word 0");
+    assert_eq!(call(&["trace"], case.as_bytes()), Ended::well(expected));
+    // A trace is written as it was, and a value changes nothing in it.
+    assert_eq!(call(&["trace"], expected.as_bytes()), Ended::well(expected));
+    let other = case.replace("sesame42", "open1234").replace("0x11", "0x1122334455667788").replace("0x22", "0x33");
+    assert_eq!(call(&["trace"], other.as_bytes()), Ended::well(expected));
+    call(&["run"], expected.as_bytes()).fails(1, "has no values to run with");
+    assert_eq!(call(&["trace"], b""), Ended::well("milestarling trace 1\norigin 0x0\nreadonly 0\nlength 0\npc 0x0\n"));
+}
+
+#[test]
+fn a_wrong_question_is_named() {
+    let case = made("asked", CASE.as_bytes());
+    let case = case.to_str().unwrap();
+    for place in ["x31", "w3", "q32", "v32", "qq1", "vq1", "X3", "", "x3.", "0x", "-1", "0x10000000000000000", "pc"] {
+        let ended = call(&["why", case, place], b"");
+        assert!(ended.said.contains("is no place") || ended.said.contains("has bytes 0 to 7"), "{place}: {ended:?}");
+        assert_eq!((ended.status, ended.wrote.as_str()), (Some(2), ""), "{place}");
+    }
+    for (place, said) in
+        [("x3.8", "x3 has bytes 0 to 7"), ("sp.+1", "sp has bytes 0 to 7"), ("v5.16", "has bytes 0 to 15")]
+    {
+        call(&["why", case, place], b"").fails(2, said);
+    }
+    call(&["why", case, "x2", "x3"], b"").fails(2, "one place at a time");
+    call(&["why", case, "x2", "--at", "two"], b"").fails(2, "is no number");
+    call(&["why", case, "--at", "1"], b"").fails(2, "--at needs a place");
+    for at in ["3", "18446744073709551615"] {
+        call(&["why", case, "x2", "--at", at], b"").fails(1, "refused (18)");
+    }
+    call(&["why", case, "0x0fff"], b"").fails(1, "refused (7): ");
+    call(&["why", case, "0x1010"], b"").fails(1, "at address 0x1010");
+    call(&["why", "/no/such/file", "x2"], b"").fails(1, "/no/such/file: ");
+    call(&["why", "-", "x2"], b"readonly 1\n").fails(1, "refused (1): ");
+}
+
+#[test]
+fn a_damaged_trace_is_refused_or_named_by_its_line() {
+    let trace = call(&["trace"], CASE.as_bytes()).wrote;
+    for (right, wrong) in [
+        ("step 39000022 65 0x1008 0", "step 39000022 65 0x1007 0"),
+        ("step 39000022 65 0x1008 0", "step 39000022 66 0x1008 0"),
+        ("step 39000022 65 0x1008 0", "step 39000022 65 0x1008 2"),
+        ("step 39000022 65 0x1008 0", "step 91000000 65 0x1008 0"),
+    ] {
+        assert!(trace.contains(right), "{trace}");
+        let ended = call(&["why", "-", "x2"], trace.replace(right, wrong).as_bytes());
+        ended.fails(1, "standard input: refused (17): ");
+    }
+    let text = trace.replace("length 16", "length 1x");
+    call(&["why"], text.as_bytes()).fails(1, "standard input: line 4: `1x` is no number");
+    call(&["trace"], text.as_bytes()).fails(1, "standard input: line 4: `1x` is no number");
+    call(&["why"], b"milestarling trace 1\n\nstep 1\n").fails(1, "standard input: line 3: a step has");
+    call(&["why"], b"\xff\n").fails(1, "isn't UTF-8");
+}
+
 #[test]
 fn a_wrong_case_is_named_by_its_line() {
     let wrong = [
@@ -374,16 +589,19 @@ fn a_wrong_case_is_named_by_its_line() {
 fn says_how_it_is_called() {
     let help = call(&["--help"], b"");
     assert!(help.status == Some(0) && help.said.is_empty());
-    for name in ["list", "word", "text", "run"] {
+    for name in ["list", "word", "text", "run", "why", "trace"] {
         assert!(help.wrote.contains(&format!("milestarling {name} [")), "{name}");
         assert_eq!(call(&[name, "--help"], b""), help);
     }
     let widest = help.wrote.lines().map(|line| line.chars().count()).max().unwrap();
     assert!(widest <= 90, "{widest}");
     assert_eq!(call(&["--version"], b""), Ended::well(concat!("milestarling ", env!("CARGO_PKG_VERSION"), "\n")));
-    call(&[], b"").fails(2, "list, word, text or run");
+    call(&[], b"").fails(2, "list, word, text, run, why or trace");
     call(&["lists"], b"").fails(2, "`lists` is no command");
     call(&["list", "a", "b"], b"").fails(2, "one file at a time");
     call(&["list", "--as", "b"], b"").fails(2, "one file at a time");
-    call(&["run", "--secret"], b"").fails(2, "is no option");
+    for name in ["run", "why", "trace"] {
+        call(&[name, "--secret"], b"").fails(2, "is no option");
+    }
+    call(&["trace", "a", "b"], b"").fails(2, "one file at a time");
 }

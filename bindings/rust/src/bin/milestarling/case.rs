@@ -1,20 +1,22 @@
 //! `milestarling run`: a case in a readable form.
 
 use crate::input::{Failure, Source};
+use crate::places::{blame, shown_places, shown_word, tainted_by_steps, Region};
 use crate::{hexadecimal, number, wide_number};
 use milestarling::{
-    Access, Instruction, Memory, Monitor, Register, Session, Step, Taint, TaintedBytes, VectorRegister, VectorTaint,
-    Window,
+    Instruction, Memory, Monitor, Past, Register, Session, Step, Taint, TaintedBytes, UnknownByte, VectorRegister,
+    VectorTaint, Window,
 };
+use std::fmt::Display;
 use std::io::{self, Write};
-use std::ops::RangeInclusive;
+use std::str::FromStr;
 
 /// The most bytes of memory that a case may have.
 const MEMORY_MAX: usize = 1 << 30;
 
 /// What a case says.
 #[derive(Default)]
-struct Case {
+pub struct Case {
     session: Session,
     window: Window,
     bytes: Vec<u8>,
@@ -23,6 +25,21 @@ struct Case {
 }
 
 impl Case {
+    /// Takes a whole text.
+    pub fn read(source: &Source, text: &str) -> Result<Case, Failure> {
+        let mut case = Case::default();
+        for (at, line) in text.split('\n').enumerate() {
+            case.statement(line).map_err(|said| source.wrong(format!("line {}: {said}", at + 1)))?;
+        }
+        Ok(case)
+    }
+
+    /// The session, its memory, and the words to run.
+    pub fn machine(self) -> (Session, Region, Vec<u32>) {
+        let Case { session, window, bytes, taint, words } = self;
+        (session, Memory::new(window, TaintedBytes { bytes, taint }), words)
+    }
+
     /// Takes one line.
     fn statement(&mut self, line: &str) -> Result<(), String> {
         // Letters may end in spaces.
@@ -80,12 +97,10 @@ impl Case {
             _ => (name, None),
         };
         if let Ok(register) = name.parse::<Register>() {
-            let parts = tainted_bytes(bytes, tainted, 8)?;
-            let taint = parts.into_iter().fold(Taint::NONE, |taint, part| taint | Taint::bytes(part));
+            let taint = taint_of(bytes, tainted, [Taint::NONE, Taint::ALL])?;
             self.session.set(register, number(value)?, taint);
         } else if let Ok(register) = name.parse::<VectorRegister>() {
-            let parts = tainted_bytes(bytes, tainted, 16)?;
-            let taint = parts.into_iter().fold(VectorTaint::NONE, |taint, part| taint | VectorTaint::bytes(part));
+            let taint = taint_of(bytes, tainted, [VectorTaint::NONE, VectorTaint::ALL])?;
             self.session.vectors_mut().set(register, wide_number(value)?, taint);
         } else {
             return Ok(false);
@@ -107,36 +122,25 @@ fn first_word(line: &str) -> (&str, &str) {
     line.split_once(char::is_whitespace).unwrap_or((line, ""))
 }
 
-/// The tainted bytes of a register that has so many: those that are named, each from one to another, or all of a tainted one.
-fn tainted_bytes(named: Option<&str>, tainted: bool, size: usize) -> Result<Vec<RangeInclusive<usize>>, String> {
-    let byte = |digits: &str| (0..size).find(|byte| byte.to_string() == digits);
-    let one = |part: &str| {
-        let (first, last) = part.split_once('-').unwrap_or((part, part));
-        let bytes = byte(first).zip(byte(last)).filter(|(first, last)| first <= last);
-        let wrong =
-            || format!("`{part}` is neither a byte of a register, 0 to {}, nor bytes from one to another", size - 1);
-        bytes.map(|(first, last)| first..=last).ok_or_else(wrong)
-    };
+/// The taint of a register: of the bytes that are named, or of all of a tainted one.
+fn taint_of<T: FromStr<Err = UnknownByte>>(
+    named: Option<&str>,
+    tainted: bool,
+    [none, all]: [T; 2],
+) -> Result<T, String> {
     match named {
-        Some(named) => named.split(',').map(one).collect(),
-        None if tainted => Ok(vec![0..=size - 1]),
-        None => Ok(Vec::new()),
+        Some(named) => named.parse().map_err(|error: UnknownByte| error.to_string()),
+        None => Ok(if tainted { all } else { none }),
     }
 }
 
-/// What stands behind the name of a register of so many bytes for those that are tainted: nothing where it is all of them.
-fn named_bytes(size: usize, tainted: impl Fn(usize) -> bool) -> String {
-    if (0..size).all(&tainted) {
-        return String::new();
+/// What stands behind the name of a register for its tainted bytes: nothing where it is all of them.
+fn named_bytes<T: PartialEq + Display>(taint: T, all: T) -> String {
+    if taint == all {
+        String::new()
+    } else {
+        format!(".{taint}")
     }
-    let starts = (0..size).filter(|&byte| tainted(byte) && (byte == 0 || !tainted(byte - 1)));
-    let parts: Vec<String> = starts
-        .map(|first| match (first..size).take_while(|&byte| tainted(byte)).last() {
-            Some(last) if last != first => format!("{first}-{last}"),
-            _ => first.to_string(),
-        })
-        .collect();
-    format!(".{}", parts.join(","))
 }
 
 fn byte(digits: &str) -> Result<u8, String> {
@@ -146,29 +150,28 @@ fn byte(digits: &str) -> Result<u8, String> {
 }
 
 pub fn run(mut source: Source, secrets: bool, output: &mut impl Write) -> Result<(), Failure> {
-    let mut case = Case::default();
-    let mut number = 0;
-    while let Some(line) = source.line()? {
-        number += 1;
-        case.statement(&line).map_err(|said| source.wrong(format!("line {number}: {said}")))?;
+    let text = source.text()?;
+    if Past::is_text(&text) {
+        return Err(source.wrong("a trace, which has no values to run with: `milestarling why` tells of it"));
     }
-    let Case { mut session, window, bytes, taint, words } = case;
-    let mut memory = Memory::new(window, TaintedBytes { bytes, taint });
-    let (mut trace, mut statuses) = (vec![Access::default(); words.len()], vec![0; words.len()]);
-    let ran = session.run(&mut memory, &words, &mut trace, &mut statuses);
-    let steps = ran.map_or_else(|refusal| refusal.steps(), |run| run.steps);
+    let (mut session, mut memory, words) = Case::read(&source, &text)?.machine();
+    let tainted = tainted_by_steps(session.clone(), memory.clone(), &words);
+    let (past, ran) = Past::run(&mut session, &mut memory, &words);
     let mut show = || -> io::Result<()> {
-        let done = trace.iter().zip(&statuses).map(|(&access, &status)| Step::new(access, status));
-        for (number, (&word, step)) in words.iter().zip(done).take(steps).enumerate() {
-            let instruction = Instruction::new(word).map_or_else(|_| "-".into(), |found| found.to_string());
-            writeln!(output, "step {}: {step}, by {word:08x}, `{instruction}`", number + 1)?;
+        let done = past.trace().iter().zip(past.statuses()).map(|(&access, &status)| Step::new(access, status));
+        for (at, (step, tainted)) in done.zip(&tainted).enumerate() {
+            write!(output, "step {}: {step}, by {:08x}, `{}`", at + 1, words[at], shown_word(words[at]))?;
+            match &tainted[..] {
+                [] => writeln!(output)?,
+                places => writeln!(output, ", taints {}", shown_places(places))?,
+            }
         }
         match ran {
-            Ok(_) => writeln!(output, "done, after {steps} steps")?,
-            Err(refusal) => writeln!(output, "{refusal}")?,
+            Ok(_) => writeln!(output, "done, after {} steps", past.steps())?,
+            Err(refusal) => writeln!(output, "{refusal}{}", blame(&session, &memory, refusal))?,
         }
         show_session(&session, secrets, output)?;
-        show_memory(window.origin, memory.bytes(), memory.taint(), secrets, output)
+        show_memory(memory.window.origin, memory.bytes(), memory.taint(), secrets, output)
     };
     show().map_err(Failure::write)?;
     ran.map(|_| ()).map_err(|_| Failure::Refused)
@@ -178,7 +181,7 @@ fn show_session(session: &Session, secrets: bool, output: &mut impl Write) -> io
     for register in Register::all() {
         let (value, taint) = session.get(register);
         if secrets && !taint.is_none() {
-            writeln!(output, "tainted {register}{} {value:#x}", named_bytes(8, |byte| taint.contains(byte)))?;
+            writeln!(output, "tainted {register}{} {value:#x}", named_bytes(taint, Taint::ALL))?;
         } else if session.known(register) != Some(0) {
             writeln!(output, "{register} {}", session.shown(register))?;
         }
@@ -187,7 +190,7 @@ fn show_session(session: &Session, secrets: bool, output: &mut impl Write) -> io
     for register in VectorRegister::all() {
         let (value, taint) = vectors.get(register);
         if secrets && !taint.is_none() {
-            writeln!(output, "tainted {register}{} {value:#x}", named_bytes(16, |byte| taint.contains(byte)))?;
+            writeln!(output, "tainted {register}{} {value:#x}", named_bytes(taint, VectorTaint::ALL))?;
         } else if vectors.known(register) != Some(0) {
             writeln!(output, "{register} {}", vectors.shown(register))?;
         }

@@ -93,6 +93,12 @@ impl Source {
         }
     }
 
+    /// All of it, which is a text.
+    pub fn text(&mut self) -> Result<String, Failure> {
+        let bytes = self.rest(Vec::new())?;
+        String::from_utf8(bytes).map_err(|_| self.wrong("a text that isn't UTF-8"))
+    }
+
     /// One line without its newline, which the last may lack, or none at the end of the input.
     pub fn line(&mut self) -> Result<Option<String>, Failure> {
         let mut line = Vec::new();

@@ -4,6 +4,8 @@ mod case;
 mod elf;
 mod input;
 mod list;
+mod places;
+mod why;
 
 use input::{say, Failure, Source};
 use milestarling::{classify, listing, touches_memory, Answer, Instruction};
@@ -32,9 +34,10 @@ milestarling: the loads and stores of an AArch64 emulator
       milestarling text 'ldr x0, [x1, #8]'
 
   milestarling run [FILE] [--secrets]
-      Runs a case and shows each step, and whether it is a store-exclusive that failed,
-      and then the registers and the vector registers that aren't 0, the monitor where
-      it isn't open, and memory.
+      Runs a case and shows each step, whether it is a store-exclusive that failed, and
+      what it taints, and then the registers and the vector registers that aren't 0, the
+      monitor where it isn't open, and memory. Behind answer 5 stand the tainted bytes
+      that the address would have come from.
       A tainted byte is shown as `**`, and by --secrets as it is: in memory with a star
       behind it, and in a register by a statement that begins with `tainted`. A case has
       one statement a line, with numbers in decimal or after 0x in hexadecimal:
@@ -61,6 +64,35 @@ milestarling: the loads and stores of an AArch64 emulator
         ldr x0, [x1, #8]     one more word to run, by its text: any line that begins
                              with none of these names
 
+  milestarling why [FILE] [PLACE] [--at STEP]
+      Tells why a place is tainted at the end of a case's run, or with --at just after a
+      step (0 is the start): the step that tainted it, its text, and the place that it
+      was copied from, and so on back to the start. A place is a register (x3, sp, q5 or
+      v5: all of its tainted bytes), a byte of one (x3.2), or an address (0x1010).
+      Without a place, those are told of that a word was refused for with answer 5.
+      The file is a case or a trace. No value of a register or of memory is shown.
+
+  milestarling trace [FILE]
+      Runs a case and writes its trace: a text with all that `why` goes by and with no
+      values, for those who don't have the case. A trace begins with this line, and has
+      one statement a line:
+
+        milestarling trace 1
+        # WORDS              a comment
+        origin NUMBER        the address of memory's first byte, at first 0
+        readonly NUMBER      how many bytes at the start of memory can't be stored to,
+                             at first 0
+        length NUMBER        how many bytes memory has, at first 0
+        taints NUMBER        how many taint bytes, where they aren't as many
+        pc NUMBER            the program counter at the start, at first 0
+        tainted x2.0-3       bytes of a register, or a whole one, tainted at the start
+        tainted NUMBER NUMBER
+                             bytes of memory tainted at the start: an address, and how
+                             many
+        step HEX NUMBER NUMBER NUMBER
+                             a step done: its word, code, address and status
+        word HEX             a word behind them, of which the first was refused
+
   milestarling --help | --version
 
 Where no file or word is named, or the file is `-`, standard input is read. The answers
@@ -68,6 +100,8 @@ are those of docs/ANSWERS.md. What is wrong is said on standard error. The statu
 where all went well, 1 where something was refused or failed, and 2 where the command
 was called wrongly.
 ";
+
+const COMMANDS: &str = "list, word, text, run, why or trace";
 
 fn main() -> ExitCode {
     let words: Vec<OsString> = env::args_os().skip(1).collect();
@@ -92,7 +126,7 @@ fn command(words: &[OsString], output: &mut impl Write) -> Result<(), Failure> {
         .map(|word| word.to_str().ok_or_else(|| Failure::Usage(format!("{word:?} isn't UTF-8"))))
         .collect::<Result<_, _>>()?;
     let Some((&name, rest)) = words.split_first() else {
-        return Err(Failure::Usage("say what to do: list, word, text or run; --help tells more".into()));
+        return Err(Failure::Usage(format!("say what to do: {COMMANDS}; --help tells more")));
     };
     if name == "--help" || name == "-h" || name == "help" || rest.contains(&"--help") {
         return output.write_all(HELP.as_bytes()).map_err(Failure::write);
@@ -107,12 +141,17 @@ fn command(words: &[OsString], output: &mut impl Write) -> Result<(), Failure> {
             let (secrets, files): (Vec<&str>, Vec<&str>) = rest.iter().partition(|&&word| word == "--secrets");
             case::run(Source::of(&files)?, !secrets.is_empty(), output)
         }
+        "why" => {
+            let (words, at) = option(rest, "--at")?;
+            why::why(&words, at, output)
+        }
+        "trace" => why::trace(Source::of(rest)?, output),
         "word" => each(rest, true, output, |word| hexadecimal(word).map(told)),
         "text" => each(rest, false, output, |line| {
             let read: Result<Instruction, _> = line.parse();
             read.map(|instruction| listing(&instruction.word().to_le_bytes())).map_err(|refusal| refusal.to_string())
         }),
-        _ => Err(Failure::Usage(format!("`{name}` is no command: list, word, text or run; --help tells more"))),
+        _ => Err(Failure::Usage(format!("`{name}` is no command: {COMMANDS}; --help tells more"))),
     }
 }
 
