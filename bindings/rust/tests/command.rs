@@ -319,13 +319,71 @@ pc 0x4
     assert_eq!(call(&["run"], case.as_bytes()), Ended::well(taken));
 }
 
-/// The README shows the beginning of what the example writes.
+/// The README shows the beginning of what the example writes, and why a word of it was refused.
 #[test]
 fn runs_the_example() {
-    let ended = call(&["run", &stored("examples/login.case")], b"");
-    let shown: String = ended.wrote.lines().take(6).map(|line| format!("    {line}\n")).collect();
-    assert!(fs::read_to_string(stored("README.md")).unwrap().contains(&shown), "{shown}");
-    assert_eq!(ended.status, Some(1));
+    let readme = fs::read_to_string(stored("README.md")).unwrap();
+    for (name, lines, status) in [("run", 6, 1), ("why", 3, 0)] {
+        let ended = call(&[name, &stored("examples/login.case")], b"");
+        let shown: String = ended.wrote.lines().take(lines).map(|line| format!("    {line}\n")).collect();
+        assert!(shown.lines().count() == lines && readme.contains(&shown), "{shown}");
+        assert_eq!(ended.status, Some(status));
+    }
+}
+
+/// What the indented blocks of a section hold, one behind the other, without their indent.
+fn blocks(document: &str, heading: &str) -> Vec<Vec<String>> {
+    let section = document.split("\n## ").find(|section| section.starts_with(heading)).unwrap();
+    let mut blocks = vec![Vec::new()];
+    for line in section.lines() {
+        match line.strip_prefix("    ") {
+            Some(line) => blocks.last_mut().unwrap().push(line.to_string()),
+            None => blocks.push(Vec::new()),
+        }
+    }
+    blocks.into_iter().filter(|block| !block.is_empty()).collect()
+}
+
+/// The commands of the worked answer are run as they are printed, but for those that need a package, and what stands behind the
+/// last of a block is what it writes; behind `...` there is more.
+#[test]
+fn the_worked_answer_is_true() {
+    let room = Path::new(env!("CARGO_TARGET_TMPDIR")).join("worked");
+    fs::remove_dir_all(&room).ok();
+    fs::create_dir(&room).unwrap();
+    std::os::unix::fs::symlink(stored("examples"), room.join("examples")).unwrap();
+    let directory = Path::new(env!("CARGO_BIN_EXE_milestarling")).parent().unwrap();
+    let path = format!("{}:{}", directory.display(), std::env::var("PATH").unwrap());
+    let blocks = blocks(&fs::read_to_string(stored("docs/ANSWERS.md")).unwrap(), "A worked answer 5\n");
+    let (mut run, mut wrote) = (0, String::new());
+    for block in blocks.iter().filter(|block| !block[0].starts_with("apt-get ")) {
+        if block[0].starts_with("milestarling ") || block[0].contains(" | milestarling ") {
+            for line in block {
+                let output =
+                    Command::new("sh").args(["-c", line]).current_dir(&room).env("PATH", &path).output().unwrap();
+                assert!(output.stderr.is_empty(), "{line}: {output:?}");
+                wrote = String::from_utf8(output.stdout).unwrap();
+                run += 1;
+            }
+        } else if !wrote.is_empty() {
+            match block.split_last() {
+                Some((dots, shown)) if dots == "..." => {
+                    assert!(wrote.starts_with(&(shown.join("\n") + "\n")), "{wrote}")
+                }
+                _ => assert_eq!(wrote, block.join("\n") + "\n"),
+            }
+            wrote.clear();
+        }
+    }
+    assert!(run == 6 && wrote.is_empty(), "{run}");
+
+    // The case has the words of the file that was compiled, but for its return.
+    let traced = call(&["trace", &stored("examples/plugin/copy_by_kind.case")], b"").wrote;
+    let lines = traced.lines().filter(|line| line.starts_with("step ") || line.starts_with("word "));
+    let words: Vec<String> = lines.map(|line| line.split(' ').nth(1).unwrap().to_string()).collect();
+    let image = fs::read(stored("examples/plugin/copy_by_kind.bin")).unwrap();
+    let compiled = milestarling::words(&image, 0).map(|(_, word, _)| format!("{word:08x}"));
+    assert_eq!(words, compiled.take(4).collect::<Vec<_>>());
 }
 
 /// Pairs, sign copies, a store-exclusive that fails, and a register that is written back.
