@@ -37,6 +37,9 @@ echo "bindings: what the README prints for Rust was compiled and run"
 
 if [ -z "${MILESTARLING_LIB:-}" ]; then
     bash ../../tools/install.sh --command "$room/prefix" > "$room/said" 2>&1 || { cat "$room/said"; exit 1; }
-    "$room/prefix/bin/milestarling" word f9400420 | diff - <(printf 'f9400420\tldr x0, [x1, #8]\t0\n')
-    echo "bindings: an installed command lists a word"
+    installed=$room/prefix/bin/milestarling
+    "$installed" word f9400420 | diff - <(printf 'f9400420\tldr x0, [x1, #8]\t0\n')
+    "$installed" trace ../../examples/login.case | "$installed" why - x2 |
+        diff - <(printf '%s\n' 'x2 byte 0: step 1, ldrb w2, [x0], from 0x1000' '0x1000: tainted at the start')
+    echo "bindings: an installed command lists a word, and tells of a trace why a byte is tainted"
 fi
