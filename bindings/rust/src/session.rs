@@ -291,7 +291,8 @@ impl Session {
     /// Does a step for each word, up to the first refusal, and writes what each did into the trace, and its status: 1
     /// for a store-exclusive that failed, and else 0.
     ///
-    /// The rest of the trace and of the statuses stays as it was.
+    /// The rest of the trace and of the statuses stays as it was. [`Past::run`](crate::Past::run) has lists of its own, and tells
+    /// afterwards why a byte is tainted.
     ///
     /// # Errors
     ///

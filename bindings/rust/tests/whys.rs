@@ -655,3 +655,47 @@ fn every_start_has_a_text() {
         assert_eq!(past.to_string().parse(), Ok(past));
     }
 }
+
+/// Texts that came through something that damages them are refused by their line, or are of some past, which then has a text of its
+/// own and an answer to each question.
+#[test]
+fn a_damaged_text_is_refused_or_read() {
+    let mut random = Random::new(86);
+    let (mut read, mut refused) = (0, 0);
+    for _ in 0..4000 {
+        let (mut session, mut memory, words) = some_run(&mut random);
+        let words = &words[..words.len().min(4)];
+        let mut text = Past::run(&mut session, &mut memory, words).0.to_string().into_bytes();
+        for _ in 0..1 + random.below(2) {
+            let at = random.below(text.len());
+            match random.below(4) {
+                0 => drop(text.remove(at)),
+                1 => text.insert(at, *random.choose(b"0123456789af x.,-#\n")),
+                2 => text[at] = *random.choose(b"0123456789af x.,-#\n"),
+                _ => text.truncate(at.max(1)),
+            }
+        }
+        let text = String::from_utf8(text).unwrap();
+        match text.parse::<Past>() {
+            Ok(past) => {
+                read += 1;
+                assert_eq!(past.to_string().parse().as_ref(), Ok(&past));
+                let (lent, _) = lent_of(&past);
+                for place in [Place::Register(Register::X2, 0), Place::Memory(0x1010)] {
+                    let asked = match place {
+                        Place::Memory(number) => Asked { step: lent.steps, kind: BYTE, number, byte: 0 },
+                        _ => Asked { step: lent.steps, kind: REGISTER, number: 2, byte: 0 },
+                    };
+                    let said = past.why(place, past.steps()).map(|links| links.iter().map(numbers_of).collect());
+                    assert_eq!(said.map_err(|refusal| refusal.answer().number()), explain(&lent, asked), "{text}");
+                }
+            }
+            Err(error) => {
+                refused += 1;
+                assert!((1..=text.lines().count() + 1).contains(&error.line()), "{error}");
+            }
+        }
+    }
+    println!("{read} read, {refused} refused");
+    assert!(read > 200 && refused > 500, "{read} {refused}");
+}

@@ -109,13 +109,13 @@ fn told(trails: &[Vec<Link>]) -> String {
 fn goes_on(group: &[&Vec<Link>], trail: &[Link]) -> bool {
     let [.., last] = group else { return false };
     let step_of = |link: &Link| link.copied.map(|copied| copied.step);
-    let is_same = |at: usize| last[at].place == trail[at].place;
     let was_same = |at: usize| group.len() > 1 && group[0][at].place == last[at].place;
-    let beside = |at: usize| next_place(last[at].place) == trail[at].place && (group.len() == 1 || !was_same(at));
+    let is_same = |at: usize| last[at].place == trail[at].place && (group.len() == 1 || was_same(at));
+    let is_next = |at: usize| next_place(last[at].place) == trail[at].place && !was_same(at);
     last.len() == trail.len()
-        && beside(0)
+        && is_next(0)
         && (0..trail.len()).all(|at| step_of(&last[at]) == step_of(&trail[at]))
-        && (1..trail.len()).all(|at| beside(at) || is_same(at) && (group.len() == 1 || was_same(at)))
+        && (1..trail.len()).all(|at| is_next(at) || is_same(at))
 }
 
 fn told_once(group: &[&Vec<Link>]) -> String {
