@@ -29,8 +29,8 @@ fn statements(text: &str) -> impl Iterator<Item = (usize, &str)> {
 ///
 /// - `origin`, `readonly`, `length` and `pc`, each with a number: where memory is, and the program counter at the start;
 /// - `taints` with a number, only where there isn't one taint byte for each byte of memory;
-/// - `tainted x2`, `tainted x2.0-3,7`, `tainted q5.0`: a register or a vector register that was tainted at the start, all of it or
-///   these bytes;
+/// - `tainted x2`, `tainted x2.0-3,7`, `tainted q5.0`: a register or a vector register that was tainted at the start, all of it
+///   or these bytes;
 /// - `tainted 0x1000 8`: so many bytes of memory, from this address on, that were;
 /// - `step 39400002 1 0x1000 0`: a step done, by its word, its code, its address and its status;
 /// - `word 386268a4`: a word behind them, of which the first is the one that was refused.

@@ -656,8 +656,8 @@ fn every_start_has_a_text() {
     }
 }
 
-/// Texts that came through something that damages them are refused by their line, or are of some past, which then has a text of its
-/// own and an answer to each question.
+/// Texts that came through something that damages them are refused by their line, or are of some past, which then has a text of
+/// its own and an answer to each question.
 #[test]
 fn a_damaged_text_is_refused_or_read() {
     let mut random = Random::new(86);

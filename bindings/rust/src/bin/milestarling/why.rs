@@ -104,8 +104,8 @@ fn told(trails: &[Vec<Link>]) -> String {
     told.join("\n")
 }
 
-/// Whether a way goes beside those of a group: by the same steps, and at each of them from the byte behind, or from the same one as
-/// copies of a sign do.
+/// Whether a way goes beside those of a group: by the same steps, and at each of them from the byte behind, or from the same
+/// one as copies of a sign do.
 fn goes_on(group: &[&Vec<Link>], trail: &[Link]) -> bool {
     let [.., last] = group else { return false };
     let step_of = |link: &Link| link.copied.map(|copied| copied.step);
