@@ -8,13 +8,13 @@ use Rattle.bits.specs.Choice.{pick}
 use Rattle.instruction.specs.Types.{Answer}
 use Rattle.instruction.specs.Answers.{answerNumber}
 
--- 12 to 15 are no number of an answer
+-- 13 to 15 are no number of an answer
 answerAt : ℕ → Answer
 answerAt n =
     getD
     (Answer.Done ∷ Answer.BadWindow ∷ Answer.NotInSet ∷ Answer.Undefined ∷ Answer.Unpredictable ∷ Answer.TaintedAddress ∷ Answer.Misaligned ∷ Answer.OutOfWindow
-    ∷ Answer.ReadOnly ∷ Answer.NoSuchText ∷ Answer.NoRoom ∷ Answer.NoSuchInstruction ∷ Answer.Closed ∷ Answer.BadTrace ∷ Answer.AfterEnd ∷ [])
-    (pick (ltb n 12) n (n - 4)) Answer.Done
+    ∷ Answer.ReadOnly ∷ Answer.NoSuchText ∷ Answer.NoRoom ∷ Answer.NoSuchInstruction ∷ Answer.NotAllowed ∷ Answer.Closed ∷ Answer.BadTrace ∷ Answer.AfterEnd ∷ [])
+    (pick (ltb n 13) n (n - 3)) Answer.Done
 
 number-back : (a : Answer) → answerAt (answerNumber a) ≡ a
 unfolding answerAt
@@ -30,6 +30,7 @@ number-back Answer.ReadOnly = refl
 number-back Answer.NoSuchText = refl
 number-back Answer.NoRoom = refl
 number-back Answer.NoSuchInstruction = refl
+number-back Answer.NotAllowed = refl
 number-back Answer.Closed = refl
 number-back Answer.BadTrace = refl
 number-back Answer.AfterEnd = refl

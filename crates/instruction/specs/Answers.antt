@@ -15,6 +15,7 @@ answerNumber Answer.ReadOnly = 8
 answerNumber Answer.NoSuchText = 9
 answerNumber Answer.NoRoom = 10
 answerNumber Answer.NoSuchInstruction = 11
+answerNumber Answer.NotAllowed = 12
 answerNumber Answer.Closed = 16
 answerNumber Answer.BadTrace = 17
 answerNumber Answer.AfterEnd = 18

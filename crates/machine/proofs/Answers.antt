@@ -3,7 +3,7 @@ use Prim.Native.Nat.{ℕ, _%_, _<_}
 use mathlib.Core.Path.{_≡_, refl, sym, ap, subst, _∙_}
 use mathlib.Core.Bool.{Bool, true, false, not}
 use mathlib.Core.List.{List, map}
-use mathlib.Core.Logic.{_↔_}
+use mathlib.Core.Logic.{_↔_, _⊎_, inl, inr}
 use native.Mathlib.Omega.{arith}
 use lib.Dec.{eqb}
 use lib.ListN.{length, getD}
@@ -24,6 +24,10 @@ use Rattle.plan.specs.declared.Plan.the-variants.{Refuse, Touch}
 use Rattle.plan.specs.Address.{sumOf, addressOf}
 use Rattle.plan.specs.Refusals.{Refusal, firstOf, answerIn, Given}
 use Rattle.plan.specs.Admission.{admitOf}
+use Rattle.plan.specs.declared.ranges.Ranges.{Ranges}
+use Rattle.plan.specs.declared.ranges.Reach.{Reach}
+use Rattle.plan.specs.declared.ranges.Reach.the-variants.{Alone, Ranged}
+use Rattle.plan.specs.Ranges.{admitRanges, admitIn}
 use Rattle.plan.specs.Plans.{misalignedStack, refusalsOf, planOf}
 use Rattle.plan.proofs.Refusals.{Passed, Each, each-map, first-by, first-map, none-holds, given}
 use Rattle.vectors.specs.File.{wide}
@@ -34,8 +38,8 @@ use Rattle.machine.specs.declared.State.{State}
 use Rattle.machine.specs.route.Writing.{Full}
 use Rattle.machine.proofs.Writing.{operands-plain}
 use Rattle.machine.specs.Machine.{Machine, machineOf, operandsOf}
-use Rattle.machine.specs.Refusals.{bad, accessRefusals, wordRefusals, refusals}
-use Rattle.machine.specs.Step.{Step, stopped, moved, performOf, stepOf, performed}
+use Rattle.machine.specs.Refusals.{bad, accessRefusals, wordRefusals, refusalsIn, refusals}
+use Rattle.machine.specs.Step.{Step, stopped, moved, performOf, stepIn, stepOf, performed}
 use Rattle.machine.specs.route.Parts.{wordStep, accessStep, planStep}
 
 unchanged : (m : Machine) (s : Step Machine) → ¬ (answerNumber (performed m s .answer) ≡ 0) → performed m s .machine ≡ m
@@ -52,21 +56,30 @@ performs origin Nothing m = refl
 performs origin (Moves t a) m = refl
 
 -- a step answers by the first of its refusals that holds, and 0 where none does
-pub answers-exact : (w : Window) (word : ℕ) (m : Machine) → performed m (stepOf w word m) .answer ≡ answerIn (refusals w word m)
-unfolding stepOf
-answers-exact w word m =
-    first-map (λ (s : Step Machine). performed m s .answer) stopped (performOf (w .origin) (wordAccess word) m) (refusals w word m)
-    ∙ ap (λ (d : Answer). firstOf (λ answer address. answer) d (refusals w word m)) (performs (w .origin) (wordAccess word) m)
+pub answers-in : (w : Window) (reach : Reach) (word : ℕ) (m : Machine) → performed m (stepIn w reach word m) .answer ≡ answerIn (refusalsIn w reach word m)
+unfolding stepIn
+answers-in w reach word m =
+    first-map (λ (s : Step Machine). performed m s .answer) stopped (performOf (w .origin) (wordAccess word) m) (refusalsIn w reach word m)
+    ∙ ap (λ (d : Answer). firstOf (λ answer address. answer) d (refusalsIn w reach word m)) (performs (w .origin) (wordAccess word) m)
 
--- a number of 1 to 8 is answered exactly if its test holds and none before it
+pub answers-exact : (w : Window) (word : ℕ) (m : Machine) → performed m (stepOf w word m) .answer ≡ answerIn (refusals w word m)
+answers-exact w = answers-in w Alone
+
+-- a number other than 0 is answered exactly if its test holds and none before it
+pub given-in : (w : Window) (reach : Reach) (word : ℕ) (m : Machine) (n : ℕ) → ¬ (n ≡ 0) → (answerNumber (performed m (stepIn w reach word m) .answer) ≡ n) ↔ Given n (refusalsIn w reach word m)
+given-in w reach word m n z = rw (answers-in w reach word m) (given n z (refusalsIn w reach word m))
+
 pub answers-given : (w : Window) (word : ℕ) (m : Machine) (n : ℕ) → ¬ (n ≡ 0) → (answerNumber (performed m (stepOf w word m) .answer) ≡ n) ↔ Given n (refusals w word m)
-answers-given w word m n z = rw (answers-exact w word m) (given n z (refusals w word m))
+answers-given w = given-in w Alone
 
 -- ---- the tests of the deciding half
 
+pub step-in : (w : Window) (reach : Reach) (word : ℕ) (m : Machine) → stepIn w reach word m ≡ pick (bad w m) (stopped BadWindow 0) (wordStep (w .origin) (admitIn w reach (length (m .memory))) word m)
+unfolding stepIn wordStep
+step-in w reach word m = refl
+
 pub step-bad : (w : Window) (word : ℕ) (m : Machine) → stepOf w word m ≡ pick (bad w m) (stopped BadWindow 0) (wordStep (w .origin) (admitOf w (length (m .memory))) word m)
-unfolding stepOf wordStep
-step-bad w word m = refl
+step-bad w = step-in w Alone
 
 class-at : {A : Type 0} (refuse : Answer → ℕ → A) (x : A) (member wrong loose : Bool) → let class = pick member (pick wrong Undefined (pick loose Unpredictable Done)) NotInSet in
     pick (not member) (refuse NotInSet 0) (pick wrong (refuse Undefined 0) (pick loose (refuse Unpredictable 0) x)) ≡ pick (eqb (answerNumber class) 0) x (refuse class 0)
@@ -119,31 +132,69 @@ abbrev pub Refuses : {A : Type 0} → Step A → Type 0
 Refuses (stopped answer address) = ¬ (answerNumber answer ≡ 0)
 Refuses (moved n shown) = Unit {0}
 
--- behind the window's, refusals have the numbers 2 to 8
-abbrev pub Later : Refusal → Type 0
-Later e = (1 < answerNumber (e .answer)) × (answerNumber (e .answer) < 9)
+-- a fact of a refusal's number
+abbrev pub Numbered : (ℕ → Type 0) → Refusal → Type 0
+Numbered P e = P (answerNumber (e .answer))
 
-access-later : (w : Window) (x : Access) (m : Machine) → Each Later (accessRefusals (admitOf w (length (m .memory))) x m)
+-- of all behind the window's, from the same of what an admission refuses
+module _ (P : ℕ → Type 0) (two : P 2) (three : P 3) (four : P 4) (five : P 5) (six : P 6) (admit : Transfer → ℕ → List Refusal) (further : (t : Transfer) (a : ℕ) → Each (Numbered P) (admit t a)) where
+  access-numbers : (x : Access) (m : Machine) → Each (Numbered P) (accessRefusals admit x m)
+  access-numbers Nothing m = tt
+  access-numbers (Moves t a) m = (five, (six, further t (addressOf a (operandsOf a m))))
+
+  pub word-numbers : (word : ℕ) (m : Machine) → Each (Numbered P) (wordRefusals admit word m)
+  word-numbers word m = (two, (three, (four, access-numbers (wordAccess word) m)))
+
+-- those of a plugin alone have the numbers 2 to 8
+abbrev pub Later : ℕ → Type 0
+Later n = (1 < n) × (n < 9)
+
+admit-later : (w : Window) (len : ℕ) (t : Transfer) (a : ℕ) → Each (Numbered Later) (admitOf w len t a)
 unfolding admitOf
-access-later w Nothing m = tt
-access-later w (Moves t a) m = ((omega arith, omega arith), ((omega arith, omega arith), ((omega arith, omega arith), ((omega arith, omega arith), ((omega arith, omega arith), ((omega arith, omega arith), tt))))))
+admit-later w len t a = ((omega arith, omega arith), ((omega arith, omega arith), ((omega arith, omega arith), ((omega arith, omega arith), tt))))
 
-pub word-later : (w : Window) (word : ℕ) (m : Machine) → Each Later (wordRefusals (admitOf w (length (m .memory))) word m)
-word-later w word m = ((omega arith, omega arith), ((omega arith, omega arith), ((omega arith, omega arith), access-later w (wordAccess word) m)))
+pub word-later : (w : Window) (word : ℕ) (m : Machine) → Each (Numbered Later) (wordRefusals (admitOf w (length (m .memory))) word m)
+word-later w word m =
+    word-numbers Later (omega arith, omega arith) (omega arith, omega arith) (omega arith, omega arith) (omega arith, omega arith) (omega arith, omega arith) (admitOf w (length (m .memory))) (admit-later w (length (m .memory))) word m
+
+-- and by what may be reached, 12 too
+abbrev pub Late : ℕ → Type 0
+Late n = Later n ⊎ (n ≡ 12)
+
+admit-late : (w : Window) (reach : Reach) (len : ℕ) (t : Transfer) (a : ℕ) → Each (Numbered Late) (admitIn w reach len t a)
+unfolding admitRanges
+admit-late w Alone len t a = each-map {P = Numbered Later} {Q = Numbered Late} (λ e l. inl l) (admitOf w len t a) (admit-later w len t a)
+admit-late w (Ranged r) len t a = (inl (omega arith, omega arith), (inl (omega arith, omega arith), (inl (omega arith, omega arith), (inl (omega arith, omega arith), (inr refl, tt)))))
+
+pub word-late : (w : Window) (reach : Reach) (word : ℕ) (m : Machine) → Each (Numbered Late) (wordRefusals (admitIn w reach (length (m .memory))) word m)
+word-late w reach word m =
+    word-numbers Late (inl (omega arith, omega arith)) (inl (omega arith, omega arith)) (inl (omega arith, omega arith)) (inl (omega arith, omega arith)) (inl (omega arith, omega arith)) (admitIn w reach (length (m .memory))) (admit-late w reach (length (m .memory))) word m
+
+not-zero : (n : ℕ) → Late n → ¬ (n ≡ 0)
+not-zero n (inl l) h = omega (arith, l .0)
+not-zero n (inr e) h = omega arith
+
+pub all-refuse-in : (w : Window) (reach : Reach) (word : ℕ) (m : Machine) → Each (λ e. ¬ (answerNumber (e .answer) ≡ 0)) (refusalsIn w reach word m)
+all-refuse-in w reach word m = (
+  (λ h. omega arith),
+  each-map {P = Numbered Late} {Q = λ e. ¬ (answerNumber (e .answer) ≡ 0)} (λ e late. not-zero (answerNumber (e .answer)) late) (wordRefusals (admitIn w reach (length (m .memory))) word m) (word-late w reach word m),
+)
 
 pub all-refuse : (w : Window) (word : ℕ) (m : Machine) → Each (λ e. ¬ (answerNumber (e .answer) ≡ 0)) (refusals w word m)
-all-refuse w word m =
-    ((λ h. omega arith), each-map {P = Later} {Q = λ e. ¬ (answerNumber (e .answer) ≡ 0)} (λ e later h. omega (arith, later .0)) (wordRefusals (admitOf w (length (m .memory))) word m) (word-later w word m))
+all-refuse w = all-refuse-in w Alone
 
-pub step-refuses : (w : Window) (word : ℕ) (m : Machine) → Refuses (stepOf w word m)
-unfolding stepOf
-step-refuses w word m =
-    first-by Refuses stopped (performOf (w .origin) (wordAccess word) m) (refusals w word m)
-    (all-refuse w word m) (λ p. moves (w .origin) (wordAccess word) m)
+pub refuses-in : (w : Window) (reach : Reach) (word : ℕ) (m : Machine) → Refuses (stepIn w reach word m)
+unfolding stepIn
+refuses-in w reach word m =
+    first-by Refuses stopped (performOf (w .origin) (wordAccess word) m) (refusalsIn w reach word m)
+    (all-refuse-in w reach word m) (λ p. moves (w .origin) (wordAccess word) m)
   where
     moves : (origin : ℕ) (x : Access) (m : Machine) → Refuses (performOf origin x m)
     moves origin Nothing m = tt
     moves origin (Moves t a) m = tt
+
+pub step-refuses : (w : Window) (word : ℕ) (m : Machine) → Refuses (stepOf w word m)
+step-refuses w = refuses-in w Alone
 
 -- ---- the stack pointer (02, CR 1)
 

@@ -37,7 +37,7 @@ use Rattle.machine.specs.Monitor.{matches, statusOf, monitorAfter, writt
 use Rattle.machine.specs.Rule.{moveRule}
 use Rattle.machine.specs.Machine.{Machine, operandsOf, effectOf, codeOf}
 use Rattle.machine.specs.Refusals.{bad, classRefusals, accessRefusals, refusals}
-use Rattle.machine.specs.Step.{shown, Step, stopped, moved, Outcome, touchOf, performOf, stepOf, performed}
+use Rattle.machine.specs.Step.{shown, Step, stopped, moved, Outcome, touchOf, performOf, stepIn, stepOf, performed}
 use Rattle.machine.specs.Exclusives.{Armed, StoresExclusive, withMonitor}
 use Rattle.machine.proofs.Answers.{answers-exact, all-refuse}
 
@@ -59,7 +59,7 @@ module _ (w : Window) (word : ℕ) (m : Machine) (done : answerNumber (performed
       row-access word (p .0) (p .1) ∙ ap (λ (x : Row). familyAccess (columnsOf x .family word)) row
 
   performs-at : (x : Access) → wordAccess word ≡ x → stepOf w word m ≡ performOf (w .origin) x m
-  unfolding stepOf
+  unfolding stepIn
   performs-at x e =
       first-by (λ (s : Step Machine). answerNumber (performed m s .answer) ≡ 0 → s ≡ performOf (w .origin) x m) stopped (performOf (w .origin) (wordAccess word) m) (refusals w word m)
       (each-map {P = λ r. ¬ (answerNumber (r .answer) ≡ 0)} {Q = λ r. answerNumber (r .answer) ≡ 0 → stopped (r .answer) (r .address) ≡ performOf (w .origin) x m} (λ r z h. absurd (z h)) (refusals w word m) (all-refuse w word m))
@@ -146,7 +146,7 @@ plain-keeps origin Nothing m h = (refl, refl)
 plain-keeps origin (Moves t a) m h = (rw h, rw h)
 
 pub others-keep : (w : Window) (word : ℕ) (m : Machine) → matchesRow word Row.LoadExclusiveRow ≡ false → matchesRow word Row.StoreExclusiveRow ≡ false → Kept m (stepOf w word m)
-unfolding stepOf
+unfolding stepIn
 others-keep w word m l s =
     first-by (Kept m) stopped (performOf (w .origin) (wordAccess word) m) (refusals w word m) (each (λ e. (refl, refl)) (refusals w word m))
     (λ none.
@@ -193,7 +193,7 @@ pub tests-first : (w : Window) (word : ℕ) (m : Machine) (r : Monitor)
     → let other = performed (withMonitor r m) (stepOf w word (withMonitor r m)) in
     let this = performed m (stepOf w word m) in
     (answerNumber (other .answer) ≡ answerNumber (this .answer)) × (other .shown .code ≡ this .shown .code) × (other .shown .address ≡ this .shown .address)
-unfolding stepOf
+unfolding stepIn
 tests-first w word m r =
     let x = wordAccess word in
     let n = withMonitor r m in

@@ -28,6 +28,8 @@ use Rattle.access.specs.declared.Access.the-variants.{Nothing, Moves}
 use Rattle.access.specs.Accesses.{wordAccess}
 use Rattle.access.proofs.Bounds.{Whole, Bounded, Within, bounded}
 use Rattle.plan.specs.declared.window.Window.{Window}
+use Rattle.plan.specs.declared.ranges.Reach.{Reach}
+use Rattle.plan.specs.declared.ranges.Reach.the-variants.{Alone}
 use Rattle.plan.specs.Address.{sumOf, addressOf}
 use Rattle.plan.proofs.Refusals.{each, first-by}
 use Rattle.machine.specs.declared.State.{State}
@@ -35,15 +37,15 @@ use Rattle.machine.specs.declared.monitor.Monitor.{Monitor}
 use Rattle.machine.specs.Monitor.{openMonitor, matches, storeExclusive, statusOf, writtenBack, fails, madeOf}
 use Rattle.machine.specs.Rule.{loadedIn, moveRule}
 use Rattle.machine.specs.Machine.{Machine, machineOf, operandsOf, effectOf}
-use Rattle.machine.specs.Refusals.{refusals}
-use Rattle.machine.specs.Step.{Step, stopped, moved, performOf, stepOf, performed}
+use Rattle.machine.specs.Refusals.{refusalsIn}
+use Rattle.machine.specs.Step.{Step, stopped, moved, performOf, stepIn, stepOf, performed}
 use Rattle.machine.specs.Real.{Fits, Real}
 use Rattle.machine.proofs.Taints.{loaded-taint-below}
 use Rattle.machine.proofs.Writing.{not-extended, whole-taints-are}
 
 -- ---- lists of numbers below one
 
-abbrev Below : ℕ → List ℕ → Type 0
+abbrev pub Below : ℕ → List ℕ → Type 0
 Below top xs = (n : ℕ) → getD xs n 0 < top
 
 -- what holds of each number of a list, by its place
@@ -54,7 +56,7 @@ set-each P (x ∷ xs) zero v h b (suc n) = b (suc n)
 set-each P (x ∷ xs) (suc i) v h b zero = b zero
 set-each P (x ∷ xs) (suc i) v h b (suc n) = set-each (λ k. P (suc k)) xs i v h (λ k. b (suc k)) n
 
-bytes-below : (k v at : ℕ) (xs : List ℕ) → Below 256 xs → Below 256 (sets xs at (bytesOf k v))
+pub bytes-below : (k v at : ℕ) (xs : List ℕ) → Below 256 xs → Below 256 (sets xs at (bytesOf k v))
 unfolding bytesOf
 bytes-below zero v at xs b = b
 bytes-below (suc k) v at xs b = bytes-below k (v / 256) (suc at) (set xs at (v % 256)) (set-each (λ n x. x < 256) xs at (v % 256) (omega arith) b)
@@ -173,11 +175,14 @@ module _ (m : Machine) (r : Real m) where
       real-effect (madeOf t status) (made-bounded t status (b .0)) (a .written) (address - origin) _ _
       (back-below t status (sumOf a (operandsOf a m)) (status-below t address (m .monitor)) (omega arith))
 
-  pub real-moved : (w : Window) (word : ℕ) → RealStep (stepOf w word m)
-  unfolding stepOf
-  real-moved w word =
-      first-by RealStep stopped (performOf (w .origin) (wordAccess word) m) (refusals w word m) (each (λ e. tt) (refusals w word m))
+  pub real-in : (w : Window) (reach : Reach) (word : ℕ) → RealStep (stepIn w reach word m)
+  unfolding stepIn
+  real-in w reach word =
+      first-by RealStep stopped (performOf (w .origin) (wordAccess word) m) (refusalsIn w reach word m) (each (λ e. tt) (refusalsIn w reach word m))
       (λ p. real-perform (w .origin) (wordAccess word) (bounded word))
+
+  pub real-moved : (w : Window) (word : ℕ) → RealStep (stepOf w word m)
+  real-moved w = real-in w Alone
 
   performed-real : (s : Step Machine) → RealStep s → Real (performed m s .machine)
   performed-real (stopped answer address) h = r

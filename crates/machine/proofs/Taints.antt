@@ -24,13 +24,15 @@ use Rattle.access.specs.declared.transfer.Transfer.{Transfer}
 use Rattle.access.specs.declared.Access.{Access}
 use Rattle.access.specs.declared.Access.the-variants.{Nothing, Moves}
 use Rattle.plan.specs.declared.window.Window.{Window}
+use Rattle.plan.specs.declared.ranges.Reach.{Reach}
+use Rattle.plan.specs.declared.ranges.Reach.the-variants.{Alone}
 use Rattle.plan.proofs.Refusals.{each, first-by}
 use Rattle.access.specs.Accesses.{wordAccess}
 use Rattle.machine.specs.declared.Shown.{Shown}
 use Rattle.machine.specs.Rule.{Taints, moveRule, ruleOf, wordRule}
 use Rattle.machine.specs.Machine.{Machine, effectOf}
-use Rattle.machine.specs.Refusals.{refusals}
-use Rattle.machine.specs.Step.{Step, stopped, moved, performOf, stepOf}
+use Rattle.machine.specs.Refusals.{refusalsIn}
+use Rattle.machine.specs.Step.{Step, stopped, moved, performOf, stepIn, stepOf}
 
 -- a step that moves leaves of a part of the machine what a rule gives of what it shows
 abbrev pub Follows : {A B : Type 0} → (A → B) → (Shown → B → B) → A → Step A → Type 0
@@ -46,11 +48,14 @@ perform-follows origin Nothing m = refl
 perform-follows origin (Moves t a) m = refl
 
 -- the taints after a step are those of the taint rule of its word and what it shows
+pub taints-in : (w : Window) (reach : Reach) (word : ℕ) (m : Machine) → Follows taintsIn (wordRule (w .origin) word) m (stepIn w reach word m)
+unfolding stepIn
+taints-in w reach word m =
+    first-by (Follows taintsIn (wordRule (w .origin) word) m) stopped (performOf (w .origin) (wordAccess word) m) (refusalsIn w reach word m)
+    (each (λ e. tt) (refusalsIn w reach word m)) (λ p. perform-follows (w .origin) (wordAccess word) m)
+
 pub taints-by-rule : (w : Window) (word : ℕ) (m : Machine) → Follows taintsIn (wordRule (w .origin) word) m (stepOf w word m)
-unfolding stepOf
-taints-by-rule w word m =
-    first-by (Follows taintsIn (wordRule (w .origin) word) m) stopped (performOf (w .origin) (wordAccess word) m) (refusals w word m)
-    (each (λ e. tt) (refusals w word m)) (λ p. perform-follows (w .origin) (wordAccess word) m)
+taints-by-rule w = taints-in w Alone
 
 -- ---- what the rule changes
 

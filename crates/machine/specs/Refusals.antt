@@ -12,7 +12,9 @@ use Rattle.access.specs.Accesses.{wordAccess}
 use Rattle.plan.specs.declared.window.Window.{Window}
 use Rattle.plan.specs.Window.{badWindow}
 use Rattle.plan.specs.Refusals.{Refusal, refusal}
-use Rattle.plan.specs.Admission.{admitOf}
+use Rattle.plan.specs.declared.ranges.Reach.{Reach}
+use Rattle.plan.specs.declared.ranges.Reach.the-variants.{Alone}
+use Rattle.plan.specs.Ranges.{admitIn}
 use Rattle.plan.specs.Plans.{refusalsOf}
 use Rattle.machine.specs.Machine.{Machine, operandsOf}
 
@@ -28,7 +30,7 @@ classRefusals word =
     ∷ refusal Unpredictable (unpredictable word) 0
     ∷ []
 
--- 5 to 8, which a prefetch passes
+-- 5 and the further ones, which a prefetch passes
 abbrev pub accessRefusals : (Transfer → ℕ → List Refusal) → Access → Machine → List Refusal
 accessRefusals admit Nothing m = []
 accessRefusals admit (Moves t a) m = refusalsOf admit t a (operandsOf a m)
@@ -36,6 +38,10 @@ accessRefusals admit (Moves t a) m = refusalsOf admit t a (operandsOf a m)
 abbrev pub wordRefusals : (Transfer → ℕ → List Refusal) → ℕ → Machine → List Refusal
 wordRefusals admit word m = classRefusals word ++ accessRefusals admit (wordAccess word) m
 
--- 1 to 8
+-- 1 to 8, and 12 of ranges, by what may be reached
+abbrev pub refusalsIn : Window → Reach → ℕ → Machine → List Refusal
+refusalsIn w reach word m = refusal BadWindow (bad w m) 0 ∷ wordRefusals (admitIn w reach (length (m .memory))) word m
+
+-- 1 to 8, of a plugin alone
 abbrev pub refusals : Window → ℕ → Machine → List Refusal
-refusals w word m = refusal BadWindow (bad w m) 0 ∷ wordRefusals (admitOf w (length (m .memory))) word m
+refusals w word m = refusalsIn w Alone word m

@@ -9,11 +9,13 @@ use Rattle.access.specs.declared.Access.the-variants.{Nothing, Moves}
 use Rattle.access.specs.Accesses.{wordAccess}
 use Rattle.vectors.specs.File.{filesAfter, taintsAfter}
 use Rattle.plan.specs.declared.window.Window.{Window}
+use Rattle.plan.specs.declared.ranges.Reach.{Reach}
+use Rattle.plan.specs.declared.ranges.Reach.the-variants.{Alone}
 use Rattle.plan.specs.Address.{sumOf, addressOf}
 use Rattle.plan.specs.Refusals.{firstOf}
 use Rattle.machine.specs.Monitor.{statusOf, monitorAfter, writtenBack, madeOf}
 use Rattle.machine.specs.Machine.{Machine, machineOf, operandsOf, passedOver, effectOf, codeOf}
-use Rattle.machine.specs.Refusals.{refusals}
+use Rattle.machine.specs.Refusals.{refusalsIn}
 use Rattle.machine.specs.declared.Shown.{Shown}
 use Rattle.machine.specs.declared.Stepped.{Stepped}
 
@@ -37,8 +39,12 @@ abbrev pub performOf : ℕ → Access → Machine → Step Machine
 performOf origin Nothing m = moved (passedOver m) (shown 0 0 0)
 performOf origin (Moves t a) m = touchOf origin t (a .written) (addressOf a (operandsOf a m)) (sumOf a (operandsOf a m)) m
 
-unfoldable pub stepOf : Window → ℕ → Machine → Step Machine
-stepOf w word m = firstOf stopped (performOf (w .origin) (wordAccess word) m) (refusals w word m)
+unfoldable pub stepIn : Window → Reach → ℕ → Machine → Step Machine
+stepIn w reach word m = firstOf stopped (performOf (w .origin) (wordAccess word) m) (refusalsIn w reach word m)
+
+-- the step of a plugin alone
+abbrev pub stepOf : Window → ℕ → Machine → Step Machine
+stepOf w = stepIn w Alone
 
 -- all that a step returns and leaves; a step that stops leaves the machine as it was
 pub record Outcome (A : Type 0) : Type 0 where

@@ -12,6 +12,7 @@ use instruction::Answer;
 pub use monitor::Monitor;
 pub use monitor::fails;
 use plan::Plan;
+pub use plan::Reach;
 pub use plan::Window;
 use registers::Registers;
 use vectors::VectorWrites;
@@ -22,10 +23,11 @@ ghost use lib.Dec.{ltb};
 ghost use lib.ListN.{length};
 ghost use Rattle.vectors.proofs.Slots.{Plain};
 ghost use Rattle.access.proofs.Bounds.{Within, Bounded, Placed};
-ghost use Rattle.plan.specs.Admission.{totalOf, admitOf};
+ghost use Rattle.plan.specs.Admission.{totalOf};
+ghost use Rattle.plan.specs.Ranges.{admitIn};
 ghost use Rattle.machine.specs.Monitor.{monitorAfter, madeOf};
 ghost use Rattle.machine.specs.Machine.{machineOf, opened, nextPc, effectOf};
-ghost use Rattle.machine.specs.Step.{shown, moved, stepOf, outcome, leaves};
+ghost use Rattle.machine.specs.Step.{shown, moved, stepIn, stepOf, outcome, leaves};
 ghost use Rattle.machine.specs.route.Parts.{wordStep, accessStep};
 ghost use Rattle.machine.specs.route.Writing.{Full, stateOf, passedOn, settledOf, completedOf, afterStore, afterLoad, ends, told};
 
@@ -174,7 +176,7 @@ pub fn next_pc(pc: u64) -> u64
     std::num::wrapping_add_u64(pc, 4)
 }
 
-// The first half. The arrays of the register file are lent, so that reading a register copies nothing.
+// The first half, of a plugin alone.
 pub fn decide<'a>(
     word: u32,
     pc: u64,
@@ -189,6 +191,37 @@ pub fn decide<'a>(
 ) -> Decision
     ensures { λ r. ⌜ told (stateOf (now (value .entry)) (now (tainted .entry)) pc monitor) (now (vectors .entry)) (now («vector_taint» .entry)) r (now (memory .exit)) (now (taint .exit)) ≡ ends (stepOf window word) (machineOf (stateOf (now (value .entry)) (now (tainted .entry)) pc monitor) (now (vectors .entry)) (now («vector_taint» .entry)) (now (memory .entry)) (now (taint .entry))) ⌝ }
 {
+    decide_within(
+        word,
+        pc,
+        monitor,
+        window,
+        Reach::Alone,
+        value,
+        tainted,
+        vectors,
+        vector_taint,
+        memory,
+        taint,
+    )
+}
+
+// The first half, by what may be reached. The arrays of the register file are lent, so that reading a register copies nothing.
+pub fn decide_within<'a>(
+    word: u32,
+    pc: u64,
+    monitor: Monitor,
+    window: Window,
+    reach: Reach,
+    value: &'a [u64; 32],
+    tainted: &'a [u64; 32],
+    vectors: &[[u64; 2]; 32],
+    vector_taint: &[[u64; 2]; 32],
+    memory: &mut [u8],
+    taint: &mut [u8],
+) -> Decision
+    ensures { λ r. ⌜ told (stateOf (now (value .entry)) (now (tainted .entry)) pc monitor) (now (vectors .entry)) (now («vector_taint» .entry)) r (now (memory .exit)) (now (taint .exit)) ≡ ends (stepIn window reach word) (machineOf (stateOf (now (value .entry)) (now (tainted .entry)) pc monitor) (now (vectors .entry)) (now («vector_taint» .entry)) (now (memory .entry)) (now (taint .entry))) ⌝ }
+{
     if plan::is_bad(window, memory.len() as u64, taint.len() as u64, pc) {
         return Decision::Refused(Answer::BadWindow, 0);
     }
@@ -201,6 +234,7 @@ pub fn decide<'a>(
         pc,
         monitor,
         window,
+        reach,
         value,
         tainted,
         vectors,
@@ -225,6 +259,7 @@ fn decide_word(
     pc: u64,
     monitor: Monitor,
     window: Window,
+    reach: Reach,
     value: &[u64],
     tainted: &[u64],
     vectors: &[[u64; 2]; 32],
@@ -233,7 +268,7 @@ fn decide_word(
     taint: &mut [u8],
 ) -> Decision
     requires { ⌜ Full (now value) (now tainted) (now vectors) (now «vector_taint») × (length (now taint) ≡ length (now memory)) ⌝ }
-    ensures { λ r. ⌜ told (stateOf (now (value .entry)) (now (tainted .entry)) pc monitor) (now (vectors .entry)) (now («vector_taint» .entry)) r (now (memory .exit)) (now (taint .exit)) ≡ ends (wordStep (window .origin) (admitOf window (length (now (memory .entry)))) word) (machineOf (stateOf (now (value .entry)) (now (tainted .entry)) pc monitor) (now (vectors .entry)) (now («vector_taint» .entry)) (now (memory .entry)) (now (taint .entry))) ⌝ }
+    ensures { λ r. ⌜ told (stateOf (now (value .entry)) (now (tainted .entry)) pc monitor) (now (vectors .entry)) (now («vector_taint» .entry)) r (now (memory .exit)) (now (taint .exit)) ≡ ends (wordStep (window .origin) (admitIn window reach (length (now (memory .entry)))) word) (machineOf (stateOf (now (value .entry)) (now (tainted .entry)) pc monitor) (now (vectors .entry)) (now («vector_taint» .entry)) (now (memory .entry)) (now (taint .entry))) ⌝ }
 {
     let examined = decoder::examine(word);
     let answer = examined.answer;
@@ -246,6 +281,7 @@ fn decide_word(
         pc,
         monitor,
         window,
+        reach,
         value,
         tainted,
         vectors,
@@ -260,6 +296,7 @@ fn decide_access(
     pc: u64,
     monitor: Monitor,
     window: Window,
+    reach: Reach,
     value: &[u64],
     tainted: &[u64],
     vectors: &[[u64; 2]; 32],
@@ -268,7 +305,7 @@ fn decide_access(
     taint: &mut [u8],
 ) -> Decision
     requires { ⌜ Within x × Full (now value) (now tainted) (now vectors) (now «vector_taint») × (length (now taint) ≡ length (now memory)) ⌝ }
-    ensures { λ r. ⌜ told (stateOf (now (value .entry)) (now (tainted .entry)) pc monitor) (now (vectors .entry)) (now («vector_taint» .entry)) r (now (memory .exit)) (now (taint .exit)) ≡ ends (accessStep (window .origin) (admitOf window (length (now (memory .entry)))) x) (machineOf (stateOf (now (value .entry)) (now (tainted .entry)) pc monitor) (now (vectors .entry)) (now («vector_taint» .entry)) (now (memory .entry)) (now (taint .entry))) ⌝ }
+    ensures { λ r. ⌜ told (stateOf (now (value .entry)) (now (tainted .entry)) pc monitor) (now (vectors .entry)) (now («vector_taint» .entry)) r (now (memory .exit)) (now (taint .exit)) ≡ ends (accessStep (window .origin) (admitIn window reach (length (now (memory .entry)))) x) (machineOf (stateOf (now (value .entry)) (now (tainted .entry)) pc monitor) (now (vectors .entry)) (now («vector_taint» .entry)) (now (memory .entry)) (now (taint .entry))) ⌝ }
 {
     match x {
         // A prefetch: the program counter goes on.
@@ -279,6 +316,7 @@ fn decide_access(
             pc,
             monitor,
             window,
+            reach,
             value,
             tainted,
             vectors,
@@ -295,6 +333,7 @@ fn decide_moves(
     pc: u64,
     monitor: Monitor,
     window: Window,
+    reach: Reach,
     value: &[u64],
     tainted: &[u64],
     vectors: &[[u64; 2]; 32],
@@ -303,10 +342,10 @@ fn decide_moves(
     taint: &mut [u8],
 ) -> Decision
     requires { ⌜ Bounded t × Placed a × Full (now value) (now tainted) (now vectors) (now «vector_taint») × (length (now taint) ≡ length (now memory)) ⌝ }
-    ensures { λ r. ⌜ told (stateOf (now (value .entry)) (now (tainted .entry)) pc monitor) (now (vectors .entry)) (now («vector_taint» .entry)) r (now (memory .exit)) (now (taint .exit)) ≡ ends (accessStep (window .origin) (admitOf window (length (now (memory .entry)))) (Access.Moves t a)) (machineOf (stateOf (now (value .entry)) (now (tainted .entry)) pc monitor) (now (vectors .entry)) (now («vector_taint» .entry)) (now (memory .entry)) (now (taint .entry))) ⌝ }
+    ensures { λ r. ⌜ told (stateOf (now (value .entry)) (now (tainted .entry)) pc monitor) (now (vectors .entry)) (now («vector_taint» .entry)) r (now (memory .exit)) (now (taint .exit)) ≡ ends (accessStep (window .origin) (admitIn window reach (length (now (memory .entry)))) (Access.Moves t a)) (machineOf (stateOf (now (value .entry)) (now (tainted .entry)) pc monitor) (now (vectors .entry)) (now («vector_taint» .entry)) (now (memory .entry)) (now (taint .entry))) ⌝ }
 {
     let operands = plan::operands_of(a, pc, value, tainted);
-    match plan::planned(t, a, operands, window, memory.len() as u64) {
+    match plan::planned(t, a, operands, window, reach, memory.len() as u64) {
         Plan::Refuse(answer, address) => Decision::Refused(answer, address),
         Plan::Touch(address, sum) => {
             let at = (address - window.origin) as usize;

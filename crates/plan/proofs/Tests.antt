@@ -1,8 +1,8 @@
 -- Laws of the tests of a plan. Assumes nothing.
 use Prim.Native.Nat.{ℕ, zero, suc, _+_, _%_, _^_, _≤_, _<_}
 use mathlib.Core.Path.{_≡_, refl, sym, ap, subst, _∙_}
-use mathlib.Core.Bool.{Bool, true, false, not, _||_}
-use mathlib.Core.List.{List}
+use mathlib.Core.Bool.{Bool, true, false, not, _&&_, _||_}
+use mathlib.Core.List.{List, _++_}
 use native.Mathlib.Omega.{arith}
 use borrow.Author.Tests.{ltb-true, ltb-false, eqb-true}
 use lib.Dec.{ltb, eqb}
@@ -21,7 +21,12 @@ use Rattle.plan.specs.declared.Plan.{Plan}
 use Rattle.plan.specs.declared.Plan.the-variants.{Refuse, Touch}
 use Rattle.plan.specs.Window.{badWindow}
 use Rattle.plan.specs.Refusals.{Refusal, firstOf, answerIn}
-use Rattle.plan.specs.Admission.{totalOf, outside, admitOf}
+use Rattle.plan.specs.Admission.{totalOf, outside, placed, admitOf}
+use Rattle.plan.specs.Ranges.{admitRanges, admitIn}
+use Rattle.plan.specs.route.Reaches.{reachOf}
+use Rattle.plan.specs.declared.ranges.Ranges.{Ranges}
+use Rattle.plan.specs.declared.ranges.Reach.{Reach}
+use Rattle.plan.specs.declared.ranges.Reach.the-variants.{Alone, Ranged}
 use Rattle.plan.specs.Address.{sumOf, addressOf}
 use Rattle.plan.specs.Plans.{misalignedStack, refusalsOf, planOf}
 use Rattle.plan.proofs.Refusals.{Passed, Each, each, first-by, Reports, by-answer}
@@ -35,6 +40,11 @@ same-at a b c d false true p q f g = absurd (omega (arith, g (ltb-true c d q), l
 
 pub same-test : (a b c d : ℕ) → (a < b → c < d) → (c < d → a < b) → ltb a b ≡ ltb c d
 same-test a b c d f g = same-at a b c d (ltb a b) (ltb c d) refl refl f g
+
+-- a second test that holds adds nothing
+pub and-true : (x y : Bool) → y ≡ true → (x && y) ≡ x
+and-true true y e = e
+and-true false y e = refl
 
 -- where an access lies that is not outside
 pub record Inside (total a origin len : ℕ) : Type 0 where
@@ -51,10 +61,18 @@ not-outside total a origin len h =
     let p = inside-at a origin (origin + len) _ (ltb a origin) refl h in
     record { starts = p .0; ends = omega (arith, p .1) }
 
+-- 6 and 7 are tested first, whatever may be reached
+pub admit-placed : (w : Window) (reach : Reach) (len : ℕ) (t : Transfer) (a : ℕ) → admitIn w reach len t a ≡ placed (w .origin) len t a ++ reachOf w reach (t .store) (totalOf t) a
+unfolding admitOf admitRanges
+admit-placed w Alone len t a = refl
+admit-placed w (Ranged r) len t a = refl
+
+pub answers-placed : (w : Window) (reach : Reach) (len : ℕ) (t : Transfer) (a : ℕ) {r : Answer} → r ≡ answerIn (placed (w .origin) len t a ++ reachOf w reach (t .store) (totalOf t) a) → r ≡ answerIn (admitIn w reach len t a)
+answers-placed w reach len t a h = h ∙ ap answerIn (sym (admit-placed w reach len t a))
+
 -- an admitted access lies in the window
-pub admit-inside : (w : Window) (len : ℕ) (t : Transfer) (a : ℕ) → Passed (admitOf w len t a) → Inside (totalOf t) a (w .origin) len
-unfolding admitOf
-admit-inside w len t a p = not-outside (totalOf t) a (w .origin) len (p .1 .1 .0)
+pub admit-inside : (w : Window) (reach : Reach) (len : ℕ) (t : Transfer) (a : ℕ) → Passed (admitIn w reach len t a) → Inside (totalOf t) a (w .origin) len
+admit-inside w reach len t a p = not-outside (totalOf t) a (w .origin) len ((rw (admit-placed w reach len t a) at p) .1 .1 .0)
 
 abbrev address : Plan → ℕ
 address (Refuse answer a) = a
@@ -74,8 +92,8 @@ touch-admitted admit t d o {a} {n} h =
     (λ p. touched-at admit t (addressOf d o) (sumOf d o) a n (p .1 .1)) h
 
 -- a planned touch lies in the window
-pub touch-inside : (w : Window) (len : ℕ) (t : Transfer) (d : Addressing) (o : Operands) {p : Plan} {a n : ℕ} → p ≡ planOf (admitOf w len) t d o → p ≡ Touch a n → Inside (totalOf t) a (w .origin) len
-touch-inside w len t d o {p} {a} e h = admit-inside w len t a (touch-admitted (admitOf w len) t d o (sym e ∙ h))
+pub touch-inside : (w : Window) (reach : Reach) (len : ℕ) (t : Transfer) (d : Addressing) (o : Operands) {p : Plan} {a n : ℕ} → p ≡ planOf (admitIn w reach len) t d o → p ≡ Touch a n → Inside (totalOf t) a (w .origin) len
+touch-inside w reach len t d o {p} {a} e h = admit-inside w reach len t a (touch-admitted (admitIn w reach len) t d o (sym e ∙ h))
 
 passed : (b : Bool) (x : Plan) {y : Plan} → b ≡ false → y ≡ pick b x y
 passed b x e = rw e
@@ -93,16 +111,17 @@ pub plan-stack : (admit : Transfer → ℕ → List Refusal) (t : Transfer) (d :
 unfolding planOf misalignedStack
 plan-stack admit t d o e f g = held (misalignedStack (d .base) (o .base)) (Refuse Misaligned (o .base)) (firstOf Refuse (Touch (addressOf d o) (sumOf d o)) (admit t (addressOf d o))) (sym f ∙ g) ∙ passed (o .tainted) (Refuse TaintedAddress 0) e
 
-admit-answers : (w : Window) (len : ℕ) (t : Transfer) (a : ℕ) → Each (Reports a) (admitOf w len t a)
-unfolding admitOf
-admit-answers w len t a = ((refl, λ h. omega arith), ((refl, λ h. omega arith), ((refl, λ h. omega arith), ((refl, λ h. omega arith), tt))))
+admit-answers : (w : Window) (reach : Reach) (len : ℕ) (t : Transfer) (a : ℕ) → Each (Reports a) (admitIn w reach len t a)
+unfolding admitOf admitRanges
+admit-answers w Alone len t a = ((refl, λ h. omega arith), ((refl, λ h. omega arith), ((refl, λ h. omega arith), ((refl, λ h. omega arith), tt))))
+admit-answers w (Ranged r) len t a = ((refl, λ h. omega arith), ((refl, λ h. omega arith), ((refl, λ h. omega arith), ((refl, λ h. omega arith), ((refl, λ h. omega arith), tt)))))
 
-pub plan-admitted : (w : Window) (len : ℕ) (t : Transfer) (d : Addressing) (o : Operands) {u : Bool} {s x : ℕ} {r : Answer} → o .tainted ≡ false → u ≡ misalignedStack (d .base) (o .base) → u ≡ false → s ≡ sumOf d o → x ≡ pick (d .post) (o .base) s
-    → r ≡ answerIn (admitOf w len t x) → pick (eqb (answerNumber r) 0) (Touch x s) (Refuse r x) ≡ planOf (admitOf w len) t d o
+pub plan-admitted : (w : Window) (reach : Reach) (len : ℕ) (t : Transfer) (d : Addressing) (o : Operands) {u : Bool} {s x : ℕ} {r : Answer} → o .tainted ≡ false → u ≡ misalignedStack (d .base) (o .base) → u ≡ false → s ≡ sumOf d o → x ≡ pick (d .post) (o .base) s
+    → r ≡ answerIn (admitIn w reach len t x) → pick (eqb (answerNumber r) 0) (Touch x s) (Refuse r x) ≡ planOf (admitIn w reach len) t d o
 unfolding planOf misalignedStack
-plan-admitted w len t d o {u} {s} {x} {r} e f v p q g =
-    let admitted : pick (eqb (answerNumber r) 0) (Touch x s) (Refuse r x) ≡ firstOf Refuse (Touch (addressOf d o) (sumOf d o)) (admitOf w len t (addressOf d o)) =
-    rw (← p, ← q, g) (sym (by-answer Refuse (Touch x s) x (admitOf w len t x) (admit-answers w len t x)))
+plan-admitted w reach len t d o {u} {s} {x} {r} e f v p q g =
+    let admitted : pick (eqb (answerNumber r) 0) (Touch x s) (Refuse r x) ≡ firstOf Refuse (Touch (addressOf d o) (sumOf d o)) (admitIn w reach len t (addressOf d o)) =
+    rw (← p, ← q, g) (sym (by-answer Refuse (Touch x s) x (admitIn w reach len t x) (admit-answers w reach len t x)))
     in
     admitted ∙ passed (misalignedStack (d .base) (o .base)) (Refuse Misaligned (o .base)) (sym f ∙ v) ∙ passed (o .tainted) (Refuse TaintedAddress 0) e
 

@@ -1,7 +1,7 @@
 -- Answers 6, 7 and 8: 01, "Answer numbers", and 02, CR 3. All as whole numbers.
 use Prim.Native.Nat.{ℕ, _+_, _%_}
 use mathlib.Core.Bool.{Bool, true, false, not}
-use mathlib.Core.List.{List, [], _∷_}
+use mathlib.Core.List.{List, [], _∷_, _++_}
 use lib.Dec.{eqb, ltb}
 use Rattle.bits.specs.Choice.{pick}
 use Rattle.instruction.specs.declared.answer.Answer.the-variants.{Misaligned, OutOfWindow, ReadOnly}
@@ -29,10 +29,17 @@ outside total a origin len = pick (ltb a origin) true (ltb (origin + len) (a + t
 unfoldable pub guarded : Bool → ℕ → Window → Bool
 guarded store a w = pick store (ltb a (w .origin + w .readonly)) false
 
-unfoldable pub admitOf : Window → ℕ → Transfer → ℕ → List Refusal
-admitOf w len t a =
+abbrev pub guards : Window → Bool → ℕ → List Refusal
+guards w store a = refusal ReadOnly (guarded store a w) a ∷ []
+
+-- 6 and 7, whatever may be reached in the window
+abbrev pub placed : ℕ → ℕ → Transfer → ℕ → List Refusal
+placed origin len t a =
     refusal Misaligned (misaligned (t .ordered) (totalOf t) a) a
     ∷ refusal Misaligned (unaligned (t .exclusive) (totalOf t) a) a
-    ∷ refusal OutOfWindow (outside (totalOf t) a (w .origin) len) a
-    ∷ refusal ReadOnly (guarded (t .store) a w) a
+    ∷ refusal OutOfWindow (outside (totalOf t) a origin len) a
     ∷ []
+
+-- the admission of a plugin alone
+unfoldable pub admitOf : Window → ℕ → Transfer → ℕ → List Refusal
+admitOf w len t a = placed (w .origin) len t a ++ guards w (t .store) a

@@ -3,4 +3,6 @@ pub mod Operands
 pub mod Address
 pub mod Refusals
 pub mod Admission
+pub mod Ranges
 pub mod Plans
+pub mod route

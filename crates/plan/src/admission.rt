@@ -1,4 +1,6 @@
-// Whether an access may be made at an address: answers 6, 7 and 8, in their order.
+// Whether an access may be made at an address: answers 6, 7, 8 and 12, in their order.
+use crate::ranges;
+use crate::ranges::Reach;
 use crate::window::Window;
 use access::Transfer;
 use instruction::Answer;
@@ -7,10 +9,11 @@ ghost use mathlib.Core.Bool.{not};
 ghost use Prim.Native.Nat.{_≤_, _+_, _%_};
 ghost use lib.Dec.{eqb};
 ghost use Rattle.plan.specs.Refusals.{answerIn};
-ghost use Rattle.plan.specs.Admission.{misaligned, unaligned, outside, guarded, admitOf};
+ghost use Rattle.plan.specs.Ranges.{admitIn};
+ghost use Rattle.plan.specs.Admission.{misaligned, unaligned, outside, guarded, guards};
 
-pub fn admission(t: Transfer, address: u64, window: Window, len: u64) -> Answer
-    ensures { λ r. ⌜ r ≡ answerIn (admitOf window len t address) ⌝ }
+pub fn admission(t: Transfer, address: u64, window: Window, reach: Reach, len: u64) -> Answer
+    ensures { λ r. ⌜ r ≡ answerIn (admitIn window reach len t address) ⌝ }
 {
     let total = t.bytes as u64 + t.more as u64;
     if is_misaligned(t.ordered, total, address) {
@@ -22,10 +25,7 @@ pub fn admission(t: Transfer, address: u64, window: Window, len: u64) -> Answer
     if is_outside(total, address, window.origin, len) {
         return Answer::OutOfWindow;
     }
-    if is_guarded(t.store, address, window) {
-        return Answer::ReadOnly;
-    }
-    Answer::Done
+    ranges::reached(t.store, total, address, window, reach)
 }
 
 fn is_misaligned(ordered: bool, total: u64, address: u64) -> bool
@@ -69,6 +69,17 @@ pub fn is_outside(total: u64, address: u64, origin: u64, len: u64) -> bool
         return true;
     }
     len - at < total
+}
+
+// Answer 8 of a plugin alone.
+pub fn guard(store: bool, address: u64, window: Window) -> Answer
+    requires { ⌜ window .origin ≤ address ⌝ }
+    ensures { λ r. ⌜ r ≡ answerIn (guards window store address) ⌝ }
+{
+    if is_guarded(store, address, window) {
+        return Answer::ReadOnly;
+    }
+    Answer::Done
 }
 
 fn is_guarded(store: bool, address: u64, window: Window) -> bool

@@ -3,6 +3,7 @@
 mod address;
 mod admission;
 mod operands;
+mod ranges;
 mod window;
 
 use access::Addressing;
@@ -11,10 +12,15 @@ pub use admission::is_outside;
 use instruction::Answer;
 pub use operands::Operands;
 pub use operands::operands_of;
+pub use ranges::Range;
+pub use ranges::Ranges;
+pub use ranges::Reach;
+pub use ranges::are_bad;
 pub use window::Window;
 pub use window::is_bad;
 ghost use mathlib.Core.Path.{_≡_};
 ghost use Rattle.plan.specs.Admission.{admitOf};
+ghost use Rattle.plan.specs.Ranges.{admitIn};
 ghost use Rattle.plan.specs.Refusals.{answerIn};
 ghost use Rattle.plan.specs.Plans.{misalignedStack, planOf};
 
@@ -30,9 +36,10 @@ pub fn planned(
     addressing: Addressing,
     operands: Operands,
     window: Window,
+    reach: Reach,
     len: u64,
 ) -> Plan
-    ensures { λ r. ⌜ r ≡ planOf (admitOf window len) transfer addressing operands ⌝ }
+    ensures { λ r. ⌜ r ≡ planOf (admitIn window reach len) transfer addressing operands ⌝ }
 {
     if operands.tainted {
         return Plan::Refuse(Answer::TaintedAddress, 0);
@@ -42,18 +49,18 @@ pub fn planned(
     }
     let sum = address::sum(addressing, operands);
     let address = address::first_byte(addressing.post, operands.base, sum);
-    let answer = admission::admission(transfer, address, window, len);
+    let answer = admission::admission(transfer, address, window, reach, len);
     if instruction::answer_number(answer) != 0 {
         return Plan::Refuse(answer, address);
     }
     Plan::Touch(address, sum)
 }
 
-// What an access at an address is refused with, whatever the registers hold.
+// What an access of a plugin alone is refused with at an address, whatever the registers hold.
 pub fn admitted(transfer: Transfer, address: u64, window: Window, len: u64) -> Answer
     ensures { λ r. ⌜ r ≡ answerIn (admitOf window len transfer address) ⌝ }
 {
-    admission::admission(transfer, address, window, len)
+    admission::admission(transfer, address, window, Reach::Alone, len)
 }
 
 // Whether SP is the base of an access and not a multiple of 16.

@@ -1,7 +1,7 @@
 -- `machine::decide_moves` meets its contract. Assumes nothing.
 use native.Mathlib.Omega.{arith}
 use lib.ListN.{length}
-use Rattle.plan.specs.Admission.{admitOf}
+use Rattle.plan.specs.Ranges.{admitIn}
 use Rattle.machine.specs.route.Writing.{stateOf}
 use Rattle.plan.proofs.Tests.{touch-inside}
 use Rattle.machine.proofs.Answers.{planned-plain}
@@ -20,7 +20,7 @@ decide-moves-spec =
     (λ c.
     let plan = c .before .before .before .before in
     let a = plan .before .before .before .before .before .before .args in
-    touch-inside (a .window) (length (a .memory .now)) (a .t) (a .a) (plan .before .operands-of .result) (plan .planned .ensures) (c .before .before .address .given .1) .starts)
+    touch-inside (a .window) (a .reach) (length (a .memory .now)) (a .t) (a .a) (plan .before .operands-of .result) (plan .planned .ensures) (c .before .before .address .given .1) .starts)
     (λ c κs. search needs)
     (λ c κs. search needs)
     (λ c κs. search needs)
@@ -29,12 +29,12 @@ decide-moves-spec =
     let plan = touch .before .before in
     let start = plan .before .before .before .before .before .before in
     let a = start .args in
-    let i = touch-inside (a .window) (length (a .memory .now)) (a .t) (a .a) (plan .before .operands-of .result) (plan .planned .ensures) (touch .address .given .1) in
+    let i = touch-inside (a .window) (a .reach) (length (a .memory .now)) (a .t) (a .a) (plan .before .operands-of .result) (plan .planned .ensures) (touch .address .given .1) in
     (start .pre .0, start .pre .1 .written, start .pre .2, omega (arith, i .starts, i .ends), start .pre .3))
     (λ c.
     let start = c .before .before .before .before .before .before .before .before .before in
     let a = start .args in
-    rw (planned-plain (a .window .origin) (admitOf (a .window) (length (a .memory .now))) (a .t) (a .a) (stateOf (a .value .now) (a .tainted .now) (a .pc) (a .monitor)) (a .vectors .now) (a .vector-taint .now) (a .memory .now) (a .taint .now) (start .pre .2) (start .pre .1), ← c .before .before .before .before .operands-of .ensures, ← c .before .before .before .planned .ensures, c .before .answer .given .1))
+    rw (planned-plain (a .window .origin) (admitIn (a .window) (a .reach) (length (a .memory .now))) (a .t) (a .a) (stateOf (a .value .now) (a .tainted .now) (a .pc) (a .monitor)) (a .vectors .now) (a .vector-taint .now) (a .memory .now) (a .taint .now) (start .pre .2) (start .pre .1), ← c .before .before .before .before .operands-of .ensures, ← c .before .before .before .planned .ensures, c .before .answer .given .1))
     (λ c. search needs)
     (λ c. search needs)
     (λ c.
@@ -44,5 +44,5 @@ decide-moves-spec =
     let plan = touch .before .before in
     let start = plan .before .before .before .before .before .before in
     let a = start .args in
-    rw (planned-plain (a .window .origin) (admitOf (a .window) (length (a .memory .now))) (a .t) (a .a) (stateOf (a .value .now) (a .tainted .now) (a .pc) (a .monitor)) (a .vectors .now) (a .vector-taint .now) (a .memory .now) (a .taint .now) (start .pre .2) (start .pre .1), ← plan .before .operands-of .ensures, ← plan .planned .ensures, touch .address .given .1, ← back .before .status .ensures, ← back .before .before .code .ensures, ← back .written-back .ensures)
+    rw (planned-plain (a .window .origin) (admitIn (a .window) (a .reach) (length (a .memory .now))) (a .t) (a .a) (stateOf (a .value .now) (a .tainted .now) (a .pc) (a .monitor)) (a .vectors .now) (a .vector-taint .now) (a .memory .now) (a .taint .now) (start .pre .2) (start .pre .1), ← plan .before .operands-of .ensures, ← plan .planned .ensures, touch .address .given .1, ← back .before .status .ensures, ← back .before .before .code .ensures, ← back .written-back .ensures)
     (done .touched .ensures (start .args .pc))))

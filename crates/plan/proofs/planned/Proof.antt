@@ -19,9 +19,11 @@ planned-spec =
     (λ c κs. search needs)
     (λ c.
     let stack = c .before .before .before .before .before in
-    let fine = plan-admitted _ _ _ _ _ (stack .before .before .if1 .left) (stack .before .is-misaligned-stack .ensures) (stack .if2 .left) (c .before .before .before .before .sum .ensures) (c .before .before .before .first-byte .ensures) (c .before .before .admission .ensures) in
+    let a = stack .before .before .before .args in
+    let fine = plan-admitted (a .window) (a .reach) (a .len) (a .transfer) (a .addressing) (a .operands) (stack .before .before .if1 .left) (stack .before .is-misaligned-stack .ensures) (stack .if2 .left) (c .before .before .before .before .sum .ensures) (c .before .before .before .first-byte .ensures) (c .before .before .admission .ensures) in
     rw (ne-eqb _ 0 (λ h. c .if3 .taken (c .before .answer-number .ensures .0 ∙ h))) at fine)
     (λ c.
     let stack = c .before .before .before .before .before in
-    let fine = plan-admitted _ _ _ _ _ (stack .before .before .if1 .left) (stack .before .is-misaligned-stack .ensures) (stack .if2 .left) (c .before .before .before .before .sum .ensures) (c .before .before .before .first-byte .ensures) (c .before .before .admission .ensures) in
+    let a = stack .before .before .before .args in
+    let fine = plan-admitted (a .window) (a .reach) (a .len) (a .transfer) (a .addressing) (a .operands) (stack .before .before .if1 .left) (stack .before .is-misaligned-stack .ensures) (stack .if2 .left) (c .before .before .before .before .sum .ensures) (c .before .before .before .first-byte .ensures) (c .before .before .admission .ensures) in
     rw (eq-eqb _ 0 (sym (c .before .answer-number .ensures .0) ∙ c .if3 .left)) at fine))

@@ -1,17 +1,17 @@
--- `machine::decide` meets its contract. Assumes nothing.
+-- `machine::decide_within` meets its contract. Assumes nothing.
 use mathlib.Core.Path.{sym, _∙_}
 use Rattle.plan.proofs.Tests.{same-lengths}
-use Rattle.machine.proofs.Answers.{step-bad}
+use Rattle.machine.proofs.Answers.{step-in}
 use borrow.Author.Needs.{needs}
-use Rattle.machine.proofs.decide.Statement.{statement}
-use Rattle.machine.proofs.decide.Tie as tie
+use Rattle.machine.proofs.decide_within.Statement.{statement}
+use Rattle.machine.proofs.decide_within.Tie as tie
 
-pub decide-spec : {M : Type 1} → statement M
-decide-spec =
+pub decide-within-spec : {M : Type 1} → statement M
+decide-within-spec =
     tie.close
     (tie.spec
     (λ c κs. search needs)
-    (λ c. rw (step-bad, ← c .before .is-bad .ensures, c .if1 .taken))
+    (λ c. rw (step-in, ← c .before .is-bad .ensures, c .if1 .taken))
     (λ c κs. search needs)
     (λ c κs. search needs)
     (λ c κs. search needs)
@@ -28,4 +28,4 @@ decide-spec =
     ))
     (λ c. search needs)
     (λ c. search needs)
-    (λ c. rw (step-bad, ← c .before .before .before .before .before .before .before .before .before .before .before .before .before .before .before .before .before .before .is-bad .ensures, c .before .before .before .before .before .before .before .before .before .before .before .before .before .before .before .before .before .if1 .left) (c .before .before .before .before .decide-word .ensures)))
+    (λ c. rw (step-in, ← c .before .before .before .before .before .before .before .before .before .before .before .before .before .before .before .before .before .before .is-bad .ensures, c .before .before .before .before .before .before .before .before .before .before .before .before .before .before .before .before .before .if1 .left) (c .before .before .before .before .decide-word .ensures)))
