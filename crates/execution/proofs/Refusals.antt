@@ -18,38 +18,42 @@ use Rattle.access.specs.declared.Access.{Access}
 use Rattle.access.specs.declared.Access.the-variants.{Nothing, Moves}
 use Rattle.plan.specs.declared.window.Window.{Window}
 use Rattle.plan.specs.Window.{badWindow}
-use Rattle.plan.specs.Admission.{admitOf}
+use Rattle.plan.specs.declared.ranges.Reach.{Reach}
+use Rattle.plan.specs.declared.ranges.Reach.the-variants.{Alone}
+use Rattle.plan.specs.Ranges.{admitIn}
 use Rattle.plan.proofs.Refusals.{each, each-map, first-by}
 use Rattle.access.specs.Accesses.{wordAccess}
 use Rattle.machine.specs.declared.monitor.Monitor.{Monitor}
 use Rattle.machine.specs.Rule.{moveRule, storedTaints}
 use Rattle.machine.specs.Machine.{Machine, nextPc, storedBytes, effectOf}
-use Rattle.machine.specs.Refusals.{bad, wordRefusals, refusals}
+use Rattle.machine.specs.Refusals.{bad, wordRefusals, refusalsIn}
 use Rattle.machine.specs.declared.Shown.{Shown}
-use Rattle.machine.specs.Step.{shown, Step, stopped, moved, performOf, stepOf, performed}
-use Rattle.machine.proofs.Answers.{answers-exact, Later, word-later}
-use Rattle.execution.specs.Walk.{Walked, goOn, walkOf, Log, notBegun, short, runOf}
+use Rattle.machine.specs.Step.{shown, Step, stopped, moved, performOf, stepIn, performed}
+use Rattle.machine.proofs.Answers.{answers-in, Numbered, Late, word-late}
+use Rattle.execution.specs.Walk.{Walked, goOn, walkOf, Log, Result, notBegun, short, runOf}
 use Rattle.execution.specs.Ends.{Early}
 use Rattle.execution.specs.Run.{machineRun}
 
 -- ---- a step in a window that is not bad answers neither
 
-abbrev Begun : Answer → Type 0
+abbrev pub Begun : Answer → Type 0
 Begun answer = ¬ Early (answerNumber answer)
 
-not-early : (n : ℕ) → 1 < n → n < 9 → ¬ Early n
-not-early n l h (inl e) = omega arith
-not-early n l h (inr e) = omega arith
+not-early : (n : ℕ) → Late n → ¬ Early n
+not-early n (inl l) (inl e) = omega (arith, l .0)
+not-early n (inl l) (inr e) = omega (arith, l .1)
+not-early n (inr f) (inl e) = omega arith
+not-early n (inr f) (inr e) = omega arith
 
 done-begun : Begun Done
 done-begun (inl e) = omega arith
 done-begun (inr e) = omega arith
 
-step-begun : (w : Window) (word : ℕ) (m : Machine) → bad w m ≡ false → Begun (performed m (stepOf w word m) .answer)
-step-begun w word m e =
-    let further = wordRefusals (admitOf w (length (m .memory))) word m in
-    rw (answers-exact w word m, e)
-    (first-by Begun (λ answer address. answer) Done further (each-map {P = Later} {Q = λ e. Begun (e .answer)} (λ e l. not-early (answerNumber (e .answer)) (l .0) (l .1)) further (word-later w word m)) (λ p. done-begun))
+step-begun : (w : Window) (reach : Reach) (word : ℕ) (m : Machine) → bad w m ≡ false → Begun (performed m (stepIn w reach word m) .answer)
+step-begun w reach word m e =
+    let further = wordRefusals (admitIn w reach (length (m .memory))) word m in
+    rw (answers-in w reach word m, e)
+    (first-by Begun (λ answer address. answer) Done further (each-map {P = Numbered Late} {Q = λ e. Begun (e .answer)} (λ e l. not-early (answerNumber (e .answer)) l) further (word-late w reach word m)) (λ p. done-begun))
 
 -- ---- a window that is not bad stays so: lengths are kept, and pc stays a multiple of 4
 
@@ -91,37 +95,49 @@ module _ (w : Window) (m : Machine) (e : bad w m ≡ false) where
   perform-stays Nothing = good-next w (length (m .memory)) (length (m .taints .bytes)) (m .pc) e
   perform-stays (Moves t a) = effect-good w _ (a .written) _ _ _ m e
 
-  step-stays : (word : ℕ) → Stays w (stepOf w word m)
-  unfolding stepOf
-  step-stays word =
-      first-by (Stays w) stopped (performOf (w .origin) (wordAccess word) m) (refusals w word m) (each (λ e. tt) (refusals w word m)) (λ p. perform-stays (wordAccess word))
+  step-stays : (reach : Reach) (word : ℕ) → Stays w (stepIn w reach word m)
+  unfolding stepIn
+  step-stays reach word =
+      first-by (Stays w) stopped (performOf (w .origin) (wordAccess word) m) (refusalsIn w reach word m) (each (λ e. tt) (refusalsIn w reach word m)) (λ p. perform-stays (wordAccess word))
 
 -- ---- the walk and the run
 
-module _ (w : Window) where
+module _ (w : Window) (reach : Reach) where
   go-begun : (m : Machine) (rest : Machine → Shown → Walked Machine) → ((n : Machine) (v : Shown) → bad w n ≡ false → Begun (rest n v .answer)) → (s : Step Machine) → Begun (performed m s .answer) → Stays w s
       → Begun (goOn m rest s .answer)
   go-begun m rest k (stopped answer address) b h = b
   go-begun m rest k (moved n v) b h = k n v h
 
-  walk-begun : (ws : List ℕ) (m : Machine) (last : Shown) → bad w m ≡ false → Begun (walkOf (stepOf w) ws m last .answer)
+  walk-begun : (ws : List ℕ) (m : Machine) (last : Shown) → bad w m ≡ false → Begun (walkOf (stepIn w reach) ws m last .answer)
   unfolding walkOf
   walk-begun [] m last e h = done-begun h
-  walk-begun (word ∷ ws) m last e h = go-begun m (walkOf (stepOf w) ws) (walk-begun ws) (stepOf w word m) (step-begun w word m e) (step-stays w m e word) h
+  walk-begun (word ∷ ws) m last e h = go-begun m (walkOf (stepIn w reach) ws) (walk-begun ws) (stepIn w reach word m) (step-begun w reach word m e) (step-stays w m e reach word) h
 
-  module _ (ws : List ℕ) (m : Machine) (l : Log) where
+  -- by a test of which the window's is a part
+  module _ (test : Machine → Bool) (part : (m : Machine) → test m ≡ false → bad w m ≡ false) (ws : List ℕ) (m : Machine) (l : Log) where
+    abbrev ran : Result Machine
+    ran = runOf test (stepIn w reach) ws m l
+
     -- a run that is begun answers neither 1 nor 10
-    pub begun-late : bad w m ≡ false → short ws l ≡ false → Begun (machineRun w ws m l .answer)
+    pub begun-in : test m ≡ false → short ws l ≡ false → Begun (runOf test (stepIn w reach) ws m l .answer)
     unfolding runOf
-    begun-late e g = rw (e, g) (walk-begun ws m (shown 0 0 0) e)
+    begun-in e g = rw (e, g) (walk-begun ws m (shown 0 0 0) (part m e))
 
-    early-at : (y z : Bool) → bad w m ≡ y → short ws l ≡ z → Early (answerNumber (machineRun w ws m l .answer))
-        → machineRun w ws m l ≡ notBegun (machineRun w ws m l .answer) m l
+    early-at : (y z : Bool) → test m ≡ y → short ws l ≡ z → Early (answerNumber (ran .answer)) → ran ≡ notBegun (ran .answer) m l
     unfolding runOf
     early-at true z e g h = rw e
     early-at false true e g h = rw (e, g)
-    early-at false false e g h = absurd (begun-late e g h)
+    early-at false false e g h = absurd (begun-in e g h)
 
     -- a run that answers 1 or 10 has changed no register, byte, taint, PC or monitor, and nothing of the trace or the statuses
-    pub early-unchanged : Early (answerNumber (machineRun w ws m l .answer)) → machineRun w ws m l ≡ notBegun (machineRun w ws m l .answer) m l
-    early-unchanged = early-at (bad w m) (short ws l) refl refl
+    pub early-in : let t = runOf test (stepIn w reach) ws m l in
+        Early (answerNumber (t .answer)) → t ≡ notBegun (t .answer) m l
+    early-in = early-at (test m) (short ws l) refl refl
+
+-- of a plugin alone
+module _ (w : Window) (ws : List ℕ) (m : Machine) (l : Log) where
+  pub begun-late : bad w m ≡ false → short ws l ≡ false → Begun (machineRun w ws m l .answer)
+  begun-late = begun-in w Alone (bad w) (λ m e. e) ws m l
+
+  pub early-unchanged : Early (answerNumber (machineRun w ws m l .answer)) → machineRun w ws m l ≡ notBegun (machineRun w ws m l .answer) m l
+  early-unchanged = early-in w Alone (bad w) (λ m e. e) ws m l

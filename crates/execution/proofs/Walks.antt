@@ -154,6 +154,17 @@ module _ {A : Type 0} (R : A → A → Type 0) (f : ℕ → A → Step A) (shows
     pub run-shows : ShowsRun R (runOf bad f ws m u) (runOf bad f ws n v)
     run-shows = run-at (bad m) (short ws u) refl refl
 
+  -- and leaves the same log where the same is lent
+  module _ (bad : A → Bool) (alike : (m n : A) → R m n → bad m ≡ bad n) (ws : List ℕ) (m n : A) (r : R m n) (u : Log) where
+    log-at : (y z : Bool) → bad m ≡ y → short ws u ≡ z → runOf bad f ws m u .log ≡ runOf bad f ws n u .log
+    unfolding runOf
+    log-at true z e g = rw (← alike m n r, e)
+    log-at false true e g = rw (← alike m n r, e, g)
+    log-at false false e g = rw (← alike m n r, e, g) (ap (logged 0 u) (walk-shows ws m n (shown 0 0 0) r .done))
+
+    pub run-log : runOf bad f ws m u .log ≡ runOf bad f ws n u .log
+    run-log = log-at (bad m) (short ws u) refl refl
+
 -- ---- a rule over the steps done
 
 -- a log of just these steps

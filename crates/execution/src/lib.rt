@@ -3,6 +3,8 @@ use instruction::Answer;
 use machine::Decision;
 use machine::Shown;
 use machine::State;
+use plan::Ranges;
+use plan::Reach;
 use plan::Window;
 ghost use mathlib.Core.Path.{_≡_};
 ghost use mathlib.Core.List.{List};
@@ -10,9 +12,9 @@ ghost use Prim.Native.Nat.{ℕ, _+_, _*_, _≤_, _<_};
 ghost use lib.ListN.{length, set};
 ghost use Rattle.machine.specs.Rule.{wordRule};
 ghost use Rattle.machine.specs.Machine.{Machine, machineOf};
-ghost use Rattle.machine.specs.Step.{shown, stepOf};
+ghost use Rattle.machine.specs.Step.{shown, stepIn};
 ghost use Rattle.execution.specs.Walk.{walkOf, Log, log, glue, notBegun, tooShort, afterSteps};
-ghost use Rattle.execution.specs.Run.{machineRun, result};
+ghost use Rattle.execution.specs.Run.{machineRun, turnOf, result};
 ghost use Rattle.execution.specs.Secrecy.{Same, Filled, SameRoom, ShowsRun};
 
 // What a run returns: how many steps were done, the answer, code and address of the last step tried, and the
@@ -58,6 +60,50 @@ pub fn run(
         vectors,
         vector_taint,
         window,
+        Reach::Alone,
+        memory,
+        taint,
+        trace,
+        statuses,
+    )
+}
+
+// One turn of a plugin that shares memory with another: a run that reaches what its ranges allow. Memory begins at origin,
+// and nothing of it is read-only but the shared range.
+pub fn turn(
+    words: &[u32],
+    state: State,
+    vectors: &mut [[u64; 2]; 32],
+    vector_taint: &mut [[u64; 2]; 32],
+    origin: u64,
+    ranges: Ranges,
+    memory: &mut [u8],
+    taint: &mut [u8],
+    trace: &mut [u64],
+    statuses: &mut [u8],
+) -> Ran
+    ensures { λ r. ⌜ result r (now (vectors .exit)) (now («vector_taint» .exit)) (now (memory .exit)) (now (taint .exit)) (now (trace .exit)) (now (statuses .exit)) ≡ turnOf origin ranges (now (words .entry)) (machineOf state (now (vectors .entry)) (now («vector_taint» .entry)) (now (memory .entry)) (now (taint .entry))) (log (now (trace .entry)) (now (statuses .entry))) ⌝ }
+{
+    let window = Window {
+        origin,
+        readonly: 0,
+    };
+    if plan::is_bad(window, memory.len() as u64, taint.len() as u64, state.pc) {
+        return not_begun(state, Answer::BadWindow);
+    }
+    if plan::are_bad(ranges, origin, memory.len() as u64) {
+        return not_begun(state, Answer::BadWindow);
+    }
+    if is_short(words.len(), trace.len(), statuses.len()) {
+        return not_begun(state, Answer::NoRoom);
+    }
+    walk(
+        words,
+        state,
+        vectors,
+        vector_taint,
+        window,
+        Reach::Ranged(ranges),
         memory,
         taint,
         trace,
@@ -105,23 +151,25 @@ fn walk(
     vectors: &mut [[u64; 2]; 32],
     vector_taint: &mut [[u64; 2]; 32],
     window: Window,
+    reach: Reach,
     memory: &mut [u8],
     taint: &mut [u8],
     trace: &mut [u64],
     statuses: &mut [u8],
 ) -> Ran
     requires { ⌜ (length (now words) * 2 ≤ length (now trace)) × (length (now words) ≤ length (now statuses)) ⌝ }
-    ensures { λ r. ⌜ result r (now (vectors .exit)) (now («vector_taint» .exit)) (now (memory .exit)) (now (taint .exit)) (now (trace .exit)) (now (statuses .exit)) ≡ glue 0 (log (now (trace .entry)) (now (statuses .entry))) (walkOf (stepOf window) (now (words .entry)) (machineOf start (now (vectors .entry)) (now («vector_taint» .entry)) (now (memory .entry)) (now (taint .entry))) (shown 0 0 0)) ⌝ }
+    ensures { λ r. ⌜ result r (now (vectors .exit)) (now («vector_taint» .exit)) (now (memory .exit)) (now (taint .exit)) (now (trace .exit)) (now (statuses .exit)) ≡ glue 0 (log (now (trace .entry)) (now (statuses .entry))) (walkOf (stepIn window reach) (now (words .entry)) (machineOf start (now (vectors .entry)) (now («vector_taint» .entry)) (now (memory .entry)) (now (taint .entry))) (shown 0 0 0)) ⌝ }
 {
     let mut state = start;
     let mut last = no_code(0);
     let mut i = 0;
     while i < words.len() {
-        match machine::decide(
+        match machine::decide_within(
             words[i],
             state.pc,
             state.monitor,
             window,
+            reach,
             &state.registers.value,
             &state.registers.taint,
             vectors,

@@ -21,7 +21,7 @@ use Rattle.plan.proofs.Refusals.{each-map, first-by}
 use Rattle.machine.specs.Machine.{Machine}
 use Rattle.machine.specs.Refusals.{bad, wordRefusals, refusals}
 use Rattle.machine.specs.Step.{Outcome, stepOf, performed}
-use Rattle.machine.proofs.Answers.{answers-exact, step-refuses, Later, word-later}
+use Rattle.machine.proofs.Answers.{answers-exact, step-refuses, Numbered, Later, word-later}
 use Rattle.execution.specs.Walk.{Log, short, runOf}
 use Rattle.execution.specs.Ends.{alone, Ends, lastOf}
 use Rattle.execution.specs.Run.{machineRun}
@@ -53,7 +53,7 @@ step-number w word m =
     let further = wordRefusals (admitOf w (length (m .memory))) word m in
     rw (answers-exact w word m)
     (first-by Stepwise (λ answer address. answer) Done (refusals w word m)
-    (refl, each-map {P = Later} {Q = λ e. Stepwise (e .answer)} (λ e l. tested 9 (oneOf stepNumbers) refl (answerNumber (e .answer)) (l .1)) further (word-later w word m))
+    (refl, each-map {P = Numbered Later} {Q = λ e. Stepwise (e .answer)} (λ e l. tested 9 (oneOf stepNumbers) refl (answerNumber (e .answer)) (l .1)) further (word-later w word m))
     (λ p. refl))
 
 either-way : (z a b : Bool) → (a ≡ true → b ≡ true) → pick z true a ≡ true → pick z true b ≡ true

@@ -41,7 +41,7 @@ use Rattle.machine.specs.Rule.{moveRule}
 use Rattle.machine.specs.Machine.{Machine, operandsOf, effectOf}
 use Rattle.machine.specs.Real.{Real}
 use Rattle.machine.specs.Refusals.{refusals}
-use Rattle.machine.specs.Step.{Step, stopped, moved, performOf, stepOf}
+use Rattle.machine.specs.Step.{Step, stopped, moved, performOf, stepIn, stepOf}
 use Rattle.machine.proofs.Writing.{load-made}
 use Rattle.machine.proofs.Vectors.{vector-clears}
 
@@ -143,7 +143,7 @@ clear-perform origin x m r b l t a e load vector i above =
 
 pub load-clears : (w : Window) (word : ℕ) (m n : Machine) (shown : Shown) (t : Transfer) (a : Addressing) → Real m → wordAccess word ≡ Moves t a → t .store ≡ false → vectorSlot (t .target) ≡ true
     → stepOf w word m ≡ moved n shown → (i : ℕ) → t .bytes ≤ i → Clear (t .target) i n
-unfolding stepOf
+unfolding stepIn
 load-clears w word m n shown t a r e load vector done i above =
     subst (ClearStep (t .target) i) done
     (first-by (ClearStep (t .target) i) stopped (performOf (w .origin) (wordAccess word) m) (refusals w word m) (each (λ e. tt) (refusals w word m))

@@ -1,7 +1,7 @@
 -- Bytes, registers and memories that are related by their taints, before and after bytes and registers are set. A register that is
 -- loaded goes by its sources: byte by byte, value and taints come from the same one (`byte-from`). Assumes nothing.
 use Prim.Native.Nat.{ℕ, zero, suc, _+_, _-_, _/_, _%_, _^_, _≤_, _<_}
-use mathlib.Core.Path.{_≡_, refl, ap}
+use mathlib.Core.Path.{_≡_, refl, ap, subst}
 use mathlib.Core.Bool.{Bool, true, false}
 use mathlib.Core.List.{List, [], _∷_, _++_, map}
 use native.Mathlib.Decide.{ℕ-discrete, decLt}
@@ -17,7 +17,7 @@ use Rattle.memory.specs.Sources.{Source, cleared, byte, sign, bytesFrom, signFr
 use Rattle.memory.specs.route.Values.{valueFrom}
 use Rattle.memory.proofs.Taints.{no-byte, normal-tainted}
 use Rattle.memory.proofs.Sources.{Small, byte-from, value-small, taint-small, extended-sources}
-use Rattle.secrecy.specs.route.Alike.{Copied, Byte, Word, Table}
+use Rattle.secrecy.specs.route.Alike.{View, Copied, Byte, Word, Table}
 use Rattle.secrecy.proofs.Numbers.{same-number, byte-cut, zero-is}
 
 -- ---- one element set in each of four lists
@@ -79,44 +79,44 @@ unfolding sourcesOf
 seen-sources sees at n extent s =
     seen-append sees (bytesFrom at n) (replicate (extent - n) (signFrom at n)) (seen-bytes sees at n s) (seen-copies sees (extent - n) (signFrom at n) (seen-sign sees at n s))
 
-module _ (related : Bool → ℕ → ℕ → Type 0) (copied : Copied related) where
+module _ (view : View) (copied : Copied view) where
   -- ---- registers
 
   -- what is written that is not tainted
-  pub constant : (v : ℕ) → Word related 0 0 v v
-  constant v = λ i. (refl, rw (no-byte i) (copied .alike (byteAt i v)))
+  pub constant : (v : ℕ) → Word view 0 0 v v
+  constant v = λ i. (copied .itself (byteAt i 0), rw (no-byte i) (copied .alike (byteAt i v)))
 
   -- numbers that are not tainted are the same
-  pub same-value : (u w a b : ℕ) → Word related u w a b → tainted u ≡ false → a ≡ b
+  pub same-value : (u w a b : ℕ) → Word view u w a b → tainted u ≡ false → a ≡ b
   same-value u w a b h e =
       let z : u ≡ 0 = zero-is u e in
       same-number a b (λ i. copied .equal (byteAt i a) (byteAt i b) (rw (z, no-byte i) at (h i .1)))
 
   -- their low bytes are related as they are
-  cut-at : (i u w a b : ℕ) (z : Bool) → Word related u w a b
-      → (tainted (pick z (byteAt i u) 0) ≡ tainted (pick z (byteAt i w) 0)) × related (tainted (pick z (byteAt i u) 0)) (pick z (byteAt i a) 0) (pick z (byteAt i b) 0)
+  cut-at : (i u w a b : ℕ) (z : Bool) → Word view u w a b
+      → view .mark (pick z (byteAt i u) 0) (pick z (byteAt i w) 0) × view .related (tainted (pick z (byteAt i u) 0)) (pick z (byteAt i a) 0) (pick z (byteAt i b) 0)
   cut-at i u w a b true h = h i
-  cut-at i u w a b false h = (refl, copied .alike 0)
+  cut-at i u w a b false h = (copied .itself 0, copied .alike 0)
 
-  pub cut-word : (n u w a b : ℕ) → Word related u w a b → Word related (u % 256 ^ n) (w % 256 ^ n) (a % 256 ^ n) (b % 256 ^ n)
+  pub cut-word : (n u w a b : ℕ) → Word view u w a b → Word view (u % 256 ^ n) (w % 256 ^ n) (a % 256 ^ n) (b % 256 ^ n)
   cut-word n u w a b h = λ i. rw (byte-cut n i u, byte-cut n i w, byte-cut n i a, byte-cut n i b) (cut-at i u w a b (ltb i n) h)
 
   -- ---- a store
 
-  pub table-store : (sees : ℕ → Type 0) (n at u w a b : ℕ) (k l x y : List ℕ) → Word related u w a b → Table sees (Byte related) k l x y
-      → Table sees (Byte related) (sets k at (map normal (bytesOf n u))) (sets l at (map normal (bytesOf n w))) (sets x at (bytesOf n a)) (sets y at (bytesOf n b))
+  pub table-store : (sees : ℕ → Type 0) (n at u w a b : ℕ) (k l x y : List ℕ) → Word view u w a b → Table sees (Byte view) k l x y
+      → Table sees (Byte view) (sets k at (map normal (bytesOf n u))) (sets l at (map normal (bytesOf n w))) (sets x at (bytesOf n a)) (sets y at (bytesOf n b))
   unfolding bytesOf byteAt
   table-store sees zero at u w a b k l x y h t = t
   table-store sees (suc n) at u w a b k l x y h t =
-      let same : normal (u % 256) ≡ normal (w % 256) = ap (λ (q : Bool). pick q 1 0) (h 0 .0) in
-      let r : Byte related (normal (u % 256)) (normal (w % 256)) (a % 256) (b % 256) = (same, rw (normal-tainted (u % 256)) (h 0 .1)) in
+      let same : normal (u % 256) ≡ normal (w % 256) = ap (λ (q : Bool). pick q 1 0) (copied .sharp (u % 256) (w % 256) (h 0 .0)) in
+      let r : Byte view (normal (u % 256)) (normal (w % 256)) (a % 256) (b % 256) = (same, rw (normal-tainted (u % 256)) (h 0 .1)) in
       table-store sees n (suc at) (u / 256) (w / 256) (a / 256) (b / 256) (set k at (normal (u % 256))) (set l at (normal (w % 256))) (set x at (a % 256)) (set y at (b % 256)) (λ i. h (suc i))
-      (table-set sees (Byte related) k l x y at (normal (u % 256)) (normal (w % 256)) (a % 256) (b % 256) t r)
+      (table-set sees (Byte view) k l x y at (normal (u % 256)) (normal (w % 256)) (a % 256) (b % 256) t r)
 
   -- ---- a load
 
-  module _ (sees : ℕ → Type 0) (k l x y : List ℕ) (t : Table sees (Byte related) k l x y) where
-    from : (s : Source) → SeenSource sees s → Byte related (taintFrom k s) (taintFrom l s) (valueFrom x s) (valueFrom y s)
+  module _ (sees : ℕ → Type 0) (k l x y : List ℕ) (t : Table sees (Byte view) k l x y) where
+    from : (s : Source) → SeenSource sees s → Byte view (taintFrom k s) (taintFrom l s) (valueFrom x s) (valueFrom y s)
     from cleared g = (refl, copied .alike 0)
     from (byte i) g =
         let h = t .each i g in
@@ -127,7 +127,7 @@ module _ (related : Bool → ℕ → ℕ → Type 0) (copied : Copied related) w
 
     -- what is loaded of n bytes that may be looked at
     pub loaded : Small x → Small y → (at n extent : ℕ) → n ≤ extent → Seen sees at n
-        → Word related (loadedTaint at n extent k) (loadedTaint at n extent l) (extendedOf n extent (joined (spanOf x at n))) (extendedOf n extent (joined (spanOf y at n)))
+        → Word view (loadedTaint at n extent k) (loadedTaint at n extent l) (extendedOf n extent (joined (spanOf x at n))) (extendedOf n extent (joined (spanOf y at n)))
     unfolding loadedTaint
     loaded small-x small-y at n extent h s =
         let ss = sourcesOf at n extent in
@@ -135,4 +135,4 @@ module _ (related : Bool → ℕ → ℕ → Type 0) (copied : Copied related) w
         (λ i.
         let r = from (getD ss i cleared) (seen-sources sees at n extent s i) in
         rw (byte-from (taintFrom k) (taint-small k) refl ss i, byte-from (taintFrom l) (taint-small l) refl ss i, byte-from (valueFrom x) (value-small x small-x) refl ss i, byte-from (valueFrom y) (value-small y small-y) refl ss i)
-        (ap tainted (r .0), r .1))
+        (subst (view .mark (taintFrom k (getD ss i cleared))) (r .0) (copied .itself (taintFrom k (getD ss i cleared))), r .1))

@@ -1,5 +1,5 @@
--- A step takes machines whose bytes are related by their taints to such machines, and shows the same of both: for every relation
--- that copies keep. Assumes nothing.
+-- A step takes machines whose bytes are related by their taints to such machines, and shows the same of both: for every view that
+-- copies keep, and whatever may be reached. Assumes nothing.
 use Prim.Native.Nat.{ℕ, _+_, _-_, _%_, _^_, _<_}
 use mathlib.Core.Path.{_≡_, refl, sym, ap, subst, _∙_}
 use mathlib.Core.Bool.{Bool, true, false, _||_}
@@ -26,7 +26,9 @@ use Rattle.plan.specs.declared.operands.Operands.{Operands}
 use Rattle.plan.specs.Operands.{usedOf}
 use Rattle.plan.specs.Address.{indexOf, shiftedOf, sumOf}
 use Rattle.plan.specs.Refusals.{Refusal, refusal, firstOf}
-use Rattle.plan.specs.Admission.{totalOf, admitOf}
+use Rattle.plan.specs.Admission.{totalOf}
+use Rattle.plan.specs.declared.ranges.Reach.{Reach}
+use Rattle.plan.specs.Ranges.{admitIn}
 use Rattle.plan.specs.Plans.{misalignedStack}
 use Rattle.plan.proofs.Refusals.{Passed}
 use Rattle.machine.specs.Rule.{moveRule}
@@ -34,14 +36,14 @@ use Rattle.machine.specs.declared.monitor.Monitor.{Monitor}
 use Rattle.machine.specs.Monitor.{matches, statusOf, monitorAfter, writtenBack, madeOf}
 use Rattle.machine.specs.Machine.{Machine, operandsOf, effectOf}
 use Rattle.machine.specs.Refusals.{bad, classRefusals, accessRefusals}
-use Rattle.machine.specs.Step.{Step, stopped, touchOf, stepOf}
+use Rattle.machine.specs.Step.{Step, stopped, touchOf, stepIn}
 use Rattle.machine.specs.route.Parts.{wordStep, accessStep}
-use Rattle.machine.proofs.Answers.{step-bad}
+use Rattle.machine.proofs.Answers.{step-in}
 use Rattle.machine.specs.Real.{Real}
 use Rattle.machine.proofs.Writing.{load-made}
 use Rattle.machine.proofs.Reals.{made-bounded}
 use Rattle.secrecy.specs.Shows.{EqualMonitors, Shows}
-use Rattle.secrecy.specs.route.Alike.{Copied, Word, Table, Anywhere, Alike}
+use Rattle.secrecy.specs.route.Alike.{View, Copied, Word, Table, Anywhere, Alike}
 use Rattle.secrecy.proofs.Numbers.{same-taint}
 use Rattle.secrecy.proofs.Agreement.{Seen, table-set, constant, same-value, cut-word, table-store, loaded}
 
@@ -72,14 +74,6 @@ unfolding statusOf
 status-same t address r s l (inl e) = rw e
 status-same t address r s l (inr h) = rw (open-fails r address (t .bytes) (omega (arith, h .0)) l, open-fails s address (t .bytes) (omega (arith, h .0, h .1)) l)
 
-after-same : (t : Transfer) (address : ℕ) (r s : Monitor) → EqualMonitors r s → EqualMonitors (monitorAfter t address r) (monitorAfter t address s)
-unfolding monitorAfter
-after-same t address r s h = set-same (t .exclusive) _ h
-  where
-    set-same : (z : Bool) (set : Monitor) → EqualMonitors r s → EqualMonitors (pick z set r) (pick z set s)
-    set-same true set h = inl refl
-    set-same false set h = h
-
 -- ---- an index of which only a part is used
 
 -- the same part gives the same index
@@ -101,32 +95,40 @@ either : (b c : Bool) → pick b true c ≡ false → (b ≡ false) × (c ≡ fa
 either true c e = absurd (let z : _≡_ {A = ℕ} 0 1 = cc in omega arith)
 either false c e = (refl, e)
 
-module _ (sees : ℕ → Type 0) (related : Bool → ℕ → ℕ → Type 0) (copied : Copied related) where
-  used-at : (p : Bool) (u w a b : ℕ) → Word related u w a b → Word related (pick p (u % 2 ^ 32) u) (pick p (w % 2 ^ 32) w) (pick p (a % 2 ^ 32) a) (pick p (b % 2 ^ 32) b)
-  used-at true u w a b h = cut-word related copied 4 u w a b h
+module _ (sees : ℕ → Type 0) (view : View) (copied : Copied view) where
+  after-same : (t : Transfer) (address : ℕ) (r s : Monitor) → view .monitor r s → view .monitor (monitorAfter t address r) (monitorAfter t address s)
+  unfolding monitorAfter
+  after-same t address r s h = set-same (t .exclusive) _
+    where
+      set-same : (z : Bool) (set : Monitor) → view .monitor (pick z set r) (pick z set s)
+      set-same true set = copied .still set
+      set-same false set = h
+
+  used-at : (p : Bool) (u w a b : ℕ) → Word view u w a b → Word view (pick p (u % 2 ^ 32) u) (pick p (w % 2 ^ 32) w) (pick p (a % 2 ^ 32) a) (pick p (b % 2 ^ 32) b)
+  used-at true u w a b h = cut-word view copied 4 u w a b h
   used-at false u w a b h = h
 
   -- the used parts of numbers are related as they are
-  used-word : (option u w a b : ℕ) → Word related u w a b → Word related (usedOf option u) (usedOf option w) (usedOf option a) (usedOf option b)
+  used-word : (option u w a b : ℕ) → Word view u w a b → Word view (usedOf option u) (usedOf option w) (usedOf option a) (usedOf option b)
   unfolding usedOf
   used-word option u w a b h = used-at (eqb option 0b010 || eqb option 0b110) u w a b h
 
-  module _ (m n : Machine) (real-m : Real m) (real-n : Real n) (h : Alike sees related m n) where
+  module _ (m n : Machine) (real-m : Real m) (real-n : Real n) (h : Alike sees view m n) where
     abbrev taint : ℕ → ℕ
     taint slot = getD (m .taints .registers) slot 0
 
     abbrev other : ℕ → ℕ
     other slot = getD (n .taints .registers) slot 0
 
-    register : (slot : ℕ) → Word related (taint slot) (other slot) (getD (m .values) slot 0) (getD (n .values) slot 0)
+    register : (slot : ℕ) → Word view (taint slot) (other slot) (getD (m .values) slot 0) (getD (n .values) slot 0)
     register slot = h .registers .each slot tt
 
     index : (a : Addressing)
-        → Word related (usedOf (a .option) (taint (a .index))) (usedOf (a .option) (other (a .index))) (usedOf (a .option) (getD (m .values) (a .index) 0)) (usedOf (a .option) (getD (n .values) (a .index) 0))
+        → Word view (usedOf (a .option) (taint (a .index))) (usedOf (a .option) (other (a .index))) (usedOf (a .option) (getD (m .values) (a .index) 0)) (usedOf (a .option) (getD (n .values) (a .index) 0))
     index a = used-word (a .option) (taint (a .index)) (other (a .index)) (getD (m .values) (a .index) 0) (getD (n .values) (a .index) 0) (register (a .index))
 
     tainted-same : (a : Addressing) → operandsOf a m .tainted ≡ operandsOf a n .tainted
-    tainted-same a = rw (same-taint (taint (a .base)) (other (a .base)) (λ i. register (a .base) i .0), same-taint (usedOf (a .option) (taint (a .index))) (usedOf (a .option) (other (a .index))) (λ i. index a i .0))
+    tainted-same a = rw (same-taint (taint (a .base)) (other (a .base)) (λ i. copied .sharp _ _ (register (a .base) i .0)), same-taint (usedOf (a .option) (taint (a .index))) (usedOf (a .option) (other (a .index))) (λ i. copied .sharp _ _ (index a i .0)))
 
     base-at : (z : Bool) (pc pc′ x y : ℕ) → pc ≡ pc′ → x ≡ y → pick z pc x ≡ pick z pc′ y
     base-at z pc pc′ x y e f = rw (e, f)
@@ -134,20 +136,20 @@ module _ (sees : ℕ → Type 0) (related : Bool → ℕ → ℕ → Type 0) (co
     base-same : (a : Addressing) → operandsOf a m .tainted ≡ false → operandsOf a m .base ≡ operandsOf a n .base
     base-same a e =
         let q = either (tainted (taint (a .base))) (tainted (usedOf (a .option) (taint (a .index)))) e in
-        base-at (a .relative) (m .pc) (n .pc) _ _ (h .pc) (same-value related copied (taint (a .base)) (other (a .base)) _ _ (register (a .base)) (q .0))
+        base-at (a .relative) (m .pc) (n .pc) _ _ (h .pc) (same-value view copied (taint (a .base)) (other (a .base)) _ _ (register (a .base)) (q .0))
 
     sums-same : (a : Addressing) → operandsOf a m .tainted ≡ false → sumOf a (operandsOf a m) ≡ sumOf a (operandsOf a n)
     sums-same a e =
         let q = either (tainted (taint (a .base))) (tainted (usedOf (a .option) (taint (a .index)))) e in
-        sum-same a (operandsOf a m) (operandsOf a n) (base-same a e) (same-value related copied (usedOf (a .option) (taint (a .index))) (usedOf (a .option) (other (a .index))) _ _ (index a) (q .1))
+        sum-same a (operandsOf a m) (operandsOf a n) (base-same a e) (same-value view copied (usedOf (a .option) (taint (a .index))) (usedOf (a .option) (other (a .index))) _ _ (index a) (q .1))
 
     -- both make the same access, and a load is allowed to look at its bytes
-    module _ (t : Transfer) (fits : Bounded t) (written at next : ℕ) (after later : Monitor) (still : EqualMonitors after later) (seen : t .store ≡ false → Seen sees at (totalOf t)) where
+    module _ (t : Transfer) (fits : Bounded t) (written at next : ℕ) (after later : Monitor) (still : view .monitor after later) (seen : t .store ≡ false → Seen sees at (totalOf t)) where
       abbrev Kept : Type 0
-      Kept = Alike sees related (effectOf t written at next after m) (effectOf t written at next later n)
+      Kept = Alike sees view (effectOf t written at next after m) (effectOf t written at next later n)
 
-      based : Table Anywhere (Word related) (set (m .taints .registers) written 0) (set (n .taints .registers) written 0) (set (m .values) written next) (set (n .values) written next)
-      based = table-set Anywhere (Word related) (m .taints .registers) (n .taints .registers) (m .values) (n .values) written 0 0 next next (h .registers) (constant related copied next)
+      based : Table Anywhere (Word view) (set (m .taints .registers) written 0) (set (n .taints .registers) written 0) (set (m .values) written next) (set (n .values) written next)
+      based = table-set Anywhere (Word view) (m .taints .registers) (n .taints .registers) (m .values) (n .values) written 0 0 next next (h .registers) (constant view copied next)
 
       effect-at : (z : Bool) → t .store ≡ z → Kept
       unfolding effectOf moveRule
@@ -158,8 +160,8 @@ module _ (sees : ℕ → Type 0) (related : Bool → ℕ → ℕ → Type 0) (co
             monitor = still;
             registers = based;
             bytes =
-                table-store related copied sees (t .more) (at + t .bytes) _ _ _ _ _ _ _ _ (register (t .second))
-                (table-store related copied sees (t .bytes) at _ _ _ _ _ _ _ _ (register (t .target)) (h .bytes));
+                table-store view copied sees (t .more) (at + t .bytes) _ _ _ _ _ _ _ _ (register (t .second))
+                (table-store view copied sees (t .bytes) at _ _ _ _ _ _ _ _ (register (t .target)) (h .bytes));
           })
       effect-at false e =
           let k = m .taints .bytes in
@@ -171,10 +173,10 @@ module _ (sees : ℕ → Type 0) (related : Bool → ℕ → ℕ → Type 0) (co
             pc = rw (h .pc);
             monitor = still;
             registers =
-                table-set Anywhere (Word related) _ _ _ _ (t .second) _ _ _ _
-                (table-set Anywhere (Word related) _ _ _ _ (t .target) _ _ _ _ based
-                (loaded related copied sees k l (m .memory) (n .memory) (h .bytes) (real-m .bytes) (real-n .bytes) at (t .bytes) (t .extent) (fits .wide) s₁))
-                (loaded related copied sees k l (m .memory) (n .memory) (h .bytes) (real-m .bytes) (real-n .bytes) (at + t .bytes) (t .more) (t .extent) (fits .wider) s₂);
+                table-set Anywhere (Word view) _ _ _ _ (t .second) _ _ _ _
+                (table-set Anywhere (Word view) _ _ _ _ (t .target) _ _ _ _ based
+                (loaded view copied sees k l (m .memory) (n .memory) (h .bytes) (real-m .bytes) (real-n .bytes) at (t .bytes) (t .extent) (fits .wide) s₁))
+                (loaded view copied sees k l (m .memory) (n .memory) (h .bytes) (real-m .bytes) (real-n .bytes) (at + t .bytes) (t .more) (t .extent) (fits .wider) s₂);
             bytes = h .bytes;
           })
 
@@ -190,13 +192,13 @@ module _ (sees : ℕ → Type 0) (related : Bool → ℕ → ℕ → Type 0) (co
           firstOf stopped (touchOf origin t (a .written) address sum m)
           (refusal TaintedAddress q 0 ∷ refusal Misaligned (misalignedStack (a .base) base) base ∷ admit t address)
 
-      touch-alike : (t : Transfer) (a : Addressing) → Bounded t → 0 < t .bytes → (q : Bool) (base sum : ℕ) → Shows (Alike sees related) (accessBy m t a q base sum) (accessBy n t a q base sum)
+      touch-alike : (t : Transfer) (a : Addressing) → Bounded t → 0 < t .bytes → (q : Bool) (base sum : ℕ) → Shows (Alike sees view) (accessBy m t a q base sum) (accessBy n t a q base sum)
       unfolding effectOf
       touch-alike t a fits l q base sum =
           let at = pick (a .post) base sum in
           let status = statusOf t at (m .monitor) in
-          rw (← status-same t at (m .monitor) (n .monitor) l (h .monitor))
-          (first-shows (Alike sees related) _ _ (refusal TaintedAddress q 0 ∷ refusal Misaligned (misalignedStack (a .base) base) base ∷ admit t at)
+          rw (← status-same t at (m .monitor) (n .monitor) l (copied .agree (m .monitor) (n .monitor) (h .monitor)))
+          (first-shows (Alike sees view) _ _ (refusal TaintedAddress q 0 ∷ refusal Misaligned (misalignedStack (a .base) base) base ∷ admit t at)
           (λ p. (
             effect-alike (madeOf t status) (made-bounded t status fits) (a .written) (at - origin) (writtenBack t status sum) (monitorAfter t at (m .monitor)) (monitorAfter t at (n .monitor))
                 (after-same t at (m .monitor) (n .monitor) (h .monitor))
@@ -204,7 +206,7 @@ module _ (sees : ℕ → Type 0) (related : Bool → ℕ → ℕ → Type 0) (co
             refl,
           )))
 
-      moves-at : (t : Transfer) (a : Addressing) → Bounded t → 0 < t .bytes → (z : Bool) → operandsOf a m .tainted ≡ z → Shows (Alike sees related) (accessStep origin admit (Moves t a) m) (accessStep origin admit (Moves t a) n)
+      moves-at : (t : Transfer) (a : Addressing) → Bounded t → 0 < t .bytes → (z : Bool) → operandsOf a m .tainted ≡ z → Shows (Alike sees view) (accessStep origin admit (Moves t a) m) (accessStep origin admit (Moves t a) n)
       unfolding accessStep
       moves-at t a fits l true e =
           let there : operandsOf a n .tainted ≡ true = sym (tainted-same a) ∙ e in
@@ -214,30 +216,32 @@ module _ (sees : ℕ → Type 0) (related : Bool → ℕ → ℕ → Type 0) (co
           let p = operandsOf a n in
           let same : accessBy n t a (o .tainted) (o .base) (sumOf a o) ≡ accessBy n t a (p .tainted) (p .base) (sumOf a p) =
           by-parts n t a (tainted-same a) (base-same a e) (sums-same a e) in
-          subst (λ s. Shows (Alike sees related) (accessStep origin admit (Moves t a) m) s) same (touch-alike t a fits l (o .tainted) (o .base) (sumOf a o))
+          subst (λ s. Shows (Alike sees view) (accessStep origin admit (Moves t a) m) s) same (touch-alike t a fits l (o .tainted) (o .base) (sumOf a o))
         where
           by-parts : (n : Machine) (t : Transfer) (a : Addressing) {q r : Bool} {x y s v : ℕ} → q ≡ r → x ≡ y → s ≡ v → accessBy n t a q x s ≡ accessBy n t a r y v
           by-parts n t a e f g = rw (e, f, g)
 
-      access-alike : (x : Access) → Within x → Moving x → Shows (Alike sees related) (accessStep origin admit x m) (accessStep origin admit x n)
+      access-alike : (x : Access) → Within x → Moving x → Shows (Alike sees view) (accessStep origin admit x m) (accessStep origin admit x n)
       unfolding accessStep
       access-alike Nothing b l = (record { pc = rw (h .pc); monitor = h .monitor; registers = h .registers; bytes = h .bytes }, refl)
       access-alike (Moves t a) b l = moves-at t a (b .0) (l .0) (operandsOf a m .tainted) refl
 
       -- a step under an admission that lets a load look only at what may be seen
-      pub word-alike : (word : ℕ) → Shows (Alike sees related) (wordStep origin admit word m) (wordStep origin admit word n)
+      pub word-alike : (word : ℕ) → Shows (Alike sees view) (wordStep origin admit word m) (wordStep origin admit word n)
       unfolding wordStep accessStep
-      word-alike word = first-after (Alike sees related) _ _ (classRefusals word) (accessRefusals admit (wordAccess word) m) (accessRefusals admit (wordAccess word) n) (access-alike (wordAccess word) (bounded word) (moving word))
+      word-alike word = first-after (Alike sees view) _ _ (classRefusals word) (accessRefusals admit (wordAccess word) m) (accessRefusals admit (wordAccess word) n) (access-alike (wordAccess word) (bounded word) (moving word))
 
-  -- a step in a window whose admission lets a load look only at what may be seen
-  module _ (w : Window) (safe : (len : ℕ) (t : Transfer) (a : ℕ) → Passed (admitOf w len t a) → t .store ≡ false → Seen sees (a - w .origin) (totalOf t)) (m n : Machine) (real-m : Real m) (real-n : Real n) (h : Alike sees related m n) where
+  -- a step by what may be reached, where a load looks only at what may be seen
+  module _ (w : Window) (reach : Reach) (safe : (len : ℕ) (t : Transfer) (a : ℕ) → Passed (admitIn w reach len t a) → t .store ≡ false → Seen sees (a - w .origin) (totalOf t)) (m n : Machine) (real-m : Real m) (real-n : Real n) (h : Alike sees view m n) where
     same-length : length (m .memory) ≡ length (n .memory)
     same-length = h .bytes .left ∙ sym (h .bytes .right)
 
     step-at : (word : ℕ) (z y : Bool) (len : ℕ) → z ≡ y → length (m .memory) ≡ len
-        → Shows (Alike sees related) (pick z (stopped BadWindow 0) (wordStep (w .origin) (admitOf w (length (m .memory))) word m)) (pick y (stopped BadWindow 0) (wordStep (w .origin) (admitOf w len) word n))
+        → Shows (Alike sees view) (pick z (stopped BadWindow 0) (wordStep (w .origin) (admitIn w reach (length (m .memory))) word m)) (pick y (stopped BadWindow 0) (wordStep (w .origin) (admitIn w reach len) word n))
     step-at word true true len e l = (refl, refl)
-    step-at word false false len e l = rw (← l) (word-alike m n real-m real-n h (w .origin) (admitOf w (length (m .memory))) (safe (length (m .memory))) word)
+    step-at word false false len e l =
+        subst (λ (k : ℕ). Shows (Alike sees view) (wordStep (w .origin) (admitIn w reach (length (m .memory))) word m) (wordStep (w .origin) (admitIn w reach k) word n)) l
+        (word-alike m n real-m real-n h (w .origin) (admitIn w reach (length (m .memory))) (safe (length (m .memory))) word)
     step-at word true false len e l = absurd (let z : _≡_ {A = ℕ} 0 1 = cc in omega arith)
     step-at word false true len e l = absurd (let z : _≡_ {A = ℕ} 0 1 = cc in omega arith)
 
@@ -245,7 +249,7 @@ module _ (sees : ℕ → Type 0) (related : Bool → ℕ → ℕ → Type 0) (co
     bad-alike : bad w m ≡ bad w n
     bad-alike = rw (same-length, h .bytes .taints, h .pc)
 
-    pub step-alike : (word : ℕ) → Shows (Alike sees related) (stepOf w word m) (stepOf w word n)
+    pub step-alike : (word : ℕ) → Shows (Alike sees view) (stepIn w reach word m) (stepIn w reach word n)
     step-alike word =
-        rw (step-bad w word m, step-bad w word n)
+        rw (step-in w reach word m, step-in w reach word n)
         (step-at word (bad w m) (bad w n) (length (n .memory)) bad-alike same-length)

@@ -30,7 +30,7 @@ use Rattle.machine.specs.Monitor.{storeExclusive, matches, statusOf}
 use Rattle.machine.specs.Rule.{Taints, wordRule}
 use Rattle.machine.specs.Machine.{Machine, operandsOf, effectOf, codeOf}
 use Rattle.machine.specs.Refusals.{accessRefusals, refusals, bad}
-use Rattle.machine.specs.Step.{shown, Step, stopped, moved, performOf, stepOf}
+use Rattle.machine.specs.Step.{shown, Step, stopped, moved, performOf, stepIn, stepOf}
 use Rattle.machine.proofs.Taints.{Follows, taintsIn, taints-by-rule}
 use Rattle.execution.specs.Walk.{Walked, goOn, walkOf, numbersOf, statusesOf, Log, log, logged, short, runOf, shownAt, afterSteps, tooShort}
 use Rattle.execution.specs.Ends.{alone}
@@ -75,7 +75,7 @@ module _ (w : Window) (word : ℕ) (m : Machine) where
       (rw (c, status-small t address (m .monitor), e, eq-eqb (codeOf t) (codeOf t) refl, d), kept (t .store) (m .memory) _ (simp length-sets))
 
   step-right : Right w len word (stepOf w word m)
-  unfolding stepOf
+  unfolding stepIn
   step-right =
       first-by (Right w len word) stopped (performOf (w .origin) (wordAccess word) m) (refusals w word m) (each (λ e. tt) (refusals w word m))
       (λ p. perform-right (wordAccess word) refl (class-done word (p .1 .0) (p .1 .1 .0) (p .1 .1 .1 .0)) (p .1 .1 .1 .1))

@@ -1,6 +1,5 @@
--- Two machines whose bytes are related by their taints: `related` says how a tainted byte of one is to a byte of the other, and an
--- untainted one. `sees` says which bytes of memory may be looked at. Other bounds of sight, and other relations, are other
--- instances.
+-- Two machines whose bytes are related by their taints. A view says how they are compared, and `sees` which bytes of memory may be
+-- looked at. Other bounds of sight, and other views, are other instances.
 use Prim.Native.Nat.{ℕ}
 use mathlib.Core.Path.{_≡_}
 use mathlib.Core.Bool.{Bool, false}
@@ -8,22 +7,41 @@ use mathlib.Core.List.{List}
 use lib.ListN.{length, getD}
 use Rattle.memory.specs.Taints.{tainted, byteAt}
 use Rattle.memory.specs.route.Values.{signCopy}
+use Rattle.machine.specs.declared.monitor.Monitor.{Monitor}
 use Rattle.machine.specs.Machine.{Machine}
 use Rattle.secrecy.specs.Shows.{EqualMonitors}
 
--- a relation of two bytes by a taint that copies, signs and constants keep
-pub record Copied (related : Bool → ℕ → ℕ → Type 0) : Type 0 where
-  pub equal : (a b : ℕ) → related false a b → a ≡ b
-  pub alike : (a : ℕ) → related false a a
-  pub sign : (q : Bool) (a b : ℕ) → related q a b → related q (signCopy a) (signCopy b)
+-- how two marks of a register's byte are to each other, two monitors, and, by their taint, two bytes
+pub record View : Type 1 where
+  pub mark : ℕ → ℕ → Type 0
+  pub monitor : Monitor → Monitor → Type 0
+  pub related : Bool → ℕ → ℕ → Type 0
+
+-- by whether a byte is tainted, and whether monitors are equal
+abbrev pub byTaint : (Bool → ℕ → ℕ → Type 0) → View
+byTaint related = record { mark = λ k l. tainted k ≡ tainted l; monitor = EqualMonitors; related = related }
+
+-- all is the same
+abbrev pub exactly : View
+exactly = record { mark = λ k l. k ≡ l; monitor = λ r s. r ≡ s; related = λ q a b. a ≡ b }
+
+-- a view that copies, signs and constants keep
+pub record Copied (view : View) : Type 0 where
+  pub itself : (k : ℕ) → view .mark k k
+  pub sharp : (k l : ℕ) → view .mark k l → tainted k ≡ tainted l
+  pub still : (r : Monitor) → view .monitor r r
+  pub agree : (r s : Monitor) → view .monitor r s → EqualMonitors r s
+  pub equal : (a b : ℕ) → view .related false a b → a ≡ b
+  pub alike : (a : ℕ) → view .related false a a
+  pub sign : (q : Bool) (a b : ℕ) → view .related q a b → view .related q (signCopy a) (signCopy b)
 
 -- two bytes and their taint bytes, which are the same
-abbrev pub Byte : (Bool → ℕ → ℕ → Type 0) → ℕ → ℕ → ℕ → ℕ → Type 0
-Byte related k l a b = (k ≡ l) × related (tainted k) a b
+abbrev pub Byte : View → ℕ → ℕ → ℕ → ℕ → Type 0
+Byte view k l a b = (k ≡ l) × view .related (tainted k) a b
 
--- two numbers and their taints: each byte is tainted in both or in none
-abbrev pub Word : (Bool → ℕ → ℕ → Type 0) → ℕ → ℕ → ℕ → ℕ → Type 0
-Word related u w a b = (i : ℕ) → (tainted (byteAt i u) ≡ tainted (byteAt i w)) × related (tainted (byteAt i u)) (byteAt i a) (byteAt i b)
+-- two numbers and their marks, byte by byte
+abbrev pub Word : View → ℕ → ℕ → ℕ → ℕ → Type 0
+Word view u w a b = (i : ℕ) → view .mark (byteAt i u) (byteAt i w) × view .related (tainted (byteAt i u)) (byteAt i a) (byteAt i b)
 
 -- two lists with their taints, all of one length, element by element where they may be looked at
 pub record Table (sees : ℕ → Type 0) (each-is : ℕ → ℕ → ℕ → ℕ → Type 0) (k l x y : List ℕ) : Type 0 where
@@ -35,8 +53,8 @@ pub record Table (sees : ℕ → Type 0) (each-is : ℕ → ℕ → ℕ → ℕ 
 abbrev pub Anywhere : ℕ → Type 0
 Anywhere i = Unit {0}
 
-pub record Alike (sees : ℕ → Type 0) (related : Bool → ℕ → ℕ → Type 0) (m n : Machine) : Type 0 where
+pub record Alike (sees : ℕ → Type 0) (view : View) (m n : Machine) : Type 0 where
   pub pc : m .pc ≡ n .pc
-  pub monitor : EqualMonitors (m .monitor) (n .monitor)
-  pub registers : Table Anywhere (Word related) (m .taints .registers) (n .taints .registers) (m .values) (n .values)
-  pub bytes : Table sees (Byte related) (m .taints .bytes) (n .taints .bytes) (m .memory) (n .memory)
+  pub monitor : view .monitor (m .monitor) (n .monitor)
+  pub registers : Table Anywhere (Word view) (m .taints .registers) (n .taints .registers) (m .values) (n .values)
+  pub bytes : Table sees (Byte view) (m .taints .bytes) (n .taints .bytes) (m .memory) (n .memory)
