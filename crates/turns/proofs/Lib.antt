@@ -1,0 +1,5 @@
+pub mod Ranges
+pub mod Frames
+pub mod Plays
+pub mod Views
+pub mod Answers

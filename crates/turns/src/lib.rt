@@ -1,0 +1,1 @@
+// Two plugins that take turns on one memory: definitions and theorems.
