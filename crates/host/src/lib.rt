@@ -159,7 +159,8 @@ fn lister_reply(pushed: Pushed) -> ListerReply
     }
 }
 
-fn answer_number(answer: Answer) -> u64
+// An answer as it crosses.
+pub fn answer_number(answer: Answer) -> u64
     ensures { λ r. ⌜ r ≡ answerNumber answer ⌝ }
 {
     instruction::answer_number(answer) as u64
