@@ -20,15 +20,17 @@ use Rattle.access.specs.Accesses.{familyAccess, wordAccess}
 use Rattle.access.proofs.Rows.{row-access}
 use Rattle.plan.specs.declared.window.Window.{Window}
 use Rattle.plan.specs.Window.{badWindow}
-use Rattle.plan.specs.Admission.{admitOf}
+use Rattle.plan.specs.declared.ranges.Reach.{Reach}
+use Rattle.plan.specs.declared.ranges.Reach.the-variants.{Alone}
+use Rattle.plan.specs.Ranges.{admitIn}
 use Rattle.machine.specs.Machine.{Machine}
 use Rattle.machine.specs.Refusals.{bad}
-use Rattle.machine.specs.Step.{Step, stopped, stepOf}
+use Rattle.machine.specs.Step.{Step, stopped, stepIn, stepOf}
 use Rattle.machine.specs.route.Parts.{wordStep, accessStep}
-use Rattle.machine.proofs.Answers.{step-bad}
+use Rattle.machine.proofs.Answers.{step-in}
 use Rattle.machine.specs.Real.{Real}
 use Rattle.arm.specs.Pages.{pageOf}
-use Rattle.arm.specs.Choices.{badStart, armOf, armStep}
+use Rattle.arm.specs.Choices.{badStart, armOf, armStepIn, armStep}
 use Rattle.arm.proofs.Steps.{Ready, Steps}
 use Rattle.arm.proofs.Singles.{two}
 use Rattle.arm.proofs.Families.{unscaled-step, ordered-step, post-step, pre-step, unsigned-step, indexed-step, literal-step}
@@ -125,10 +127,14 @@ after-bad : (x y : Step Machine) (b : Bool) → (b ≡ false → x ≡ y) → pi
 after-bad x y true f = refl
 after-bad x y false f = f refl
 
-pub step-as-arm : (w : Window) (word : ℕ) (m : Machine) → Real m → stepOf w word m ≡ armStep w word m
-unfolding wordStep accessStep armStep
-step-as-arm w word m r =
-    step-bad w word m
-    ∙ ap (λ (b : Bool). pick b (stopped BadWindow 0) (wordStep (w .origin) (admitOf w (length (m .memory))) word m)) (bad-is w m)
+-- whatever may be reached
+pub step-in-as-arm : (w : Window) (reach : Reach) (word : ℕ) (m : Machine) → Real m → stepIn w reach word m ≡ armStepIn w reach word m
+unfolding wordStep accessStep armStepIn
+step-in-as-arm w reach word m r =
+    step-in w reach word m
+    ∙ ap (λ (b : Bool). pick b (stopped BadWindow 0) (wordStep (w .origin) (admitIn w reach (length (m .memory))) word m)) (bad-is w m)
     ∙ after-bad _ _ (badStart w m)
-    (λ e. after-class _ _ (inSet word) (undefined word) (unpredictable word) (page-step w m (record { real = r; top = top-is w m e }) word))
+    (λ e. after-class _ _ (inSet word) (undefined word) (unpredictable word) (λ t u v. page-step w m (record { real = r; top = top-is w m e }) word t u v reach))
+
+pub step-as-arm : (w : Window) (word : ℕ) (m : Machine) → Real m → stepOf w word m ≡ armStep w word m
+step-as-arm w = step-in-as-arm w Alone

@@ -3,6 +3,7 @@
 use Prim.Native.Nat.{ℕ, _+_, _-_, _/_, _%_, _^_, _≤_, _<_}
 use mathlib.Core.Path.{_≡_, refl, ap, _∙_}
 use mathlib.Core.Bool.{Bool, true, false, _&&_, _||_, not}
+use mathlib.Core.List.{List}
 use native.Mathlib.Omega.{arith}
 use lib.Dec.{ltb, leb, eqb}
 use lib.ListN.{length, getD}
@@ -15,9 +16,16 @@ use Rattle.access.specs.declared.addressing.Addressing.{Addressing}
 use Rattle.access.specs.declared.Access.the-variants.{Nothing, Moves}
 use Rattle.plan.specs.declared.window.Window.{Window}
 use Rattle.plan.specs.Address.{sumOf, addressOf}
-use Rattle.plan.specs.Admission.{totalOf, misaligned, unaligned, outside, guarded, admitOf}
+use Rattle.plan.specs.declared.ranges.Range.{Range}
+use Rattle.plan.specs.declared.ranges.Ranges.{Ranges}
+use Rattle.plan.specs.declared.ranges.Reach.{Reach}
+use Rattle.plan.specs.declared.ranges.Reach.the-variants.{Alone, Ranged}
+use Rattle.plan.specs.Refusals.{Refusal, firstOf}
+use Rattle.plan.specs.Admission.{totalOf, misaligned, unaligned, outside, guarded}
+use Rattle.plan.specs.Ranges.{range, share, beyond, common, strays, admitIn}
+use Rattle.plan.specs.route.Reaches.{reachOf}
 use Rattle.plan.specs.Plans.{misalignedStack}
-use Rattle.plan.proofs.Tests.{same-test}
+use Rattle.plan.proofs.Tests.{same-test, admit-placed}
 use Rattle.access.specs.Accesses.{wordAccess}
 use Rattle.machine.specs.Monitor.{statusOf, monitorAfter, writtenBack, madeOf}
 use Rattle.machine.specs.Rule.{moveRule}
@@ -27,7 +35,7 @@ use Rattle.machine.specs.route.Parts.{accessStep}
 use Rattle.arm.specs.Pseudocode.{Arm, Operation, hint, spFault, access}
 use Rattle.arm.specs.Marks.{marksOf}
 use Rattle.arm.specs.Pages.{Page}
-use Rattle.arm.specs.Choices.{marked, misplaced, outOf, shut, afterPage, chosen}
+use Rattle.arm.specs.Choices.{marked, misplaced, outOf, shut, liesIn, barred, afterPage, chosen}
 use Rattle.machine.specs.Real.{Real}
 
 -- a machine that there is, in a window that answer 1 passes
@@ -72,6 +80,35 @@ unfolding guarded
 guard-is w false address h = refl
 guard-is w true address h = same-test address (w .origin + w .readonly) (address - w .origin) (w .readonly) (λ k. omega arith) (λ k. omega arith)
 
+-- ---- 8 and 12
+
+lies-is : (r : Range) (address size : ℕ) → beyond size address r ≡ not (liesIn r address size)
+unfolding outside
+lies-is r address size =
+    rw (not-le address (r .address), not-le (r .address + r .length) (address + size))
+    (go (leb (r .address) address) (leb (address + size) (r .address + r .length)))
+  where
+    go : (p q : Bool) → pick (not p) true (not q) ≡ not (p && q)
+    go true q = refl
+    go false q = refl
+
+stray-is : (store own shared : Bool) → (not own && (store || not shared)) ≡ not (own || (not store && shared))
+stray-is true true shared = refl
+stray-is true false shared = refl
+stray-is false true shared = refl
+stray-is false false shared = refl
+
+common-is : (store shared : Bool) → pick store shared false ≡ (store && shared)
+common-is true shared = refl
+common-is false shared = refl
+
+-- what an access inside the window is refused with
+barred-is : (w : Window) (reach : Reach) (store : Bool) (address size : ℕ) → w .origin ≤ address → (s : Step Machine) → firstOf stopped s (reachOf w reach store size address) ≡ barred w reach store address size s
+unfolding common strays
+barred-is w Alone store address size h s = rw (guard-is w store address h)
+barred-is w (Ranged r) store address size h s =
+    rw (lies-is (r .own) address size, lies-is (r .shared) address size, stray-is store (liesIn (r .own) address size) (liesIn (r .shared) address size), common-is store (share (range address size) (r .shared)))
+
 pub same-block : (a n : ℕ) → 0 < n → n ≤ 32 → ltb 16 (a % 16 + n) ≡ not (eqb (a / 16) ((a + n - 1) / 16))
 same-block a n h k = go (ltb 16 (a % 16 + n)) refl (eqb (a / 16) ((a + n - 1) / 16)) refl
   where
@@ -84,39 +121,38 @@ same-block a n h k = go (ltb 16 (a % 16 + n)) refl (eqb (a / 16) ((a + n - 1) / 
 -- ---- the plan
 
 -- the tests of an access before what it comes to
-abbrev tested : Bool → Bool → Bool → Bool → Bool → ℕ → ℕ → ℕ → ℕ → Machine → Step Machine
-tested tainted stray across out guard sp x code status n =
+abbrev tested : Bool → Bool → Bool → Bool → (Step Machine → Step Machine) → ℕ → ℕ → ℕ → ℕ → Machine → Step Machine
+tested tainted stray across out fence sp x code status n =
     pick tainted (stopped TaintedAddress 0)
     (pick stray (stopped Misaligned sp)
     (pick across (stopped Misaligned x)
     (pick out (stopped OutOfWindow x)
-    (pick guard (stopped ReadOnly x)
-    (moved n (shown code x status))))))
+    (fence (moved n (shown code x status))))))
 
 -- the machine has two tests for 6, of which the first that holds is as good as the other
 twice : (across skew : Bool) (x : ℕ) (s : Step Machine) → pick across (stopped Misaligned x) (pick skew (stopped Misaligned x) s) ≡ pick (across || skew) (stopped Misaligned x) s
 twice true skew x s = refl
 twice false skew x s = refl
 
-planned : (b sp x code status : ℕ) (m n : Machine) (tainted stray across out guard test : Bool) → (stray ≡ true → b ≡ sp) → (out ≡ false → guard ≡ test) → (out ≡ false → m ≡ n)
-    → tested tainted stray across out guard b x code status m ≡ tested tainted stray across out test sp x code status n
-planned b sp x code status m n true stray across out guard test p g f = refl
-planned b sp x code status m n false true across out guard test p g f = rw (p refl)
-planned b sp x code status m n false false true out guard test p g f = refl
-planned b sp x code status m n false false false true guard test p g f = refl
-planned b sp x code status m n false false false false guard test p g f = rw (g refl, f refl)
+planned : (b sp x code status : ℕ) (m n : Machine) (tainted stray across out : Bool) (fence gate : Step Machine → Step Machine) → (stray ≡ true → b ≡ sp) → (out ≡ false → (s : Step Machine) → fence s ≡ gate s) → (out ≡ false → m ≡ n)
+    → tested tainted stray across out fence b x code status m ≡ tested tainted stray across out gate sp x code status n
+planned b sp x code status m n true stray across out fence gate p g f = refl
+planned b sp x code status m n false true across out fence gate p g f = rw (p refl)
+planned b sp x code status m n false false true out fence gate p g f = refl
+planned b sp x code status m n false false false true fence gate p g f = refl
+planned b sp x code status m n false false false false fence gate p g f = g refl (moved m (shown code x status)) ∙ ap (λ (k : Machine). gate (moved k (shown code x status))) (f refl)
 
 same-plan : (F : Bool → Bool → Bool → Bool → ℕ → Step Machine) {p p′ q q′ r r′ s s′ : Bool} {x x′ : ℕ} → p ≡ p′ → q ≡ q′ → r ≡ r′ → s ≡ s′ → x ≡ x′
     → F p q r s x ≡ F p′ q′ r′ s′ x′
 same-plan F e f g k h = rw (e, f, g, k, h)
 
--- the step of a word is that of its page
+-- the step of a word is that of its page, whatever may be reached
 abbrev pub Steps : Window → Machine → Page → ℕ → Operation → Type 0
-Steps w m l word o = accessStep (w .origin) (admitOf w (length (m .memory))) (wordAccess word) m ≡ chosen w word m l o
+Steps w m l word o = (reach : Reach) → accessStep (w .origin) (admitIn w reach (length (m .memory))) (wordAccess word) m ≡ chosen w reach word m l o
 
 pub hints-step : (w : Window) (m : Machine) (l : Page) (word : ℕ) → wordAccess word ≡ Nothing → Steps w m l word hint
 unfolding accessStep
-hints-step w m l word e = rw e
+hints-step w m l word e reach = rw e
 
 -- what a page comes to whose stack pointer is not aligned, or is
 abbrev pub faulty : Machine → Bool → Operation → Operation
@@ -160,8 +196,12 @@ module _ (w : Window) (m : Machine) (top : w .origin + length (m .memory) ≤ 2 
       let h = inside w m address size top e in
       rw (g .registers h, g .memory h, g .marks h, g .monitor)
 
-  guard : o ≡ false → guarded (t .store) address w ≡ shut w (t .store) address
-  guard e = guard-is w (t .store) address (inside w m address size top e .from)
+  -- what refuses an access of k bytes at x inside the window
+  abbrev fence : Reach → ℕ → ℕ → Step Machine → Step Machine
+  fence reach k x s = firstOf stopped s (reachOf w reach (t .store) k x)
+
+  gate : (reach : Reach) → o ≡ false → (s : Step Machine) → fence reach size address s ≡ barred w reach (t .store) address size s
+  gate reach e = barred-is w reach (t .store) address size (inside w m address size top e .from)
 
   -- the tests of the plan, each at the page's address and bytes
   abbrev displaced : ℕ → ℕ → Bool
@@ -176,23 +216,27 @@ module _ (w : Window) (m : Machine) (top : w .origin + length (m .memory) ≤ 2 
       ∙ ap (λ (k : ℕ). outside k address (w .origin) (length (m .memory))) (g .total)
       ∙ out-is w m address size
 
-  step : accessStep (w .origin) (admitOf w (length (m .memory))) (wordAccess word) m
-      ≡ tested (marked l word m) stray (misplaced (l .alignment) address size) o (shut w (t .store) address) (getD (m .values) 31 0) address (codeOf t) status left
-  unfolding accessStep admitOf
-  step =
+  step : (reach : Reach) → accessStep (w .origin) (admitIn w reach (length (m .memory))) (wordAccess word) m
+      ≡ tested (marked l word m) stray (misplaced (l .alignment) address size) o (barred w reach (t .store) address size) (getD (m .values) 31 0) address (codeOf t) status left
+  unfolding accessStep
+  step reach =
       let x = addressOf a (operandsOf a m) in
-      ap (λ x. accessStep (w .origin) (admitOf w (length (m .memory))) x m) (g .access)
-      ∙ ap (λ (s : Step Machine). pick (operandsOf a m .tainted) (stopped TaintedAddress 0) (pick (misalignedStack (a .base) (operandsOf a m .base)) (stopped Misaligned (operandsOf a m .base)) s))
+      let base = operandsOf a m .base in
+      ap (λ x. accessStep (w .origin) (admitIn w reach (length (m .memory))) x m) (g .access)
+      ∙ ap (λ (es : List Refusal). pick (operandsOf a m .tainted) (stopped TaintedAddress 0) (pick (misalignedStack (a .base) base) (stopped Misaligned base) (firstOf stopped (moved (made x (statusOf t x (m .monitor))) (shown (codeOf t) x (statusOf t x (m .monitor)))) es)))
+      (admit-placed w reach (length (m .memory)) t x)
+      ∙ ap (λ (s : Step Machine). pick (operandsOf a m .tainted) (stopped TaintedAddress 0) (pick (misalignedStack (a .base) base) (stopped Misaligned base) s))
       (twice (misaligned (t .ordered) (totalOf t) x) (unaligned (t .exclusive) (totalOf t) x) x _)
-      ∙ same-plan (λ tainted stray across out x. tested tainted stray across out (guarded (t .store) x w) (operandsOf a m .base) x (codeOf t) (statusOf t x (m .monitor)) (made x (statusOf t x (m .monitor)))) (g .mark) (g .stack) across out (g .first)
-      ∙ ap (λ (status : ℕ). tested (marked l word m) stray (misplaced (l .alignment) address size) o (guarded (t .store) address w) (operandsOf a m .base) address (codeOf t) status (made address status)) (g .told)
-      ∙ planned (operandsOf a m .base) (getD (m .values) 31 0) address (codeOf t) status (made address status) left (marked l word m) stray
-      (misplaced (l .alignment) address size) o (guarded (t .store) address w) (shut w (t .store) address) (g .pointer) guard effect
+      ∙ same-plan (λ tainted stray across out x. tested tainted stray across out (fence reach (totalOf t) x) base x (codeOf t) (statusOf t x (m .monitor)) (made x (statusOf t x (m .monitor)))) (g .mark) (g .stack) across out (g .first)
+      ∙ ap (λ (k : ℕ). tested (marked l word m) stray (misplaced (l .alignment) address size) o (fence reach k address) base address (codeOf t) (statusOf t address (m .monitor)) (made address (statusOf t address (m .monitor)))) (g .total)
+      ∙ ap (λ (status : ℕ). tested (marked l word m) stray (misplaced (l .alignment) address size) o (fence reach size address) base address (codeOf t) status (made address status)) (g .told)
+      ∙ planned base (getD (m .values) 31 0) address (codeOf t) status (made address status) left (marked l word m) stray
+      (misplaced (l .alignment) address size) o (fence reach size address) (barred w reach (t .store) address size) (g .pointer) (gate reach) effect
 
   -- with the test of the stack pointer, and what the page then does
   paged : (b store : Bool) → t .store ≡ store → stray ≡ b → Steps w m l word (faulty m b (access store address size status after))
-  paged true store e f = rw (g .total, e, f) at step
-  paged false store e f = rw (g .total, e, f) at step
+  paged true store e f reach = rw (g .total, e, f) at (step reach)
+  paged false store e f reach = rw (g .total, e, f) at (step reach)
 
   pub access-step : (store : Bool) → t .store ≡ store → Steps w m l word (faulty m stray (access store address size status after))
   access-step store e = paged stray store e refl

@@ -1,16 +1,22 @@
 -- A step by Arm's pages, with what 01 decides where Arm leaves a choice: "Answer numbers", 1 to 8 in their order and in
--- 01's words, with 02's CR 1 and CR 3. Where Arm says undefined or unpredictable, 01's tables of words (instruction/specs) decide before the page.
+-- 01's words, with 02's CR 1, CR 3 and CR 11. Where Arm says undefined or unpredictable, 01's tables of words (instruction/specs) decide before the page.
 use Prim.Native.Nat.{ℕ, _+_, _-_, _/_, _%_, _^_}
 use mathlib.Core.Bool.{Bool, false, _&&_, _||_, not}
 use lib.Dec.{eqb, ltb, leb}
 use lib.ListN.{length, getD}
 use Rattle.bits.specs.Choice.{pick}
 use Rattle.bits.specs.Fields.{field}
-use Rattle.instruction.specs.declared.answer.Answer.the-variants.{BadWindow, NotInSet, Undefined, Unpredictable, TaintedAddress, Misaligned, OutOfWindow, ReadOnly}
+use Rattle.instruction.specs.declared.answer.Answer.the-variants.{BadWindow, NotInSet, Undefined, Unpredictable, TaintedAddress, Misaligned, OutOfWindow, ReadOnly, NotAllowed}
 use Rattle.instruction.specs.Table.{inSet, rowOf, undefined, unpredictable}
 use Rattle.plan.specs.declared.window.Window.{Window}
+use Rattle.plan.specs.declared.ranges.Range.{Range}
+use Rattle.plan.specs.declared.ranges.Ranges.{Ranges}
+use Rattle.plan.specs.declared.ranges.Reach.{Reach}
+use Rattle.plan.specs.declared.ranges.Reach.the-variants.{Alone, Ranged}
+use Rattle.plan.specs.Ranges.{range, share, badRanges}
 use Rattle.machine.specs.Machine.{Machine}
 use Rattle.machine.specs.Step.{shown, Step, stopped, moved}
+use Rattle.execution.specs.Run.{plainWindow}
 use Rattle.arm.specs.Pseudocode.{Arm, Operation, hint, spFault, access, Align}
 use Rattle.arm.specs.Pages.{Alignment, anywhere, oneBlock, multiple, Page, pageOf}
 use Rattle.arm.specs.Marks.{anyMarked, marksAt, usedBytes, marksOf}
@@ -44,6 +50,19 @@ outOf w m address size = not (leb (w .origin) address && leb (address + size) (w
 abbrev pub shut : Window → Bool → ℕ → Bool
 shut w store address = store && ltb (address - w .origin) (w .readonly)
 
+-- so many bytes at an address lie wholly in a range
+abbrev pub liesIn : Range → ℕ → ℕ → Bool
+liesIn r address size = leb (r .address) address && leb (address + size) (r .address + r .length)
+
+-- 8 of a plugin alone. With ranges (02, CR 11), 8 "for a store touching the shared range", and "12 for any other access not allowed":
+-- "A load must lie wholly in the shared range or in the plugin's own, a store wholly in its own"
+abbrev pub barred : Window → Reach → Bool → ℕ → ℕ → Step Machine → Step Machine
+barred w Alone store address size done = pick (shut w store address) (stopped ReadOnly address) done
+barred w (Ranged r) store address size done =
+    pick (store && share (range address size) (r .shared)) (stopped ReadOnly address)
+    (pick (not (liesIn (r .own) address size || (not store && liesIn (r .shared) address size))) (stopped NotAllowed address)
+    done)
+
 -- "A successful step sets PC to PC + 4 modulo 2^64"
 abbrev pub after : ℕ → ℕ
 after pc = (pc + 4) % 2 ^ 64
@@ -59,29 +78,38 @@ afterPage w word m page store address size status s =
       monitor = s .monitor;
     }
 
--- a prefetch changes nothing but PC, with code and address 0. An access has 5 to 8 before it, and the fault of SP's alignment is
+-- a prefetch changes nothing but PC, with code and address 0. An access has 5 to 8, and 12, before it, and the fault of SP's alignment is
 -- 6 with SP's address, "after 5 and before the ordered test" (02, CR 1); its code is the bytes touched, plus 64 for a store, and
 -- "the trace shows a failed store like a successful one" (CR 3). What the page leaves counts when all tests are passed: so "a
 -- refused step keeps the monitor"
-abbrev pub chosen : Window → ℕ → Machine → Page → Operation → Step Machine
-chosen w word m page hint = moved (record { values = m .values; pc = after (m .pc); memory = m .memory; taints = m .taints; monitor = m .monitor }) (shown 0 0 0)
-chosen w word m page (spFault sp) = pick (marked page word m) (stopped TaintedAddress 0) (stopped Misaligned sp)
-chosen w word m page (access store address size status s) =
+abbrev pub chosen : Window → Reach → ℕ → Machine → Page → Operation → Step Machine
+chosen w reach word m page hint = moved (record { values = m .values; pc = after (m .pc); memory = m .memory; taints = m .taints; monitor = m .monitor }) (shown 0 0 0)
+chosen w reach word m page (spFault sp) = pick (marked page word m) (stopped TaintedAddress 0) (stopped Misaligned sp)
+chosen w reach word m page (access store address size status s) =
     pick (marked page word m) (stopped TaintedAddress 0)
     (pick (misplaced (page .alignment) address size) (stopped Misaligned address)
     (pick (outOf w m address size) (stopped OutOfWindow address)
-    (pick (shut w store address) (stopped ReadOnly address)
+    (barred w reach store address size
     (moved (afterPage w word m page store address size status s) (shown (size + pick store 64 0) address status)))))
 
 abbrev pub armOf : Window → Machine → Arm
 armOf w m = record { registers = m .values; pc = m .pc; origin = w .origin; memory = m .memory; monitor = m .monitor }
 
 -- 1 to 4, then the page of the word's row, of vector registers where bit 26 is 1
-unfoldable pub armStep : Window → ℕ → Machine → Step Machine
-armStep w word m =
+unfoldable pub armStepIn : Window → Reach → ℕ → Machine → Step Machine
+armStepIn w reach word m =
     let page = pageOf (eqb (field 26 26 word) 1) (rowOf word) word in
     pick (badStart w m) (stopped BadWindow 0)
     (pick (not (inSet word)) (stopped NotInSet 0)
     (pick (undefined word) (stopped Undefined 0)
     (pick (unpredictable word) (stopped Unpredictable 0)
-    (chosen w word m page (page .operation word (armOf w m))))))
+    (chosen w reach word m page (page .operation word (armOf w m))))))
+
+-- of a plugin alone
+abbrev pub armStep : Window → ℕ → Machine → Step Machine
+armStep w = armStepIn w Alone
+
+-- 1 of a turn: of the window, which has no read-only beginning, or "if two ranges share a byte or one, empty too, isn't inside the
+-- window as 7 counts"
+abbrev pub badTurnStart : ℕ → Ranges → Machine → Bool
+badTurnStart origin r m = badStart (plainWindow origin) m || badRanges r origin (length (m .memory))
