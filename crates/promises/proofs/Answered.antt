@@ -16,15 +16,19 @@ use Rattle.instruction.specs.declared.family.Instruction.{Instruction}
 use Rattle.instruction.specs.Answers.{answerNumber}
 use Rattle.encoder.specs.Encoding.{encodeOf}
 use Rattle.plan.specs.declared.window.Window.{Window}
+use Rattle.plan.specs.declared.ranges.Ranges.{Ranges}
+use Rattle.plan.specs.declared.ranges.Reach.{Reach}
+use Rattle.plan.specs.declared.ranges.Reach.the-variants.{Ranged}
 use Rattle.plan.specs.Admission.{admitOf}
+use Rattle.plan.specs.Ranges.{admitIn}
 use Rattle.plan.proofs.Refusals.{each-map, first-by}
 use Rattle.machine.specs.Machine.{Machine}
-use Rattle.machine.specs.Refusals.{bad, wordRefusals, refusals}
-use Rattle.machine.specs.Step.{Outcome, stepOf, performed}
-use Rattle.machine.proofs.Answers.{answers-exact, step-refuses, Numbered, Later, word-later}
+use Rattle.machine.specs.Refusals.{bad, wordRefusals, refusalsIn, refusals}
+use Rattle.machine.specs.Step.{Step, Outcome, stepIn, stepOf, performed}
+use Rattle.machine.proofs.Answers.{answers-exact, answers-in, Refuses, step-refuses, refuses-in, Numbered, Later, word-later, Late, word-late}
 use Rattle.execution.specs.Walk.{Log, short, runOf}
 use Rattle.execution.specs.Ends.{alone, Ends, lastOf}
-use Rattle.execution.specs.Run.{machineRun}
+use Rattle.execution.specs.Run.{machineRun, plainWindow, badTurn, turnStep, turnOf}
 use Rattle.execution.proofs.Walks.{run-ends}
 use Rattle.encoder.specs.Exact.{Exact}
 use Rattle.encoder.proofs.RoundTrip.{encode-exact}
@@ -67,22 +71,46 @@ with-more (j ∷ ks) k n h = either-way (eqb n j) (oneOf ks n) (oneOf (ks ++ (k 
 abbrev pub runNumbers : List ℕ
 runNumbers = 0 ∷ 1 ∷ 2 ∷ 3 ∷ 4 ∷ 5 ∷ 6 ∷ 7 ∷ 8 ∷ 10 ∷ []
 
-module _ (w : Window) (words : List ℕ) (m : Machine) (l : Log) where
-  ended-number : (steps : ℕ) (o : Outcome Machine) → Ends (stepOf w) words m steps o → oneOf runNumbers (answerNumber (o .answer)) ≡ true
-  ended-number steps o (inl (l, d, h)) = rw d
-  ended-number steps o (inr (d, (l, h))) =
-      with-more stepNumbers 10 (answerNumber (o .answer)) (rw h at (step-number w (getD words steps 0) (alone (stepOf w) words m steps .machine)))
+-- a run of steps that answer such numbers, with 0, 1 and 10 among them
+module _ (numbers : List ℕ) (done : oneOf numbers 0 ≡ true) (window : oneOf numbers 1 ≡ true) (room : oneOf numbers 10 ≡ true) (f : ℕ → Machine → Step Machine) (refuses : (word : ℕ) (m : Machine) → Refuses (f word m))
+    (stepwise : (word : ℕ) (m : Machine) → oneOf numbers (answerNumber (performed m (f word m) .answer)) ≡ true) (test : Machine → Bool) (words : List ℕ) (m : Machine) (l : Log) where
+  ended-number : (steps : ℕ) (o : Outcome Machine) → Ends f words m steps o → oneOf numbers (answerNumber (o .answer)) ≡ true
+  ended-number steps o (inl (l, d, h)) = rw d done
+  ended-number steps o (inr (d, (l, h))) = rw h at (stepwise (getD words steps 0) (alone f words m steps .machine))
 
-  number-at : (y z : Bool) → bad w m ≡ y → short words l ≡ z → oneOf runNumbers (answerNumber (machineRun w words m l .answer)) ≡ true
+  number-at : (y z : Bool) → test m ≡ y → short words l ≡ z → oneOf numbers (answerNumber (runOf test f words m l .answer)) ≡ true
   unfolding runOf
-  number-at true z e g = rw e
-  number-at false true e g = rw (e, g)
+  number-at true z e g = rw e window
+  number-at false true e g = rw (e, g) room
   number-at false false e g =
-      let r = machineRun w words m l in
-      ended-number (r .steps) (lastOf r) (run-ends (stepOf w) (step-refuses w) (bad w) words m l e g)
+      let r = runOf test f words m l in
+      ended-number (r .steps) (lastOf r) (run-ends f refuses test words m l e g)
 
-  pub run-number : oneOf runNumbers (answerNumber (machineRun w words m l .answer)) ≡ true
-  run-number = number-at (bad w m) (short words l) refl refl
+  pub number-of-run : oneOf numbers (answerNumber (runOf test f words m l .answer)) ≡ true
+  number-of-run = number-at (test m) (short words l) refl refl
+
+pub run-number : (w : Window) (words : List ℕ) (m : Machine) (l : Log) → oneOf runNumbers (answerNumber (machineRun w words m l .answer)) ≡ true
+run-number w = number-of-run runNumbers refl refl refl (stepOf w) (step-refuses w) (λ word m. with-more stepNumbers 10 (answerNumber (performed m (stepOf w word m) .answer)) (step-number w word m)) (bad w)
+
+-- ---- turns
+
+abbrev pub turnNumbers : List ℕ
+turnNumbers = 0 ∷ 1 ∷ 2 ∷ 3 ∷ 4 ∷ 5 ∷ 6 ∷ 7 ∷ 8 ∷ 10 ∷ 12 ∷ []
+
+late-number : (n : ℕ) → Late n → oneOf turnNumbers n ≡ true
+late-number n (inl l) = tested 9 (oneOf turnNumbers) refl n (l .1)
+late-number n (inr e) = rw e
+
+reach-number : (w : Window) (reach : Reach) (word : ℕ) (m : Machine) → oneOf turnNumbers (answerNumber (performed m (stepIn w reach word m) .answer)) ≡ true
+reach-number w reach word m =
+    let further = wordRefusals (admitIn w reach (length (m .memory))) word m in
+    rw (answers-in w reach word m)
+    (first-by (λ (answer : Answer). oneOf turnNumbers (answerNumber answer) ≡ true) (λ answer address. answer) Done (refusalsIn w reach word m)
+    (refl, each-map {P = Numbered Late} {Q = λ e. oneOf turnNumbers (answerNumber (e .answer)) ≡ true} (λ e l. late-number (answerNumber (e .answer)) l) further (word-late w reach word m))
+    (λ p. refl))
+
+pub turn-number : (origin : ℕ) (r : Ranges) (words : List ℕ) (m : Machine) (l : Log) → oneOf turnNumbers (answerNumber (turnOf origin r words m l .answer)) ≡ true
+turn-number origin r = number-of-run turnNumbers refl refl refl (turnStep origin r) (refuses-in (plainWindow origin) (Ranged r)) (reach-number (plainWindow origin) (Ranged r)) (badTurn origin r)
 
 -- ---- encoding and reading
 

@@ -197,7 +197,7 @@ tainted-answer false false class = refl
 
 -- ---- runs that are not begun, and registers that there aren't
 
-not-begun : {answer : Answer} {m : Machine} {l : Log} {r : Result Machine} → r ≡ notBegun answer m l → NotBegun (answerNumber answer) m l r
+pub not-begun : {answer : Answer} {m : Machine} {l : Log} {r : Result Machine} → r ≡ notBegun answer m l → NotBegun (answerNumber answer) m l r
 not-begun e =
     record {
       answer = ap (λ (r : Result Machine). answerNumber (r .answer)) e;

@@ -3,4 +3,5 @@ pub mod Demands
 pub mod Library
 pub mod Numbers
 pub mod Why
+pub mod Plugins
 pub mod Vectors

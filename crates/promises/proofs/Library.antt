@@ -20,19 +20,20 @@ use Rattle.instruction.specs.Table.{inSet}
 use Rattle.vectors.specs.declared.Halves.{Halves}
 use Rattle.vectors.specs.File.{wide, withVector, Held}
 use Rattle.plan.specs.declared.window.Window.{Window}
+use Rattle.machine.specs.declared.State.{State}
 use Rattle.machine.specs.declared.Shown.{Shown}
 use Rattle.machine.specs.Rule.{wordRule}
-use Rattle.machine.specs.Machine.{Machine}
+use Rattle.machine.specs.Machine.{Machine, machineOf}
 use Rattle.machine.specs.Refusals.{bad}
 use Rattle.machine.specs.Step.{Step, stopped, moved, stepOf, performed}
 use Rattle.machine.proofs.Answers.{answers-exact, refused-unchanged, step-refuses}
 use Rattle.machine.proofs.Taints.{taints-by-rule}
 use Rattle.session.specs.Vector.{vectorAt}
-use Rattle.session.specs.Lent.{Lent, replyOf}
+use Rattle.session.specs.Lent.{Holding, Lent, replyOf}
 use Rattle.session.proofs.Exact.{state-same, vectors-same, vector-taint-same}
 use Rattle.secrecy.specs.Shows.{Shows}
 use Rattle.secrecy.proofs.Halves.{secret}
-use Rattle.execution.specs.Walk.{Log, log, afterSteps}
+use Rattle.execution.specs.Walk.{Log, log, Result, notBegun, afterSteps}
 use Rattle.execution.specs.Ends.{Early}
 use Rattle.execution.specs.Run.{machineRun}
 use Rattle.execution.specs.Secrecy.{Same, Filled, SameRoom, ShowsRun}
@@ -41,14 +42,15 @@ use Rattle.execution.proofs.Secrecy.{step-related, demand-3, other-half, taints
 use Rattle.arm.proofs.Arm.{step-as-arm}
 use Rattle.arm.proofs.Runs.{run-as-arm}
 use Rattle.reader.specs.Reading.{LineOf}
+use Rattle.host.specs.declared.RunReply.{RunReply}
 use Rattle.host.specs.declared.WordReply.{WordReply}
 use Rattle.host.specs.Replies.{Numbered, ReadAs, ListerNumbered}
-use Rattle.host.specs.Hosting.{Hosted, hostedOf, hostRun}
+use Rattle.host.specs.Hosting.{Hosted, hosted, hostedOf, hostRun}
 use Rattle.records.specs.Replies.{touchesNumber}
 use Rattle.records.specs.Space.{loadOrStore, setsBlock, touchesMemory}
 use Rattle.records.proofs.Spaces.{set-touches}
 use Rattle.promises.specs.Answered.{oneOf}
-use Rattle.promises.specs.Library.{StepCall, stepStart, stepEnd, StepGives, Slices, RunCall, runStart, runEnd, lentLog, RunGives, RunsShow, Library}
+use Rattle.promises.specs.Library.{StepCall, stepStart, stepEnd, StepGives, Slices, RunCall, runStart, runEnd, lentLog, Gives, RunGives, RunsShow, Library}
 use Rattle.promises.proofs.Answered.{step-number, run-number, word-some, word-number}
 use Rattle.promises.proofs.Demands.{not-both, step-marks}
 
@@ -154,26 +156,31 @@ vector-above vectors vector-taint n value marks h g l =
 
 -- ---- a run
 
-pub run-gives : (c : RunCall) → RunGives c (machineRun (c .window) (c .words) (runStart c) (lentLog c))
-run-gives c =
-    let (values, vectors) = held-part (c .reply .session .registers .value) (c .after .vectors) (c .held′ .values) (ap (λ (h : Hosted). h .machine .values) (c .allowed)) in
-    let (marks, vector-marks) = held-part (c .reply .session .registers .taint) (c .after .vector-taint) (c .held′ .taints) (ap (λ (h : Hosted). h .machine .taints .registers) (c .allowed)) in
+-- what a reply and slices say of a result that they equal
+pub gives : (reply : RunReply) (after : Slices) (r : Result Machine) → Holding (reply .session) (after .vectors) (after .vector-taint)
+    → hosted reply (after .vectors) (after .vector-taint) (after .memory) (after .taint) (after .trace) (after .statuses) ≡ hostedOf r → Gives reply after r
+gives reply after r held allowed =
+    let (values, vectors) = held-part (reply .session .registers .value) (after .vectors) (held .values) (ap (λ (h : Hosted). h .machine .values) allowed) in
+    let (marks, vector-marks) = held-part (reply .session .registers .taint) (after .vector-taint) (held .taints) (ap (λ (h : Hosted). h .machine .taints .registers) allowed) in
     record {
-      answer = ap (λ (h : Hosted). h .answer) (c .allowed);
-      code = ap (λ (h : Hosted). h .code) (c .allowed);
-      address = ap (λ (h : Hosted). h .address) (c .allowed);
-      steps = ap (λ (h : Hosted). h .steps) (c .allowed);
+      answer = ap (λ (h : Hosted). h .answer) allowed;
+      code = ap (λ (h : Hosted). h .code) allowed;
+      address = ap (λ (h : Hosted). h .address) allowed;
+      steps = ap (λ (h : Hosted). h .steps) allowed;
       values = values;
       marks = marks;
       vectors = vectors;
       vector-marks = vector-marks;
-      pc = ap (λ (h : Hosted). h .machine .pc) (c .allowed);
-      monitor = ap (λ (h : Hosted). h .machine .monitor) (c .allowed);
-      memory = ap (λ (h : Hosted). h .machine .memory) (c .allowed);
-      taint = ap (λ (h : Hosted). h .machine .taints .bytes) (c .allowed);
-      trace = ap (λ (h : Hosted). h .log .trace) (c .allowed);
-      statuses = ap (λ (h : Hosted). h .log .statuses) (c .allowed);
+      pc = ap (λ (h : Hosted). h .machine .pc) allowed;
+      monitor = ap (λ (h : Hosted). h .machine .monitor) allowed;
+      memory = ap (λ (h : Hosted). h .machine .memory) allowed;
+      taint = ap (λ (h : Hosted). h .machine .taints .bytes) allowed;
+      trace = ap (λ (h : Hosted). h .log .trace) allowed;
+      statuses = ap (λ (h : Hosted). h .log .statuses) allowed;
     }
+
+pub run-gives : (c : RunCall) → RunGives c (machineRun (c .window) (c .words) (runStart c) (lentLog c))
+run-gives c = gives (c .reply) (c .after) (machineRun (c .window) (c .words) (runStart c) (lentLog c)) (c .held′) (c .allowed)
 
 abbrev slices : List (List ℕ) → List (List ℕ) → List ℕ → List ℕ → List ℕ → List ℕ → Slices
 slices v u m k t s = record { vectors = v; vector-taint = u; memory = m; taint = k; trace = t; statuses = s }
@@ -186,25 +193,32 @@ slices-same a b e f g h i j = ap (λ (v : List (List ℕ)). slices v (a .vector-
     ∙ ap (λ (t : List ℕ). slices (b .vectors) (b .vector-taint) (b .memory) (b .taint) t (a .statuses)) i
     ∙ ap (slices (b .vectors) (b .vector-taint) (b .memory) (b .taint) (b .trace)) j
 
-run-unbegun : (c : RunCall) → Early (c .reply .answer)
-    → (c .reply .steps ≡ 0) × (c .reply .code ≡ 0) × (c .reply .address ≡ 0) × (c .reply .session ≡ c .session) × (c .after ≡ c .before)
-run-unbegun c h =
-    let m = runStart c in
-    let l = lentLog c in
-    let ran = early-unchanged (c .window) (c .words) m l (subst Early (run-gives c .answer) h) in
-    let same = c .allowed ∙ ap hostedOf ran in
-    let machines = ap (λ (h : Hosted). h .machine) same in
-    let a = c .after in
-    let b = c .before in (
+-- what stays of a run that is not begun
+abbrev pub AsBefore : State → Slices → RunReply → Slices → Type 0
+AsBefore session before reply after = (reply .steps ≡ 0) × (reply .code ≡ 0) × (reply .address ≡ 0) × (reply .session ≡ session) × (after ≡ before)
+
+pub as-before : (session : State) (before : Slices) (reply : RunReply) (after : Slices) (answer : Answer) → Holding session (before .vectors) (before .vector-taint) → Holding (reply .session) (after .vectors) (after .vector-taint)
+    → hosted reply (after .vectors) (after .vector-taint) (after .memory) (after .taint) (after .trace) (after .statuses)
+    ≡ hostedOf (notBegun answer (machineOf session (before .vectors) (before .vector-taint) (before .memory) (before .taint)) (log (before .trace) (before .statuses)))
+    → AsBefore session before reply after
+as-before session before reply after answer held held′ same =
+    let machines = ap (λ (h : Hosted). h .machine) same in (
       ap (λ (h : Hosted). h .steps) same,
       ap (λ (h : Hosted). h .code) same,
       ap (λ (h : Hosted). h .address) same,
-      state-same (c .held′) (c .held) machines,
-      slices-same a b
-          (vectors-same (c .held′) (c .held) machines)
-          (vector-taint-same (c .held′) (c .held) machines)
+      state-same held′ held machines,
+      slices-same after before
+          (vectors-same held′ held machines)
+          (vector-taint-same held′ held machines)
           (ap (λ (m : Machine). m .memory) machines) (ap (λ (m : Machine). m .taints .bytes) machines) (ap (λ (h : Hosted). h .log .trace) same) (ap (λ (h : Hosted). h .log .statuses) same),
     )
+
+run-unbegun : (c : RunCall) → Early (c .reply .answer)
+    → (c .reply .steps ≡ 0) × (c .reply .code ≡ 0) × (c .reply .address ≡ 0) × (c .reply .session ≡ c .session) × (c .after ≡ c .before)
+run-unbegun c h =
+    let r = machineRun (c .window) (c .words) (runStart c) (lentLog c) in
+    as-before (c .session) (c .before) (c .reply) (c .after) (r .answer) (c .held) (c .held′)
+    (c .allowed ∙ ap hostedOf (early-unchanged (c .window) (c .words) (runStart c) (lentLog c) (subst Early (run-gives c .answer) h)))
 
 record ShowsHosted (R : Machine → Machine → Type 0) (t u : Hosted) : Type 0 where
   answer : t .answer ≡ u .answer

@@ -3,3 +3,4 @@ pub mod Demands
 pub mod Library
 pub mod Numbers
 pub mod Why
+pub mod Plugins

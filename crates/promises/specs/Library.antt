@@ -129,21 +129,24 @@ abbrev pub lentLog : RunCall → Log
 lentLog c = log (c .before .trace) (c .before .statuses)
 
 -- each field is that of a run's result
-pub record RunGives (c : RunCall) (r : Result Machine) : Type 0 where
-  pub answer : c .reply .answer ≡ answerNumber (r .answer)
-  pub code : c .reply .code ≡ r .shown .code
-  pub address : c .reply .address ≡ r .shown .address
-  pub steps : c .reply .steps ≡ r .steps
-  pub values : c .reply .session .registers .value ≡ generalOf (r .machine .values)
-  pub marks : c .reply .session .registers .taint ≡ generalOf (r .machine .taints .registers)
-  pub vectors : map wide (c .after .vectors) ≡ vectorsOf (r .machine .values)
-  pub vector-marks : map wide (c .after .vector-taint) ≡ vectorsOf (r .machine .taints .registers)
-  pub pc : c .reply .session .pc ≡ r .machine .pc
-  pub monitor : c .reply .session .monitor ≡ r .machine .monitor
-  pub memory : c .after .memory ≡ r .machine .memory
-  pub taint : c .after .taint ≡ r .machine .taints .bytes
-  pub trace : c .after .trace ≡ r .log .trace
-  pub statuses : c .after .statuses ≡ r .log .statuses
+pub record Gives (reply : RunReply) (after : Slices) (r : Result Machine) : Type 0 where
+  pub answer : reply .answer ≡ answerNumber (r .answer)
+  pub code : reply .code ≡ r .shown .code
+  pub address : reply .address ≡ r .shown .address
+  pub steps : reply .steps ≡ r .steps
+  pub values : reply .session .registers .value ≡ generalOf (r .machine .values)
+  pub marks : reply .session .registers .taint ≡ generalOf (r .machine .taints .registers)
+  pub vectors : map wide (after .vectors) ≡ vectorsOf (r .machine .values)
+  pub vector-marks : map wide (after .vector-taint) ≡ vectorsOf (r .machine .taints .registers)
+  pub pc : reply .session .pc ≡ r .machine .pc
+  pub monitor : reply .session .monitor ≡ r .machine .monitor
+  pub memory : after .memory ≡ r .machine .memory
+  pub taint : after .taint ≡ r .machine .taints .bytes
+  pub trace : after .trace ≡ r .log .trace
+  pub statuses : after .statuses ≡ r .log .statuses
+
+abbrev pub RunGives : RunCall → Result Machine → Type 0
+RunGives c r = Gives (c .reply) (c .after) r
 
 -- two calls that show the same, with the two numbers of the trace and the status for each step done, and leave machines in a relation
 pub record RunsShow (R : Machine → Machine → Type 0) (c d : RunCall) : Type 0 where

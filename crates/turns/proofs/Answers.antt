@@ -1,18 +1,29 @@
 -- How turns are refused, and what they keep: 02, CR 11. Assumes nothing.
 use Prim.Native.Nat.{ℕ}
-use mathlib.Core.Path.{_≡_}
+use mathlib.Core.Path.{_≡_, sym, ap, subst}
 use mathlib.Core.Bool.{false}
 use mathlib.Core.List.{List}
 use mathlib.Core.Logic.{_↔_}
 use lib.ListN.{length}
+use native.Mathlib.Omega.{arith}
+use Rattle.instruction.specs.declared.answer.Answer.{Answer}
 use Rattle.instruction.specs.Answers.{answerNumber}
+use Rattle.access.specs.declared.transfer.Transfer.{Transfer}
+use Rattle.access.specs.declared.addressing.Addressing.{Addressing}
+use Rattle.access.specs.declared.Access.{Access}
+use Rattle.access.specs.declared.Access.the-variants.{Moves}
+use Rattle.access.specs.Accesses.{wordAccess}
 use Rattle.plan.specs.declared.ranges.Ranges.{Ranges}
 use Rattle.plan.specs.declared.ranges.Reach.the-variants.{Ranged}
-use Rattle.plan.specs.Refusals.{Given}
-use Rattle.plan.specs.Ranges.{badRanges}
-use Rattle.machine.specs.Machine.{Machine}
-use Rattle.machine.specs.Refusals.{bad, refusalsIn}
-use Rattle.machine.specs.Step.{performed}
+use Rattle.plan.specs.Refusals.{Refusal, Given}
+use Rattle.plan.specs.Address.{addressOf}
+use Rattle.plan.specs.Admission.{totalOf}
+use Rattle.plan.specs.Ranges.{badRanges, admitIn}
+use Rattle.plan.proofs.Refusals.{Passed, each, first-by}
+use Rattle.machine.specs.Machine.{Machine, operandsOf}
+use Rattle.machine.specs.Refusals.{bad, accessRefusals, refusalsIn}
+use Rattle.machine.specs.Step.{Step, stopped, moved, performOf, stepIn, performed}
+use Rattle.machine.specs.declared.Shown.{Shown}
 use Rattle.machine.proofs.Answers.{given-in, refuses-in}
 use Rattle.execution.specs.Walk.{Log, notBegun, short}
 use Rattle.execution.specs.Ends.{Kept, Ends, lastOf, Early}
@@ -20,6 +31,8 @@ use Rattle.execution.specs.Run.{plainWindow, badTurn, turnStep, turnOf}
 use Rattle.execution.proofs.Refusals.{early-in, begun-in}
 use Rattle.execution.proofs.Turns.{neither-first}
 use Rattle.execution.proofs.Walks.{run-keeps, run-ends}
+use Rattle.turns.specs.Sight.{Allowed}
+use Rattle.turns.proofs.Ranges.{ranges-allow}
 
 -- a step of a turn answers a number other than 0 exactly if its test holds and none before it: 1 to 8, then 12
 pub turn-given : (origin : ℕ) (r : Ranges) (word : ℕ) (m : Machine) (n : ℕ) → ¬ (n ≡ 0)
@@ -46,3 +59,27 @@ module _ (origin : ℕ) (r : Ranges) where
     -- a turn leaves what the steps done leave, run alone and not refused
     pub turn-keeps : Kept (turnStep origin r) ws m l (turnOf origin r ws m l)
     turn-keeps = run-keeps (turnStep origin r) (badTurn origin r) ws m l
+
+-- ---- every access that is done is allowed
+
+abbrev addressIn : Step Machine → ℕ
+addressIn (stopped answer address) = address
+addressIn (moved n s) = s .address
+
+not-moved : (answer : Answer) (address : ℕ) (n : Machine) (s : Shown) {B : Type 0} → _≡_ {A = Step Machine} (stopped answer address) (moved n s) → B
+not-moved answer address n s h = absurd (let z : _≡_ {A = ℕ} 0 1 = cc in omega arith)
+
+module _ (origin : ℕ) (r : Ranges) (m n : Machine) (s : Shown) (t : Transfer) (a : Addressing) where
+  abbrev admit : Transfer → ℕ → List Refusal
+  admit = admitIn (plainWindow origin) (Ranged r) (length (m .memory))
+
+  allowed-at : Passed (accessRefusals admit (Moves t a) m) → performOf origin (Moves t a) m ≡ moved n s → Allowed r (t .store) (s .address) (totalOf t)
+  allowed-at p h = subst (λ (x : ℕ). Allowed r (t .store) x (totalOf t)) (ap addressIn h) (ranges-allow origin r (length (m .memory)) t (addressOf a (operandsOf a m)) (p .1 .1))
+
+  pub turn-allowed : (word : ℕ) → turnStep origin r word m ≡ moved n s → wordAccess word ≡ Moves t a → Allowed r (t .store) (s .address) (totalOf t)
+  unfolding stepIn
+  turn-allowed word done e =
+      let es = refusalsIn (plainWindow origin) (Ranged r) word m in
+      first-by (λ (x : Step Machine). x ≡ moved n s → Allowed r (t .store) (s .address) (totalOf t)) stopped (performOf origin (wordAccess word) m) es
+      (each (λ e. not-moved (e .answer) (e .address) n s) es)
+      (λ p. subst (λ (x : Access). Passed (accessRefusals admit x m) → performOf origin x m ≡ moved n s → Allowed r (t .store) (s .address) (totalOf t)) (sym e) allowed-at (p .1 .1 .1 .1)) done

@@ -18,7 +18,7 @@ use Rattle.plan.proofs.Refusals.{Passed}
 use Rattle.plan.proofs.Tests.{not-outside, admit-inside}
 use Rattle.secrecy.proofs.Agreement.{Seen}
 use Rattle.execution.specs.Run.{plainWindow}
-use Rattle.turns.specs.Sight.{In, Sees}
+use Rattle.turns.specs.Sight.{In, LiesIn, Allowed, Sees}
 use Rattle.turns.specs.Turns.{swapped}
 
 -- the bytes of an access that lies in a range
@@ -56,6 +56,24 @@ module _ (origin : ℕ) (r : Ranges) (len : ℕ) (t : Transfer) (a : ℕ) (p : P
   pub ranges-stay : t .store ≡ true → (i : ℕ) → a - origin ≤ i → i < a - origin + totalOf t → In (r .own) (origin + i)
   unfolding strays
   ranges-stay s i l h = within (r .own) (totalOf t) a origin i (store-at (beyond (totalOf t) a (r .own)) (beyond (totalOf t) a (r .shared)) (rw s at allowed)) starts l h
+
+lies : (n a : ℕ) (r : Range) → beyond n a r ≡ false → LiesIn r a n
+lies n a r e =
+    let d = not-outside n a (r .address) (r .length) e in
+    (d .starts, d .ends)
+
+allow-at : (r : Ranges) (store : Bool) (n a : ℕ) → strays store n a r ≡ false → Allowed r store a n
+unfolding strays
+allow-at r true n a h = lies n a (r .own) (store-at (beyond n a (r .own)) (beyond n a (r .shared)) h)
+allow-at r false n a h = either (load-at (beyond n a (r .own)) (beyond n a (r .shared)) h)
+  where
+    either : (beyond n a (r .own) ≡ false) ⊎ (beyond n a (r .shared) ≡ false) → Allowed r false a n
+    either (inl e) = inl (lies n a (r .own) e)
+    either (inr e) = inr (lies n a (r .shared) e)
+
+-- an access that is admitted is allowed
+pub ranges-allow : (origin : ℕ) (r : Ranges) (len : ℕ) (t : Transfer) (a : ℕ) → Passed (admitRanges origin r len t a) → Allowed r (t .store) a (totalOf t)
+ranges-allow origin r len t a p = allow-at r (t .store) (totalOf t) a (allowed origin r len t a p)
 
 -- ---- two ranges share a byte exactly if one lies in both
 

@@ -2,6 +2,7 @@
 -- has address origin.
 use Prim.Native.Nat.{ℕ, _+_, _≤_, _<_}
 use mathlib.Core.Path.{_≡_}
+use mathlib.Core.Bool.{Bool, true, false}
 use mathlib.Core.Logic.{_⊎_}
 use lib.ListN.{length, getD}
 use Rattle.plan.specs.declared.ranges.Range.{Range}
@@ -12,6 +13,15 @@ use Rattle.machine.specs.Machine.{Machine}
 pub record In (r : Range) (address : ℕ) : Type 0 where
   pub low : r .address ≤ address
   pub high : address < r .address + r .length
+
+-- so many bytes at an address lie wholly in a range
+abbrev pub LiesIn : Range → ℕ → ℕ → Type 0
+LiesIn r address size = (r .address ≤ address) × (address + size ≤ r .address + r .length)
+
+-- "A load must lie wholly in the shared range or in the plugin's own, a store wholly in its own"
+abbrev pub Allowed : Ranges → Bool → ℕ → ℕ → Type 0
+Allowed r true address size = LiesIn (r .own) address size
+Allowed r false address size = LiesIn (r .own) address size ⊎ LiesIn (r .shared) address size
 
 -- "what it may read": its own range and the shared one
 abbrev pub Sees : ℕ → Ranges → ℕ → Type 0
