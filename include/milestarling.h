@@ -32,8 +32,8 @@
  *
  * A compiler that can warns where what a function answers is dropped (MILESTARLING_MUST_USE).
  *
- * The last part of this file has the run, the step and the question why a byte is tainted over structs, whose parts can't be
- * taken for each other.
+ * The last part of this file has the run, the step, the turn of one of two plugins and the question why a byte is tainted over
+ * structs, whose parts can't be taken for each other.
  */
 #ifndef MILESTARLING_H
 #define MILESTARLING_H
@@ -86,7 +86,8 @@ extern "C" {
 enum milestarling_answer {
     MILESTARLING_DONE = 0,
     /* memory that ends above the address space or is shorter than its read-only part, a taint slice of another
-       length than memory, or a pc that isn't a multiple of 4 */
+       length than memory, or a pc that isn't a multiple of 4; and in a turn, ranges of which two share a byte or one isn't
+       inside memory */
     MILESTARLING_BAD_WINDOW = 1,
     /* the word is no load or store that Milestarling takes; whether it touches memory all the same, and so isn't the
        host's to compute, milestarling_touches_memory says */
@@ -104,7 +105,7 @@ enum milestarling_answer {
     MILESTARLING_MISALIGNED = 6,
     /* an access that isn't inside memory, or a byte asked about that isn't */
     MILESTARLING_OUT_OF_WINDOW = 7,
-    /* a store to the read-only part */
+    /* a store to the read-only part, or in a turn one that touches the shared range */
     MILESTARLING_READ_ONLY = 8,
     /* the text is no instruction's line */
     MILESTARLING_NO_SUCH_TEXT = 9,
@@ -112,6 +113,8 @@ enum milestarling_answer {
     MILESTARLING_NO_ROOM = 10,
     /* the numbers are those of no word's instruction; or a kind of place, a register or a byte of one that there isn't */
     MILESTARLING_NO_SUCH_INSTRUCTION = 11,
+    /* in a turn, an access that lies neither wholly in the plugin's own range nor, being a load, wholly in the shared one */
+    MILESTARLING_NOT_ALLOWED = 12,
     /* the lister is closed, or is said to hold more than three bytes */
     MILESTARLING_CLOSED = 16,
     /* words, trace or statuses are too short for the steps, or a step is none that a run leaves */
@@ -199,7 +202,8 @@ struct milestarling_taint {
  * - at the plugin's own clrex, which is no load or store and so the host's to compute, milestarling_open.
  *
  * Without that two sessions take one lock at once. To open it at each turn of another's, whatever that did, is no way out:
- * two sessions that take turns of one word then never take the lock. examples/turns.c shows all three.
+ * two sessions that take turns of one word then never take the lock. examples/turns.c shows all three. Two plugins that are kept
+ * apart by ranges share no lock, and need none of this for each other: see milestarling_turn.
  */
 struct milestarling_session {
     uint64_t value[MILESTARLING_REGISTERS];
@@ -234,13 +238,28 @@ struct milestarling_vector_register {
 };
 
 /* The session after the steps done, how many they are, and of the last step tried its answer, code and address, as in the
-   trace: the code is 0 where the answer isn't, and the address too but with answers 6 to 8. */
+   trace: the code is 0 where the answer isn't, and the address too but with answers 6 to 8 and 12. */
 struct milestarling_run_reply {
     struct milestarling_session session;
     uint64_t steps;
     uint64_t answer;
     uint64_t code;
     uint64_t address;
+};
+
+/* So many bytes of memory from an address on. It may be empty, and then stand anywhere in memory, inside another range or right
+   behind memory's last byte too. */
+struct milestarling_range {
+    uint64_t address;
+    uint64_t length;
+};
+
+/* The ranges of a turn: what both plugins load from and neither stores to, what the plugin whose turn it is has for itself, and
+   what the other has. In the other's turn the last two change places: milestarling_ranges_swapped. */
+struct milestarling_ranges {
+    struct milestarling_range shared;
+    struct milestarling_range own;
+    struct milestarling_range other;
 };
 
 /* The code, the address and the status of a step, as a run writes them: 0 where the answer isn't, but for the address, which
@@ -316,6 +335,63 @@ struct milestarling_step_reply milestarling_step(
     uint64_t origin, uint64_t readonly,
     uint8_t *memory, size_t memory_length,
     uint8_t *taint, size_t taint_length);
+
+/*
+ * One turn of a plugin that shares memory with another: a run of it that loads from the shared range and its own, and stores to
+ * its own. Memory and its taint bytes are the same in every turn; session, vector registers, words, trace and statuses are those
+ * of the plugin whose turn it is. It goes on from what its own last turn left, also where that was refused: a refusal ends one
+ * turn, and says nothing of the next or of the other plugin.
+ *
+ * ranges           by value. There is no readonly: the shared range takes its place
+ *
+ * All else is as in milestarling_run. Answers, of which the first that holds is given:
+ *
+ *  1   as in a run; or two of the three ranges share a byte; or one of them, an empty one too, isn't inside memory. So it is
+ *      answered in the turns of both plugins, whosever range is wrong
+ * 10   trace or statuses is too short for all words
+ *
+ * and then of each word in its turn
+ *
+ *  2 to 7   as in a run: 7 is for an access that isn't inside memory
+ *  8   a store that touches the shared range, be it by one byte
+ * 12   any other access that isn't allowed: a load that lies neither wholly in the shared range nor wholly in the plugin's own,
+ *      such as one across both, and a store that doesn't lie wholly in its own
+ *
+ * With 8 and 12 the address is that of the access, and the code is 0. A literal is a load like any other, a store-exclusive that
+ * fails is tested like one that stores, and a prefetch isn't tested. With answers 1 and 10 nothing is changed. A turn of no words
+ * says whether 1 holds, and does nothing else.
+ *
+ * Proved, for ranges that stay the same and any order of turns of two plugins: whatever the other is and does, with its words,
+ * registers, taints, monitor and private bytes exchanged for any others, each turn of this one answers, writes and leaves the
+ * same; and what each shows depends on no tainted byte. Only the other's turns come between then: what the host itself sets or
+ * stores between two turns is the host's to answer for, as between two runs.
+ *
+ * The monitor: what one plugin stores lies in its own range, and what the other's monitor watches, where a turn of the other's
+ * has armed it, lies in the other's own range or in the shared one. So no store of one reaches what the other's monitor watches,
+ * and neither loses a lock to the other. milestarling_observe_step and milestarling_observe_run would change nothing, and a host
+ * needn't call them for a turn; milestarling_open at each turn would only make locks fail. After a write of the host's own the
+ * monitor is told as ever. A lock between the two there isn't: to take one in the shared range is a store, and answer 8.
+ *
+ * More than two plugins: the ranges of a turn name two, and what is proved of sequences of turns is proved of two. Of each turn
+ * by itself it is proved, whatever its ranges, that the bytes and taint bytes that it changes lie in its own range; and other
+ * counts for answer 1 alone. So where the private ranges of all are apart from each other and from the shared one, each turn
+ * leaves what every other plugin may load as it was. That they are apart, the host learns by a turn of no words for each pair,
+ * once for ranges that stay; other is then the range of any one of the others, or one that covers them all.
+ *
+ * A host that computes between loads and stores calls this with one word at a time. What it loads or stores for a plugin by itself,
+ * such as the zeros of dc zva, it holds against the ranges itself. milestarling_why is of runs, and not promised of turns.
+ * milestarling_session_turn, below, takes the same from structs.
+ */
+MILESTARLING_MUST_USE
+struct milestarling_run_reply milestarling_turn(
+    const uint32_t *words, size_t words_length,
+    struct milestarling_session session,
+    uint64_t (*vectors)[2], struct milestarling_taint (*vector_taint)[2],
+    uint64_t origin, struct milestarling_ranges ranges,
+    uint8_t *memory, size_t memory_length,
+    uint8_t *taint, size_t taint_length,
+    uint64_t *trace, size_t trace_length,
+    uint8_t *statuses, size_t statuses_length);
 
 /*
  * Sets x0 to x30 (0 to 30) or sp (31) of a session's record, with its taint as it is given. Any other number changes nothing.
@@ -797,6 +873,54 @@ static inline void milestarling_observe_run(
         *session = milestarling_observed(*session, trace[i].code, trace[i].address, statuses[i]);
 }
 
+/* ---- Two plugins that share memory, over structs. */
+
+/* Memory that two plugins share, as struct milestarling_memory has it, and without a read-only part. */
+struct milestarling_shared_memory {
+    uint8_t *bytes;
+    size_t length;
+    uint8_t *taint;
+    size_t taint_length;
+    uint64_t origin;
+};
+
+/* The ranges as the other plugin has them: own and other exchanged. */
+MILESTARLING_MUST_USE
+static inline struct milestarling_ranges milestarling_ranges_swapped(struct milestarling_ranges ranges)
+{
+    const struct milestarling_range own = ranges.own;
+    ranges.own = ranges.other;
+    ranges.other = own;
+    return ranges;
+}
+
+/*
+ * milestarling_turn on memory, on the session of the plugin whose turn it is, which is left as the turn returns it, and on its
+ * vector registers. The ranges are this plugin's, and milestarling_ranges_swapped of them the other's. What has length 0 may be
+ * null.
+ */
+MILESTARLING_MUST_USE
+static inline struct milestarling_run_reply milestarling_session_turn(
+    struct milestarling_shared_memory memory, struct milestarling_ranges ranges,
+    struct milestarling_session *session, struct milestarling_vectors *vectors,
+    const uint32_t *words, size_t words_length,
+    struct milestarling_access *trace, size_t trace_length,
+    uint8_t *statuses, size_t statuses_length)
+{
+    const uint32_t no_words[1] = {0};
+    uint64_t no_trace[1] = {0};
+    uint8_t no_bytes[1] = {0}, no_taint[1] = {0}, no_statuses[1] = {0};
+    struct milestarling_run_reply reply = milestarling_turn(
+        words_length != 0 ? words : no_words, words_length,
+        *session, vectors->value, vectors->taint, memory.origin, ranges,
+        memory.length != 0 ? memory.bytes : no_bytes, memory.length,
+        memory.taint_length != 0 ? memory.taint : no_taint, memory.taint_length,
+        trace_length != 0 ? &trace->code : no_trace, MILESTARLING_TRACE_NUMBERS * trace_length,
+        statuses_length != 0 ? statuses : no_statuses, statuses_length);
+    *session = reply.session;
+    return reply;
+}
+
 /* ---- Why a byte is tainted, over structs. */
 
 /* A byte whose taint is asked about. */
@@ -932,6 +1056,8 @@ static inline const char *milestarling_answer_text(uint64_t answer)
         return "the buffer, the trace or the list of statuses or links lent is too short";
     case MILESTARLING_NO_SUCH_INSTRUCTION:
         return "no word has this instruction, or there is no such register or byte";
+    case MILESTARLING_NOT_ALLOWED:
+        return "the access is neither in the plugin's own range nor, for a load, in the shared one";
     case MILESTARLING_CLOSED:
         return "the lister is closed, or is said to hold more than three bytes";
     case MILESTARLING_BAD_TRACE:

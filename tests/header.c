@@ -36,6 +36,13 @@ typedef char run_reply_has_568_bytes[sizeof(struct milestarling_run_reply) == 56
 typedef char lister_has_5_bytes[sizeof(struct milestarling_lister) == 5 ? 1 : -1];
 typedef char lister_reply_has_24_bytes[sizeof(struct milestarling_lister_reply) == 24 ? 1 : -1];
 typedef char memory_has_48_bytes[sizeof(struct milestarling_memory) == 48 ? 1 : -1];
+typedef char shared_memory_has_40_bytes[sizeof(struct milestarling_shared_memory) == 40 ? 1 : -1];
+typedef char range_has_16_bytes[sizeof(struct milestarling_range) == 16 ? 1 : -1];
+typedef char ranges_have_48_bytes[sizeof(struct milestarling_ranges) == 48 ? 1 : -1];
+typedef char length_at_8[offsetof(struct milestarling_range, length) == 8 ? 1 : -1];
+typedef char shared_at_0[offsetof(struct milestarling_ranges, shared) == 0 ? 1 : -1];
+typedef char own_at_16[offsetof(struct milestarling_ranges, own) == 16 ? 1 : -1];
+typedef char other_at_32[offsetof(struct milestarling_ranges, other) == 32 ? 1 : -1];
 typedef char why_reply_has_16_bytes[sizeof(struct milestarling_why_reply) == 16 ? 1 : -1];
 typedef char link_has_24_bytes[sizeof(struct milestarling_link) == 8 * MILESTARLING_LINK_NUMBERS ? 1 : -1];
 typedef char access_has_16_bytes[sizeof(struct milestarling_access) == 8 * MILESTARLING_TRACE_NUMBERS ? 1 : -1];
@@ -561,6 +568,34 @@ static void a_copy_is_explained(void)
         && same_link(links[2], MILESTARLING_PLACE_MEMORY, 4099, 0), "and no more");
 }
 
+/* Ranges cross by value, behind the record: each of the six numbers arrives where it belongs. Eight bytes are shared, the plugin
+   has four, and the other has the last four. */
+static void plugins_take_turns(void)
+{
+    const struct milestarling_memory small_memory = small();
+    const struct milestarling_shared_memory memory = {bytes, sizeof bytes, taint, sizeof bytes, small_memory.origin};
+    const struct milestarling_ranges ranges = {{4096, 8}, {4104, 4}, {4108, 4}};
+    struct milestarling_session session, before;
+    struct milestarling_access trace[3];
+    struct milestarling_run_reply ran;
+    uint8_t statuses[3];
+    const uint32_t words[3] = {0xf9400001, 0xb9000801, 0xb9400c01}; /* ldr x1, [x0]; str w1, [x0, #8]; ldr w1, [x0, #12] */
+    memset(&session, 0, sizeof session);
+    milestarling_set_register(&session, 0, 4096, MILESTARLING_TAINT_NONE);
+    taint[1] = 255;
+    before = session;
+    ran = milestarling_session_turn(memory, ranges, &session, &unused, words, 3, trace, 3, statuses, 3);
+    hold(ran.answer == MILESTARLING_NOT_ALLOWED && ran.steps == 2 && ran.code == 0 && ran.address == 4108, "the other's bytes");
+    hold(trace[0].code == 8 && trace[0].address == 4096 && trace[1].code == 68 && trace[1].address == 4104, "the steps before");
+    hold(same(&session, &ran.session) && session.pc == 8 && taint[9] == 1 && taint[8] == 0 && taint[12] == 0, "stand");
+    before.pc = session.pc = 0;
+    ran = milestarling_session_turn(memory, milestarling_ranges_swapped(ranges), &session, &unused, words, 3, trace, 3, statuses, 3);
+    hold(ran.answer == MILESTARLING_NOT_ALLOWED && ran.steps == 1 && ran.address == 4104, "ours, in the other's turn");
+    ran = milestarling_turn(words + 1, 1, before, unused.value, unused.taint, 4096, ranges, bytes, 16, taint, 15, &trace->code, 6,
+        statuses, 3);
+    hold(ran.answer == MILESTARLING_BAD_WINDOW && same(&ran.session, &before), "by the numbers themselves");
+}
+
 int main(void)
 {
     uint64_t answer;
@@ -582,6 +617,7 @@ int main(void)
     a_vector_register_copies_taints();
     the_start_is_explained();
     a_copy_is_explained();
+    plugins_take_turns();
     hold(same_vectors(&unused, &before), "words without vector registers leave them alone");
     hold(milestarling_list(over, 3, short_line, sizeof short_line).length == MILESTARLING_SHORT_MAX, "the short line");
     for (answer = 0; answer < 64; answer++) {

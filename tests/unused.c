@@ -23,6 +23,8 @@ int main(void)
     struct milestarling_vectors vectors = {{{0}}, {{{0}}}};
     const struct milestarling_vectors *const kept = &vectors;
     struct milestarling_memory memory = {NULL, 0, NULL, 0, 0, 0};
+    struct milestarling_shared_memory shared = {NULL, 0, NULL, 0, 0};
+    const struct milestarling_ranges ranges = {{0, 0}, {0, 0}, {0, 0}};
     struct milestarling_lister lister = {0, 0, 0, 0, 0};
     struct milestarling_instruction numbers = {0, 0, 0, 0, 0, 0, 0, 0, 0, 0, 0, 0, 0};
     uint8_t bytes[4] = {0}, taint[4] = {0}, statuses[1] = {0};
@@ -37,6 +39,8 @@ int main(void)
     ANSWER(struct milestarling_run_reply, milestarling_run(words, 1, session, vectors.value, vectors.taint, 0, 0, bytes, 4, taint, 4,
         trace, 2, statuses, 1));
     ANSWER(struct milestarling_step_reply, milestarling_step(0, &session, vectors.value, vectors.taint, 0, 0, bytes, 4, taint, 4));
+    ANSWER(struct milestarling_run_reply, milestarling_turn(words, 1, session, vectors.value, vectors.taint, 0, ranges, bytes, 4,
+        taint, 4, trace, 2, statuses, 1));
     ANSWER(struct milestarling_vector_register, milestarling_vector(0, kept->value, kept->taint));
     ANSWER(struct milestarling_session, milestarling_opened(session));
     ANSWER(struct milestarling_session, milestarling_observed(session, 0, 0, 0));
@@ -63,6 +67,9 @@ int main(void)
     ANSWER(int, milestarling_vectors_tainted(&vectors, 0));
     ANSWER(struct milestarling_run_reply, milestarling_session_run(memory, &session, &vectors, words, 1, NULL, 0, statuses, 1));
     ANSWER(struct milestarling_step_reply, milestarling_session_step(memory, &session, &vectors, 0));
+    ANSWER(struct milestarling_ranges, milestarling_ranges_swapped(ranges));
+    ANSWER(struct milestarling_run_reply, milestarling_session_turn(shared, ranges, &session, &vectors, words, 1, NULL, 0, statuses,
+        1));
     ANSWER(struct milestarling_place, milestarling_place_register(0, 0));
     ANSWER(struct milestarling_place, milestarling_place_vector(0, 0));
     ANSWER(struct milestarling_place, milestarling_place_memory(0));
