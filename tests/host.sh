@@ -30,9 +30,10 @@ try why.c tests/why.expected
 try plugin.c tests/plugin.expected examples/plugin/{compare,compare_early,look_up,look_up_kind,copy_by_kind,copy_by_letter}.bin
 echo "host: the examples wrote what tests/*.expected have"
 
-# Instructions as numbers, held against their text; and why a byte is tainted, against answers worked by hand.
+# Instructions as numbers, held against their text; and why a byte is tainted, and turns of two plugins, against answers worked by
+# hand.
 for level in -O0 -O2; do
-    for program in records why; do
+    for program in records why turns; do
         cc -std=c11 "$level" "${strict[@]}" -Iinclude -o "$room/$program" "tests/$program.c" "$archive"
         "$room/$program"
     done
