@@ -27,6 +27,7 @@ try stream.c tests/stream.expected
 try lock_host.c tests/lock.expected
 try turns.c tests/turns.expected examples/lock.bin
 try why.c tests/why.expected
+try plugins.c tests/plugins.expected
 try plugin.c tests/plugin.expected examples/plugin/{compare,compare_early,look_up,look_up_kind,copy_by_kind,copy_by_letter}.bin
 echo "host: the examples wrote what tests/*.expected have"
 
