@@ -11,7 +11,7 @@
 
 #include "milestarling.h"
 
-enum { SHARED = 0x1000, OURS = 0x1020, THEIRS = 0x1040, LENGTH = 0x60, LOCK = 8, MOST = 4 };
+enum { SHARED = 0x1000, OURS = 0x1020, THEIRS = 0x1040, EACH = 32, LENGTH = 3 * EACH, LOCK = 8, MOST = 4 };
 
 /* What a host keeps of each plugin, and lends to its turns alone. */
 struct plugin {
@@ -38,7 +38,8 @@ static uint32_t word_of(const char *line)
 /* x0 has the shared range's address and x1 the plugin's own, x2 its lock's, x3 the other's lock's, and w4 is 1. */
 static struct plugin plugin_of(const char *name, struct milestarling_ranges ranges)
 {
-    const uint64_t values[] = {ranges.shared.address, ranges.own.address, ranges.own.address + LOCK, ranges.other.address + LOCK, 1};
+    const uint64_t values[] = {
+        ranges.shared.address, ranges.own.address, ranges.own.address + LOCK, ranges.other.address + LOCK, 1};
     struct plugin plugin = {.name = name, .ranges = ranges};
     for (uint32_t i = 0; i < sizeof values / sizeof *values; i++)
         milestarling_set_register(&plugin.session, i, values[i], MILESTARLING_TAINT_NONE);
@@ -68,7 +69,9 @@ static void turn(struct plugin *plugin, const char *const *lines, size_t count)
 int main(void)
 {
     const struct milestarling_ranges ranges = {
-        .shared = {.address = SHARED, .length = 32}, .own = {.address = OURS, .length = 32}, .other = {.address = THEIRS, .length = 32}};
+        .shared = {.address = SHARED, .length = EACH},
+        .own = {.address = OURS, .length = EACH},
+        .other = {.address = THEIRS, .length = EACH}};
     struct plugin a = plugin_of("a", ranges), b = plugin_of("b", milestarling_ranges_swapped(ranges));
 
     turn(&a, (const char *const[]){"ldr w5, [x0]", "str w5, [x1]", "ldrb w6, [x1, #32]", "str x0, [x1, #16]"}, 4);
@@ -79,7 +82,8 @@ int main(void)
     turn(&a, (const char *const[]){"stxr w8, w4, [x2]"}, 1);
     turn(&a, (const char *const[]){"ldaxr w7, [x0]", "stxr w8, w4, [x0]"}, 2);
 
-    printf("shared: %s; a has %s, and its lock is %d; b has stored zeros over its own\n", bytes, bytes + OURS - SHARED,
-        bytes[OURS - SHARED + LOCK]);
+    const uint8_t *ours = bytes + (OURS - SHARED), *theirs = bytes + (THEIRS - SHARED), zeros[EACH] = {0};
+    printf("shared: %s; a has %s, and its lock is %d; b has stored %s over its own\n", (const char *)bytes, (const char *)ours,
+        ours[LOCK], memcmp(theirs, zeros, EACH) == 0 ? "zeros" : "something else");
     return 0;
 }
