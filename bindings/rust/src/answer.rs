@@ -9,7 +9,7 @@ use std::fmt;
 ///
 /// assert_eq!(Answer::OutOfWindow.number(), 7);
 /// assert_eq!(Answer::try_from(8), Ok(Answer::ReadOnly));
-/// assert!(Answer::try_from(12).is_err());
+/// assert!(Answer::try_from(13).is_err());
 /// assert_eq!(Answer::TaintedAddress.to_string(), "the address would come from a secret value");
 /// ```
 #[derive(Clone, Copy, Debug, PartialEq, Eq, PartialOrd, Ord, Hash)]
@@ -18,7 +18,8 @@ use std::fmt;
 pub enum Answer {
     /// It was done.
     Done = 0,
-    /// The window, the number of taint bytes or PC is wrong.
+    /// The window, the number of taint bytes or PC is wrong, or of the ranges of two plugins two have a byte in common or one
+    /// isn't inside the window.
     BadWindow = 1,
     /// The word is no load or store that this machine takes. Whether it touches memory all the same, and so isn't the host's
     /// to compute, [`touches_memory`](crate::touches_memory) says.
@@ -36,7 +37,7 @@ pub enum Answer {
     Misaligned = 6,
     /// The access isn't wholly inside the window.
     OutOfWindow = 7,
-    /// A store touches the read-only beginning of the window.
+    /// A store touches the read-only beginning of the window, or the range that two plugins share.
     ReadOnly = 8,
     /// The text isn't the line of any word.
     NoSuchText = 9,
@@ -44,6 +45,8 @@ pub enum Answer {
     NoRoom = 10,
     /// No word has this instruction; or it was asked about a register, or a byte of one, that there isn't.
     NoSuchInstruction = 11,
+    /// The access is neither wholly in the plugin's own range nor, for a load, wholly in the shared one ([`Shared`](crate::Shared)).
+    NotAllowed = 12,
     /// The lister is closed, or is said to hold more than three bytes.
     Closed = 16,
     /// The words, the trace or the statuses are too short for the steps, or no run leaves them so.
@@ -67,6 +70,7 @@ impl Answer {
         Answer::NoSuchText,
         Answer::NoRoom,
         Answer::NoSuchInstruction,
+        Answer::NotAllowed,
         Answer::Closed,
         Answer::BadTrace,
         Answer::AfterEnd,
@@ -118,6 +122,7 @@ impl fmt::Display for Answer {
             Answer::NoSuchText => "the text isn't the line of any load or store",
             Answer::NoRoom => "the buffer, the trace or the list of statuses or links lent is too short",
             Answer::NoSuchInstruction => "no word has this instruction, or there is no such register or byte",
+            Answer::NotAllowed => "the access is neither in the plugin's own range nor, for a load, in the shared one",
             Answer::Closed => "the lister is closed, or is said to hold more than three bytes",
             Answer::BadTrace => {
                 "the words, the trace or the statuses are too short for the steps, or no run leaves them so"
@@ -224,8 +229,8 @@ impl Refusal {
     /// The address of the access that was refused, or SP where its alignment was, for the answers that come after an
     /// address is known.
     pub fn address(&self) -> Option<u64> {
-        let known = matches!(self.answer, Answer::Misaligned | Answer::OutOfWindow | Answer::ReadOnly);
-        known.then_some(self.address)
+        let known = [Answer::Misaligned, Answer::OutOfWindow, Answer::ReadOnly, Answer::NotAllowed];
+        known.contains(&self.answer).then_some(self.address)
     }
 }
 

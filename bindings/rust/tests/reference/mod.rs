@@ -29,6 +29,7 @@ pub const READ_ONLY: u8 = 8;
 pub const NO_SUCH_TEXT: u8 = 9;
 pub const NO_ROOM: u8 = 10;
 pub const NO_SUCH_INSTRUCTION: u8 = 11;
+pub const NOT_ALLOWED: u8 = 12;
 pub const CLOSED: u8 = 16;
 pub const BAD_TRACE: u8 = 17;
 pub const AFTER_END: u8 = 18;
