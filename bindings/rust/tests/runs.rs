@@ -9,12 +9,9 @@ use reference::decoding::{decode, Family, Instruction, Operation};
 use reference::running::{self, Outcome, Window};
 use reference::*;
 use support::{
-    about_power, about_powers, any_word, distinct, joined, kept_or_set, some_bytes, some_vectors, state_of,
-    word_of_line, Random,
+    about_powers, any_origin, any_word, distinct, guarded, index_taken, inner, joined, kept_or_set, lead_to, number,
+    some_bytes, some_vectors, state_of, taints, word_of_line, Random, GUARD,
 };
-
-/// What lies before and behind a buffer that was lent, and in a trace that wasn't written.
-const GUARD: usize = 24;
 
 /// All that a run gets.
 #[derive(Clone)]
@@ -28,11 +25,6 @@ struct Case {
     taint: Vec<u8>,
     trace: Vec<u64>,
     statuses: Vec<u8>,
-}
-
-fn inner<T>(guarded: &mut [T]) -> &mut [T] {
-    let end = guarded.len() - GUARD;
-    &mut guarded[GUARD..end]
 }
 
 impl Case {
@@ -139,19 +131,6 @@ fn differ_by_marks(ours: &[u8], theirs: &[u8], marks: &[u8]) -> bool {
     ours.iter().zip(theirs).zip(marks).all(|((one, other), &mark)| (one != other) == (mark != 0))
 }
 
-/// A number that is often at an end of its range.
-fn number(random: &mut Random) -> u64 {
-    match random.below(8) {
-        0 => random.below(300) as u64,
-        1 => (random.below(300) as u64).wrapping_neg(),
-        2 | 3 => about_power(random),
-        // In the low half, which is all that some indexes and stores take.
-        4 => random.next() << 32 | about_power(random) & 0xffff_ffff,
-        5 => (random.word() as i32) as u64,
-        _ => random.next(),
-    }
-}
-
 /// An address in the window or beside it.
 fn address(random: &mut Random, window: Window, len: usize) -> u64 {
     let place = match random.below(8) {
@@ -171,37 +150,9 @@ fn address(random: &mut Random, window: Window, len: usize) -> u64 {
     }
 }
 
-fn taints(random: &mut Random, bytes: &mut [u8]) {
-    let rarity = *random.choose(&[1000, 40, 40, 8, 2]);
-    for byte in bytes {
-        if random.once_in(rarity) {
-            *byte = *random.choose(&[1, 1, 2, 0x80, 0xff]);
-        }
-    }
-}
-
-fn guarded(random: &mut Random, len: usize) -> Vec<u8> {
-    let mut bytes = vec![0; len + 2 * GUARD];
-    random.fill(&mut bytes);
-    for part in bytes.chunks_exact_mut(8) {
-        if random.once_in(4) {
-            part.copy_from_slice(&about_power(random).to_le_bytes());
-        }
-    }
-    bytes
-}
-
 /// A case of so many words, not yet with the words themselves.
 fn blank(random: &mut Random, len: usize, words: usize) -> Case {
-    let origin = match random.below(8) {
-        0 => 0,
-        1 | 2 => (len as u64).wrapping_neg(),
-        3 => (len as u64).wrapping_neg().wrapping_sub(random.below(20) as u64),
-        // One of the windows that reach past the end.
-        4 if random.once_in(4) => (len as u64).wrapping_neg().wrapping_add(random.below(20) as u64),
-        5 => number(random) & !0xf,
-        _ => random.next() >> random.below(56),
-    };
+    let origin = any_origin(random, len);
     let readonly = match random.below(12) {
         0 => len as u64,
         1 if random.once_in(4) => len as u64 + 1 + random.below(3) as u64,
@@ -257,16 +208,6 @@ fn blank(random: &mut Random, len: usize, words: usize) -> Case {
     case
 }
 
-/// What an index register's value adds to the base.
-fn index_taken(instruction: &Instruction, index: u64) -> u64 {
-    let taken = match instruction.option {
-        0b010 => index & 0xffff_ffff,
-        0b110 => index as u32 as i32 as i64 as u64,
-        _ => index,
-    };
-    taken << if instruction.shifted { instruction.size } else { 0 }
-}
-
 /// Sets the registers that a step takes its address from so that the access is about a place in the window.
 fn aim(random: &mut Random, case: &mut Case, instruction: &Instruction) {
     let len = case.len();
@@ -284,37 +225,7 @@ fn aim(random: &mut Random, case: &mut Case, instruction: &Instruction) {
         }
         _ => address(random, case.window, len),
     };
-    let offset = instruction.offset as u64;
-    match instruction.family {
-        Family::Literal => case.session.pc = target.wrapping_sub(offset) & !3,
-        Family::Register => {
-            let index = match instruction.rm {
-                31 => 0,
-                rm => {
-                    case.session.value[rm as usize] = number(random);
-                    case.session.value[rm as usize]
-                }
-            };
-            if instruction.rn != instruction.rm || instruction.rn == 31 {
-                case.session.value[instruction.rn as usize] = target.wrapping_sub(index_taken(instruction, index));
-            }
-        }
-        _ if instruction.is_post() => case.session.value[instruction.rn as usize] = target,
-        _ => case.session.value[instruction.rn as usize] = target.wrapping_sub(offset),
-    }
-    // SP as a base is mostly aligned, up to 15 bytes lower.
-    if !random.once_in(4) {
-        case.session.value[31] &= !15;
-    }
-    if instruction.is_monitored() {
-        let base = &mut case.session.value[instruction.rn as usize];
-        if !random.once_in(4) {
-            *base &= !(width - 1);
-        }
-        if random.once_in(2) {
-            (case.session.monitor_address, case.session.monitor_size) = (*base, width);
-        }
-    }
+    lead_to(random, &mut case.session, instruction, target);
 }
 
 fn length_of_memory(random: &mut Random) -> usize {

@@ -38,6 +38,61 @@ pub struct Window {
     pub readonly: u64,
 }
 
+/// An address, and how many bytes from there on.
+#[derive(Clone, Copy, Debug, PartialEq, Eq)]
+pub struct Range {
+    pub address: u64,
+    pub length: u64,
+}
+
+/// CR 11: what both plugins may load, and the private ranges of the one whose turn it is and of the other.
+#[derive(Clone, Copy, Debug, PartialEq, Eq)]
+pub struct Ranges {
+    pub shared: Range,
+    pub own: Range,
+    pub other: Range,
+}
+
+impl Range {
+    /// The first address, and the one behind the last.
+    fn ends(self) -> (u128, u128) {
+        (self.address.into(), self.address as u128 + self.length as u128)
+    }
+
+    /// Whether some byte is in both.
+    pub fn shares_with(self, other: Range) -> bool {
+        let ((first, end), (other_first, other_end)) = (self.ends(), other.ends());
+        first.max(other_first) < end.min(other_end)
+    }
+
+    /// "Wholly inside", as answer 7 counts.
+    pub fn lies_in(self, other: Range) -> bool {
+        let ((first, end), (other_first, other_end)) = (self.ends(), other.ends());
+        other_first <= first && end <= other_end
+    }
+}
+
+impl Ranges {
+    /// Answer 1: "two ranges share a byte or one, empty too, isn't inside the window as 7 counts".
+    fn are_bad(self, origin: u64, len: usize) -> bool {
+        let Ranges { shared, own, other } = self;
+        let window = Range { address: origin, length: len as u64 };
+        let apart = !shared.shares_with(own) && !shared.shares_with(other) && !own.shares_with(other);
+        !apart || [shared, own, other].iter().any(|range| !range.lies_in(window))
+    }
+
+    /// "8 for a store touching the shared range; 12 for any other access not allowed."
+    fn admit(self, is_store: bool, access: Range) -> u8 {
+        if is_store && access.shares_with(self.shared) {
+            READ_ONLY
+        } else if access.lies_in(self.own) || !is_store && access.lies_in(self.shared) {
+            DONE
+        } else {
+            NOT_ALLOWED
+        }
+    }
+}
+
 /// What the last step tried says, and how many were done before it or with it.
 #[derive(Clone, Copy, Debug, PartialEq, Eq)]
 pub struct Outcome {
@@ -153,11 +208,13 @@ pub fn is_misaligned(instruction: &Instruction, address: u64, length: usize) -> 
     }
 }
 
-/// A step whose window and PC were tested: the code, the address and the status.
+/// A step whose window and PC were tested: the code, the address and the status. An access inside the window is then admitted or
+/// gets the answer that it is refused with.
 fn walk(
     word: u32,
     state: &mut State,
-    window: Window,
+    origin: u64,
+    admit: impl Fn(bool, Range) -> u8,
     memory: &mut [u8],
     taint: &mut [u8],
 ) -> Result<(u64, u64, u8), Refused> {
@@ -198,14 +255,15 @@ fn walk(
     if is_misaligned(&instruction, address, length) {
         return refused(MISALIGNED);
     }
-    let end = window.origin as u128 + memory.len() as u128;
-    if address < window.origin || address as u128 + length as u128 > end {
+    let end = origin as u128 + memory.len() as u128;
+    if address < origin || address as u128 + length as u128 > end {
         return refused(OUT_OF_WINDOW);
     }
-    let at = address - window.origin;
-    if instruction.is_store() && at < window.readonly {
-        return refused(READ_ONLY);
+    let answer = admit(instruction.is_store(), Range { address, length: length as u64 });
+    if answer != DONE {
+        return refused(answer);
     }
+    let at = address - origin;
     // Nothing is refused from here on, so that nothing was changed by a refused step.
     let asked = Monitor { address, size: length as u64 };
     let status = (instruction.has_status() && state.monitor != asked) as u8;
@@ -246,8 +304,51 @@ pub fn run(
     trace: &mut [u64],
     statuses: &mut [u8],
 ) -> Outcome {
+    let is_bad = is_bad(window, memory.len(), taint.len(), state.pc);
+    let admit = |is_store: bool, access: Range| {
+        let is_readonly = is_store && access.address - window.origin < window.readonly;
+        if is_readonly {
+            READ_ONLY
+        } else {
+            DONE
+        }
+    };
+    steps(words, state, window.origin, is_bad, admit, memory, taint, trace, statuses)
+}
+
+/// CR 11: one turn of a plugin, a run by its ranges. Everything lent is changed in place.
+#[allow(clippy::too_many_arguments)]
+pub fn turn(
+    words: &[u32],
+    state: &mut State,
+    origin: u64,
+    ranges: Ranges,
+    memory: &mut [u8],
+    taint: &mut [u8],
+    trace: &mut [u64],
+    statuses: &mut [u8],
+) -> Outcome {
+    let whole = Window { origin, readonly: 0 };
+    let is_bad = is_bad(whole, memory.len(), taint.len(), state.pc) || ranges.are_bad(origin, memory.len());
+    let admit = |is_store, access| ranges.admit(is_store, access);
+    steps(words, state, origin, is_bad, admit, memory, taint, trace, statuses)
+}
+
+/// The steps of a run, once it is known whether it gets answer 1.
+#[allow(clippy::too_many_arguments)]
+fn steps(
+    words: &[u32],
+    state: &mut State,
+    origin: u64,
+    is_bad: bool,
+    admit: impl Fn(bool, Range) -> u8,
+    memory: &mut [u8],
+    taint: &mut [u8],
+    trace: &mut [u64],
+    statuses: &mut [u8],
+) -> Outcome {
     let mut outcome = Outcome { steps: 0, answer: DONE, code: 0, address: 0 };
-    if is_bad(window, memory.len(), taint.len(), state.pc) {
+    if is_bad {
         outcome.answer = BAD_WINDOW;
         return outcome;
     }
@@ -256,7 +357,7 @@ pub fn run(
         return outcome;
     }
     for ((&word, row), place) in words.iter().zip(trace.chunks_exact_mut(2)).zip(statuses) {
-        match walk(word, state, window, memory, taint) {
+        match walk(word, state, origin, &admit, memory, taint) {
             Ok((code, address, status)) => {
                 row.copy_from_slice(&[code, address]);
                 *place = status;

@@ -3,6 +3,7 @@
 // Each test takes the part that it needs.
 #![allow(dead_code)]
 
+use crate::reference::decoding::{Family, Instruction};
 use crate::reference::running::{Monitor, State};
 use milestarling::raw::{SessionRecord, VectorsRecord};
 use milestarling::Taint;
@@ -181,6 +182,109 @@ pub fn allocated_word(random: &mut Random) -> u32 {
         let word = word_of_line(random);
         if crate::reference::decoding::decode(word).is_ok() {
             return word;
+        }
+    }
+}
+
+/// What lies before and behind a buffer that was lent, and in a trace that wasn't written.
+pub const GUARD: usize = 24;
+
+/// The part of a buffer that is lent.
+pub fn inner<T>(guarded: &mut [T]) -> &mut [T] {
+    let end = guarded.len() - GUARD;
+    &mut guarded[GUARD..end]
+}
+
+/// A number that is often at an end of its range.
+pub fn number(random: &mut Random) -> u64 {
+    match random.below(8) {
+        0 => random.below(300) as u64,
+        1 => (random.below(300) as u64).wrapping_neg(),
+        2 | 3 => about_power(random),
+        // In the low half, which is all that some indexes and stores take.
+        4 => random.next() << 32 | about_power(random) & 0xffff_ffff,
+        5 => (random.word() as i32) as u64,
+        _ => random.next(),
+    }
+}
+
+/// Taints some bytes, often none.
+pub fn taints(random: &mut Random, bytes: &mut [u8]) {
+    let rarity = *random.choose(&[1000, 40, 40, 8, 2]);
+    for byte in bytes {
+        if random.once_in(rarity) {
+            *byte = *random.choose(&[1, 1, 2, 0x80, 0xff]);
+        }
+    }
+}
+
+/// A buffer of so many bytes, with guards about them.
+pub fn guarded(random: &mut Random, len: usize) -> Vec<u8> {
+    let mut bytes = vec![0; len + 2 * GUARD];
+    random.fill(&mut bytes);
+    for part in bytes.chunks_exact_mut(8) {
+        if random.once_in(4) {
+            part.copy_from_slice(&about_power(random).to_le_bytes());
+        }
+    }
+    bytes
+}
+
+/// The address of a memory of so many bytes, often at an end of the address space, and seldom so that it reaches past it.
+pub fn any_origin(random: &mut Random, len: usize) -> u64 {
+    match random.below(8) {
+        0 => 0,
+        1 | 2 => (len as u64).wrapping_neg(),
+        3 => (len as u64).wrapping_neg().wrapping_sub(random.below(20) as u64),
+        // One of the windows that reach past the end.
+        4 if random.once_in(4) => (len as u64).wrapping_neg().wrapping_add(random.below(20) as u64),
+        5 => number(random) & !0xf,
+        _ => random.next() >> random.below(56),
+    }
+}
+
+/// What an index register's value adds to the base.
+pub fn index_taken(instruction: &Instruction, index: u64) -> u64 {
+    let taken = match instruction.option {
+        0b010 => index & 0xffff_ffff,
+        0b110 => index as u32 as i32 as i64 as u64,
+        _ => index,
+    };
+    taken << if instruction.shifted { instruction.size } else { 0 }
+}
+
+/// Sets the registers that a step takes its address from, or PC, so that the access is at a place or just below it.
+pub fn lead_to(random: &mut Random, session: &mut SessionRecord, instruction: &Instruction, target: u64) {
+    let width = (if instruction.is_pair() { 2 } else { 1 }) << instruction.size;
+    let offset = instruction.offset as u64;
+    match instruction.family {
+        Family::Literal => session.pc = target.wrapping_sub(offset) & !3,
+        Family::Register => {
+            let index = match instruction.rm {
+                31 => 0,
+                rm => {
+                    session.value[rm as usize] = number(random);
+                    session.value[rm as usize]
+                }
+            };
+            if instruction.rn != instruction.rm || instruction.rn == 31 {
+                session.value[instruction.rn as usize] = target.wrapping_sub(index_taken(instruction, index));
+            }
+        }
+        _ if instruction.is_post() => session.value[instruction.rn as usize] = target,
+        _ => session.value[instruction.rn as usize] = target.wrapping_sub(offset),
+    }
+    // SP as a base is mostly aligned, up to 15 bytes lower.
+    if !random.once_in(4) {
+        session.value[31] &= !15;
+    }
+    if instruction.is_monitored() {
+        let base = &mut session.value[instruction.rn as usize];
+        if !random.once_in(4) {
+            *base &= !(width - 1);
+        }
+        if random.once_in(2) {
+            (session.monitor_address, session.monitor_size) = (*base, width);
         }
     }
 }
