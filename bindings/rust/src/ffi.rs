@@ -6,7 +6,7 @@ use crate::raw::{
     DecodeReply, Lister, ListerReply, Numbers, RunReply, SessionRecord, StepReply, TextReply, VectorReply, WhyReply,
     WordReply,
 };
-use crate::Taint;
+use crate::{Ranges, Taint};
 
 extern "C" {
     fn milestarling_run(
@@ -17,6 +17,23 @@ extern "C" {
         vector_taint: *mut [Taint; 2],
         origin: u64,
         readonly: u64,
+        memory: *mut u8,
+        memory_len: usize,
+        taint: *mut u8,
+        taint_len: usize,
+        trace: *mut u64,
+        trace_len: usize,
+        statuses: *mut u8,
+        statuses_len: usize,
+    ) -> RunReply;
+    fn milestarling_turn(
+        words: *const u32,
+        words_len: usize,
+        session: SessionRecord,
+        vectors: *mut [u64; 2],
+        vector_taint: *mut [Taint; 2],
+        origin: u64,
+        ranges: Ranges,
         memory: *mut u8,
         memory_len: usize,
         taint: *mut u8,
@@ -119,6 +136,43 @@ pub(crate) fn run(
             vector_taint.as_mut_ptr(),
             origin,
             readonly,
+            memory.as_mut_ptr(),
+            memory.len(),
+            taint.as_mut_ptr(),
+            taint.len(),
+            trace.as_mut_ptr(),
+            trace.len(),
+            statuses.as_mut_ptr(),
+            statuses.len(),
+        )
+    }
+}
+
+#[allow(clippy::too_many_arguments)]
+#[inline]
+pub(crate) fn turn(
+    words: &[u32],
+    session: SessionRecord,
+    vectors: &mut [[u64; 2]; 32],
+    vector_taint: &mut [[Taint; 2]; 32],
+    origin: u64,
+    ranges: Ranges,
+    memory: &mut [u8],
+    taint: &mut [u8],
+    trace: &mut [u64],
+    statuses: &mut [u8],
+) -> RunReply {
+    // SAFETY: each pointer and length come from one slice, the arrays have 32 elements, and record and ranges are of C's layout,
+    // of which any bits are one.
+    unsafe {
+        milestarling_turn(
+            words.as_ptr(),
+            words.len(),
+            session,
+            vectors.as_mut_ptr(),
+            vector_taint.as_mut_ptr(),
+            origin,
+            ranges,
             memory.as_mut_ptr(),
             memory.len(),
             taint.as_mut_ptr(),

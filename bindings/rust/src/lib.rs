@@ -7,6 +7,7 @@
 //! - [`Session`] is one session's registers, with their taints, its [`Vectors`], PC and the monitor of exclusive accesses. It
 //!   does steps and runs in a [`Memory`], which owns its bytes and their taints or borrows them, and [`step_in`] does so in
 //!   several.
+//! - [`Shared`] has two plugins that take turns in one memory, and neither sees anything of the other.
 //! - [`Taint`] says which bytes of a register are secret, and [`VectorTaint`] which of a vector register.
 //! - [`Past`] does a run and keeps what it leaves with the taints that it started with, tells why a byte is tainted, and has a
 //!   text without values, for a help desk.
@@ -33,7 +34,7 @@
 //! password. A value that the plugin needs to branch on, though it came of a secret, such as a length or the verdict on a
 //! password, is the host's to give out, by setting its register with [`Taint::NONE`]: docs/SECRECY.md. `examples/plugin.rs` is
 //! a host that does its duty. And where several sessions share memory, each one's monitor observes what the others do
-//! ([`Session::observe`], [`Session::observe_run`]).
+//! ([`Session::observe`], [`Session::observe_run`]); the plugins of a [`Shared`] store nothing that the other's can watch.
 //!
 //! # An example
 //!
@@ -68,6 +69,7 @@ mod place;
 pub mod raw;
 mod register;
 mod session;
+mod shared;
 mod shown;
 mod stream;
 mod taint;
@@ -84,6 +86,7 @@ pub use place::{Copied, Link, Place};
 pub use raw::Numbers;
 pub use register::{Register, UnknownRegister, VectorRegister};
 pub use session::{Monitor, Run, Session, Step};
+pub use shared::{Plugin, Range, Ranges, Shared};
 pub use stream::{Lister, ListingWriter};
 pub use taint::{Taint, UnknownByte, VectorTaint};
 pub use text::{list, listing, Instruction, LINE_MAX};

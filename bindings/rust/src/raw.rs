@@ -11,7 +11,7 @@
 //! assert_eq!(&buffer[..reply.length as usize], b"ldr x0, [x1, #8]");
 //! ```
 
-use crate::{ffi, Taint};
+use crate::{ffi, Ranges, Taint};
 
 /// A session's record, which a host keeps, hands to [`run`] by value, and lends to [`step`]. The default is a new one.
 ///
@@ -194,6 +194,46 @@ pub fn run(
     statuses: &mut [u8],
 ) -> RunReply {
     ffi::run(words, session, vectors, vector_taint, origin, readonly, memory, taint, trace, statuses)
+}
+
+/// Runs a list of words as one turn of a plugin that shares memory with another.
+///
+/// All is as [`run`] has it, but for what the words may reach: a load lies wholly in `ranges.shared` or wholly in `ranges.own`,
+/// and a store wholly in `ranges.own`. Nothing else of memory is read-only. Ranges of which two have a byte in common, or one
+/// isn't inside the window, are refused with 1, before 10. A store that touches the shared range is refused with 8, and any other
+/// access that isn't allowed with 12. [`Shared`](crate::Shared) keeps the ranges of both plugins, and hands each turn its own.
+///
+/// ```
+/// use milestarling::raw::{turn, SessionRecord, VectorsRecord};
+/// use milestarling::{Range, Ranges};
+///
+/// let mut session = SessionRecord::default();
+/// let VectorsRecord { mut value, taint: mut value_taint } = VectorsRecord::default();
+/// let (mut memory, mut taint, mut trace, mut statuses) = ([7; 24], [0; 24], [0; 4], [9; 2]);
+/// let ranges = Ranges { shared: Range::new(4096, 8), own: Range::new(4104, 8), other: Range::new(4112, 8) };
+/// session.value[1] = 4096;
+/// let words = [0xf9400020, 0xf9400820]; // ldr x0, [x1]; ldr x0, [x1, #16]
+/// let reply = turn(
+///     &words, session, &mut value, &mut value_taint, 4096, ranges, &mut memory, &mut taint, &mut trace, &mut statuses,
+/// );
+/// assert_eq!((reply.steps, reply.answer, reply.code, reply.address), (1, 12, 0, 4112));
+/// assert_eq!((trace, statuses), ([8, 4096, 0, 0], [0, 9]));
+/// ```
+#[allow(clippy::too_many_arguments)]
+#[inline]
+pub fn turn(
+    words: &[u32],
+    session: SessionRecord,
+    vectors: &mut [[u64; 2]; 32],
+    vector_taint: &mut [[Taint; 2]; 32],
+    origin: u64,
+    ranges: Ranges,
+    memory: &mut [u8],
+    taint: &mut [u8],
+    trace: &mut [u64],
+    statuses: &mut [u8],
+) -> RunReply {
+    ffi::turn(words, session, vectors, vector_taint, origin, ranges, memory, taint, trace, statuses)
 }
 
 /// Does one word on a session's record, on vector registers and in memory as [`run`] has them. A refused word (answers 1 to 8)

@@ -1,6 +1,6 @@
-use crate::raw::{self, SessionRecord, VectorsRecord};
+use crate::raw::{self, RunReply, SessionRecord, VectorsRecord};
 use crate::shown::{known_bytes, Shown};
-use crate::{ffi, Access, Answer, Memory, Refusal, Register, Taint, TaintedBytes, Vectors};
+use crate::{ffi, Access, Answer, Memory, Ranges, Refusal, Register, Taint, TaintedBytes, Vectors};
 use std::fmt;
 
 /// One session: its registers with their taints, its [`Vectors`], PC, and the monitor of exclusive accesses.
@@ -341,6 +341,28 @@ impl Session {
             ffi::rows(trace),
             statuses,
         );
+        self.ended(reply, words, statuses)
+    }
+
+    /// Does a turn: a run that reaches what its ranges allow.
+    pub(crate) fn turn<M: AsRef<[u8]> + AsMut<[u8]>, T: AsRef<[u8]> + AsMut<[u8]>>(
+        &mut self,
+        memory: &mut Memory<M, T>,
+        ranges: Ranges,
+        words: &[u32],
+        trace: &mut [Access],
+        statuses: &mut [u8],
+    ) -> Result<Run, Refusal> {
+        let origin = memory.window.origin;
+        let TaintedBytes { bytes, taint } = memory.parts_mut();
+        let VectorsRecord { value, taint: value_taint } = self.vectors.as_raw_mut();
+        let trace = ffi::rows(trace);
+        let reply = raw::turn(words, self.record, value, value_taint, origin, ranges, bytes, taint, trace, statuses);
+        self.ended(reply, words, statuses)
+    }
+
+    /// Takes over what a run of these words has left, and says how it ended.
+    fn ended(&mut self, reply: RunReply, words: &[u32], statuses: &[u8]) -> Result<Run, Refusal> {
         self.record = reply.session;
         // There are no more steps than words.
         let steps = reply.steps as usize;
