@@ -331,6 +331,105 @@ fn runs_the_example() {
     }
 }
 
+const PLUGINS: &str = "\
+turn 1, hall:
+step 1: load of 8 at 0x1000, by f9400002, `ldr x2, [x0]`
+step 2: store of 8 at 0x1018, by f9000422, `str x2, [x1, #8]`
+step 3: load of 4 at 0x1010, by 885ffc23, `ldaxr w3, [x1]`
+done, after 3 steps
+turn 2, login:
+step 1: load of 1 at 0x1020, by 39400022, `ldrb w2, [x1]`, taints x2 byte 0
+step 2: store of 1 at 0x1028, by 39002022, `strb w2, [x1, #8]`, taints 0x1028
+refused (8): the store touches read-only memory, at address 0x1000, by f9000002, `str x2, [x0]`, after 2 steps
+turn 3, hall:
+step 1: store of 4 at 0x1010, by 88047c20, `stxr w4, w0, [x1]`
+refused (12): the access is neither in the plugin's own range nor, for a load, in the shared one, at address 0x1020, \
+by 39404025, `ldrb w5, [x1, #16]`, after 1 step
+turn 4, hall:
+step 1: load of 8 at 0x1018, by f9400426, `ldr x6, [x1, #8]`
+done, after 1 steps
+turn 5, login:
+refused (12): the access is neither in the plugin's own range nor, for a load, in the shared one, at address 0x100c, \
+by f840c007, `ldur x7, [x0, #12]`
+plugin hall:
+x0 0x1000
+x1 0x1010
+x2 0x34203a7374616573
+x6 0x34203a7374616573
+pc 0x14
+plugin login:
+x0 0x1000
+x1 0x1020
+x2 0x00000000000000**
+pc 0x8
+0x1000: 73 65 61 74 73 3a 20 34 32 2c 20 72 6f 77 73 2e
+0x1010: 00 10 00 00 00 00 00 00 73 65 61 74 73 3a 20 34
+0x1020: ** ** ** ** ** ** ** ** ** 00 00 00 00 00 00 00
+";
+
+/// Two plugins and their turns, and what a case of them can't be asked.
+#[test]
+fn runs_two_plugins() {
+    let name = stored("examples/plugins.case");
+    let ended = call(&["run", &name], b"");
+    assert_eq!(ended, Ended { wrote: PLUGINS.into(), said: String::new(), status: Some(1) });
+    let ended = call(&["run", "--secrets", &name], b"");
+    assert!(ended.wrote.contains("\ntainted x2.0 0x73\npc 0x8\n"), "{ended:?}");
+    assert!(ended.wrote.ends_with("0x1020: 73* 65* 73* 61* 6d* 65* 34* 32* 73* 00 00 00 00 00 00 00\n"), "{ended:?}");
+    for words in [&["why", &name][..], &["why", &name, "x2"], &["trace", &name]] {
+        call(words, b"")
+            .fails(1, "plugins.case: a case of two plugins: why a byte is tainted is told of a plugin alone");
+    }
+
+    let two = "shared 0 4\nplugin a 4 4\nplugin b 8 4\n";
+    assert_eq!(call(&["run"], format!("zeros 12\n{two}").as_bytes()).status, Some(0));
+    let shown = "turn 1, b:\nstep 1: load of 4 at 0x8, by b9400020, `ldr w0, [x1]`\ndone, after 1 steps\n\
+                 plugin a:\nx1 0x4\npc 0x0\nplugin b:\nx1 0x8\npc 0x4\n0x0: 00 00 00 00 00 00 00 00 00 00 00 00\n";
+    let case = "plugin a 4 4\nx1 4\nplugin b 8 4\nx1 8\nturn b\nldr w0, [x1]\nshared 0 4\nzeros 12\n";
+    assert_eq!(call(&["run"], case.as_bytes()), Ended::well(shown));
+    // Ranges that don't go together are refused in every turn, and an empty turn too.
+    let ended = call(&["run"], format!("zeros 11\n{two}turn a\nprfm pldl1keep, [x1]\nturn b\n").as_bytes());
+    let lines: Vec<&str> = ended.wrote.lines().filter(|line| line.starts_with("refused (1): ")).collect();
+    assert_eq!((lines.len(), ended.status), (2, Some(1)), "{ended:?}");
+    let ended = call(&["run"], format!("zeros 12\n{two}turn b\ntaint\n").as_bytes());
+    ended.fails(1, "standard input: line 6: refused (9)");
+}
+
+#[test]
+fn a_wrong_case_of_plugins_is_named_by_its_line() {
+    for (case, line, said) in [
+        ("shared 0", 1, "is no number"),
+        ("shared 0 1 2", 1, "is no number"),
+        ("shared 0 1", 1, "a case of plugins has two of them"),
+        ("zeros 8\nplugin a 0 1\nshared 0 1", 2, "a case of plugins has two of them"),
+        ("plugin", 1, "a plugin has a name"),
+        ("plugin a", 1, "is no number"),
+        ("plugin a 0", 1, "is no number"),
+        ("plugin a 0 1\nplugin a 1 1", 2, "`a` is named already"),
+        ("plugin a 0 1\nplugin b 1 1\nplugin c 2 1", 3, "a case has two plugins"),
+        ("plugin a 0 1\nplugin b 1 1", 1, "plugins without `shared`"),
+        ("turn a", 1, "`a` is no plugin's name"),
+        ("plugin a 0 1\nturn b", 2, "`b` is no plugin's name"),
+        ("plugin a 0 1\nturn", 2, "`` is no plugin's name"),
+        ("plugin a 0 1\nturn a\nplugin b 1 1", 3, "before the first turn"),
+        ("plugin a 0 1\nturn a\nx0 1", 3, "before the first turn"),
+        ("plugin a 0 1\nturn a\npc 4", 3, "before the first turn"),
+        ("plugin a 0 1\nturn a\nmonitor 0 4", 3, "before the first turn"),
+        ("plugin a 0 1\nturn a\ntainted q0 1", 3, "before the first turn"),
+        ("plugin a 0 1\nword f9400420", 2, "a word of no turn"),
+        ("shared 0 1\nldr x0, [x1]", 2, "a word of no turn"),
+        ("shared 0 1\nx0 5", 2, "a register of no plugin"),
+        ("x0 5\nplugin a 0 1", 2, "is no plugin's"),
+        ("ldr x0, [x1]\nshared 0 1", 2, "is no plugin's"),
+        ("readonly 4\nzeros 8\nshared 0 4", 3, "`readonly` in a case of plugins"),
+        ("plugin a 0 1\nreadonly 4", 2, "`readonly` in a case of plugins"),
+    ] {
+        let ended = call(&["run"], case.as_bytes());
+        ended.fails(1, said);
+        assert!(ended.said.contains(&format!("standard input: line {line}: ")), "{case}: {ended:?}");
+    }
+}
+
 /// What the indented blocks of a section hold, one behind the other, without their indent.
 fn blocks(document: &str, heading: &str) -> Vec<Vec<String>> {
     let section = document.split("\n## ").find(|section| section.starts_with(heading)).unwrap();

@@ -2,10 +2,11 @@
 
 use crate::input::{Failure, Source};
 use crate::places::{blame, shown_places, shown_word, tainted_by_steps, Region};
+use crate::turns::{Pair, Plugins};
 use crate::{hexadecimal, number, wide_number};
 use milestarling::{
-    Instruction, Memory, Monitor, Past, Register, Session, Step, Taint, TaintedBytes, UnknownByte, VectorRegister,
-    VectorTaint, Window,
+    Access, Instruction, Memory, Monitor, Past, Place, Register, Session, Step, Taint, TaintedBytes, UnknownByte,
+    VectorRegister, VectorTaint, Window,
 };
 use std::fmt::Display;
 use std::io::{self, Write};
@@ -22,26 +23,55 @@ pub struct Case {
     bytes: Vec<u8>,
     taint: Vec<u8>,
     words: Vec<u32>,
+    plugins: Plugins,
+}
+
+/// What a case is run with.
+pub enum Machine {
+    /// A session, its memory, and the words to run.
+    Alone(Box<Session>, Region, Vec<u32>),
+    /// Two plugins and their turns.
+    Pair(Box<Pair>),
 }
 
 impl Case {
     /// Takes a whole text.
-    pub fn read(source: &Source, text: &str) -> Result<Case, Failure> {
+    pub fn read(source: &Source, text: &str) -> Result<Machine, Failure> {
+        let wrong = |line: usize, said: String| source.wrong(format!("line {line}: {said}"));
         let mut case = Case::default();
         for (at, line) in text.split('\n').enumerate() {
-            case.statement(line).map_err(|said| source.wrong(format!("line {}: {said}", at + 1)))?;
+            case.statement(at + 1, line).map_err(|said| wrong(at + 1, said))?;
         }
-        Ok(case)
+        let line = case.plugins.line();
+        case.machine().map_err(|said| wrong(line.unwrap_or(0), said))
     }
 
-    /// The session, its memory, and the words to run.
-    pub fn machine(self) -> (Session, Region, Vec<u32>) {
-        let Case { session, window, bytes, taint, words } = self;
-        (session, Memory::new(window, TaintedBytes { bytes, taint }), words)
+    /// What is run.
+    fn machine(self) -> Result<Machine, String> {
+        let Case { session, window, bytes, taint, words, plugins } = self;
+        let memory = Memory::new(window, TaintedBytes { bytes, taint });
+        match plugins.line() {
+            None => Ok(Machine::Alone(Box::new(session), memory, words)),
+            Some(_) => plugins.pair(memory).map(|pair| Machine::Pair(Box::new(pair))),
+        }
+    }
+
+    /// Whether what was said goes together with plugins, where there are any.
+    fn fits_plugins(&self) -> Result<(), String> {
+        if self.plugins.line().is_none() {
+            return Ok(());
+        }
+        if self.window.readonly != 0 {
+            return Err("`readonly` in a case of plugins: the range that they share takes its place".into());
+        }
+        if self.session != Session::new() || !self.words.is_empty() {
+            return Err("a register or a word stands before this, and is no plugin's".into());
+        }
+        Ok(())
     }
 
     /// Takes one line.
-    fn statement(&mut self, line: &str) -> Result<(), String> {
+    fn statement(&mut self, at: usize, line: &str) -> Result<(), String> {
         // Letters may end in spaces.
         let line = line.trim_start();
         if line.trim().is_empty() || line.starts_with('#') {
@@ -51,12 +81,13 @@ impl Case {
         match (name, rest) {
             ("origin", rest) => self.window.origin = number(rest.trim())?,
             ("readonly", rest) => self.window.readonly = number(rest.trim())?,
-            ("word", rest) => self.words.push(hexadecimal(rest.trim())?),
-            ("pc", rest) => self.session.set_pc(number(rest.trim())?),
+            ("shared" | "plugin" | "turn", rest) => self.plugins.statement(at, name, rest.trim())?,
+            ("word", rest) => self.push(hexadecimal(rest.trim())?)?,
+            ("pc", rest) => self.session()?.set_pc(number(rest.trim())?),
             ("monitor", rest) => {
                 let (address, bytes) = first_word(rest.trim());
                 let monitor = Monitor { address: number(address)?, bytes: number(bytes.trim())? };
-                self.session.set_monitor(Some(monitor));
+                self.session()?.set_monitor(Some(monitor));
             }
             ("tainted", rest) => {
                 let (name, value) = first_word(rest);
@@ -67,10 +98,10 @@ impl Case {
             (name, value) if self.put(name, value, false)? => {}
             _ => {
                 let read: Result<Instruction, _> = line.trim_end().parse();
-                self.words.push(read.map_err(|refusal| refusal.to_string())?.word());
+                self.push(read.map_err(|refusal| refusal.to_string())?.word())?;
             }
         }
-        Ok(())
+        self.fits_plugins()
     }
 
     /// Puts what may be tainted, and says whether the name is that of such a thing.
@@ -98,14 +129,24 @@ impl Case {
         };
         if let Ok(register) = name.parse::<Register>() {
             let taint = taint_of(bytes, tainted, [Taint::NONE, Taint::ALL])?;
-            self.session.set(register, number(value)?, taint);
+            self.session()?.set(register, number(value)?, taint);
         } else if let Ok(register) = name.parse::<VectorRegister>() {
             let taint = taint_of(bytes, tainted, [VectorTaint::NONE, VectorTaint::ALL])?;
-            self.session.vectors_mut().set(register, wide_number(value)?, taint);
+            self.session()?.vectors_mut().set(register, wide_number(value)?, taint);
         } else {
             return Ok(false);
         }
         Ok(true)
+    }
+
+    /// The session whose registers are set.
+    fn session(&mut self) -> Result<&mut Session, String> {
+        self.plugins.session(&mut self.session)
+    }
+
+    fn push(&mut self, word: u32) -> Result<(), String> {
+        self.plugins.words(&mut self.words)?.push(word);
+        Ok(())
     }
 
     fn add(&mut self, length: u64, bytes: impl Iterator<Item = u8>, tainted: bool) -> Result<(), String> {
@@ -118,7 +159,7 @@ impl Case {
     }
 }
 
-fn first_word(line: &str) -> (&str, &str) {
+pub fn first_word(line: &str) -> (&str, &str) {
     line.split_once(char::is_whitespace).unwrap_or((line, ""))
 }
 
@@ -154,30 +195,54 @@ pub fn run(mut source: Source, secrets: bool, output: &mut impl Write) -> Result
     if Past::is_text(&text) {
         return Err(source.wrong("a trace, which has no values to run with: `milestarling why` tells of it"));
     }
-    let (mut session, mut memory, words) = Case::read(&source, &text)?.machine();
-    let tainted = tainted_by_steps(session.clone(), memory.clone(), &words);
-    let (past, ran) = Past::run(&mut session, &mut memory, &words);
+    match Case::read(&source, &text)? {
+        Machine::Alone(session, memory, words) => run_alone(*session, memory, &words, secrets, output),
+        Machine::Pair(pair) => pair.run(secrets, output),
+    }
+}
+
+fn run_alone(
+    mut session: Session,
+    mut memory: Region,
+    words: &[u32],
+    secrets: bool,
+    output: &mut impl Write,
+) -> Result<(), Failure> {
+    let tainted = tainted_by_steps(session.clone(), memory.clone(), words);
+    let (past, ran) = Past::run(&mut session, &mut memory, words);
     let mut show = || -> io::Result<()> {
-        let done = past.trace().iter().zip(past.statuses()).map(|(&access, &status)| Step::new(access, status));
-        for (at, (step, tainted)) in done.zip(&tainted).enumerate() {
-            write!(output, "step {}: {step}, by {:08x}, `{}`", at + 1, words[at], shown_word(words[at]))?;
-            match &tainted[..] {
-                [] => writeln!(output)?,
-                places => writeln!(output, ", taints {}", shown_places(places))?,
-            }
-        }
+        show_steps(words, past.trace(), past.statuses(), &tainted, output)?;
         match ran {
             Ok(_) => writeln!(output, "done, after {} steps", past.steps())?,
             Err(refusal) => writeln!(output, "{refusal}{}", blame(&session, &memory, refusal))?,
         }
         show_session(&session, secrets, output)?;
-        show_memory(memory.window.origin, memory.bytes(), memory.taint(), secrets, output)
+        show_memory(&memory, secrets, output)
     };
     show().map_err(Failure::write)?;
     ran.map(|_| ()).map_err(|_| Failure::Refused)
 }
 
-fn show_session(session: &Session, secrets: bool, output: &mut impl Write) -> io::Result<()> {
+/// A line for each step done, with what it taints.
+pub fn show_steps(
+    words: &[u32],
+    trace: &[Access],
+    statuses: &[u8],
+    tainted: &[Vec<Place>],
+    output: &mut impl Write,
+) -> io::Result<()> {
+    let done = trace.iter().zip(statuses).map(|(&access, &status)| Step::new(access, status));
+    for (at, (step, tainted)) in done.zip(tainted).enumerate() {
+        write!(output, "step {}: {step}, by {:08x}, `{}`", at + 1, words[at], shown_word(words[at]))?;
+        match &tainted[..] {
+            [] => writeln!(output)?,
+            places => writeln!(output, ", taints {}", shown_places(places))?,
+        }
+    }
+    Ok(())
+}
+
+pub fn show_session(session: &Session, secrets: bool, output: &mut impl Write) -> io::Result<()> {
     for register in Register::all() {
         let (value, taint) = session.get(register);
         if secrets && !taint.is_none() {
@@ -203,9 +268,9 @@ fn show_session(session: &Session, secrets: bool, output: &mut impl Write) -> io
 }
 
 /// Sixteen bytes a line. With secrets a tainted byte has a star behind it.
-fn show_memory(at: u64, bytes: &[u8], taint: &[u8], secrets: bool, output: &mut impl Write) -> io::Result<()> {
-    for (row, (bytes, taint)) in bytes.chunks(16).zip(taint.chunks(16)).enumerate() {
-        write!(output, "{:#x}:", at.wrapping_add(16 * row as u64))?;
+pub fn show_memory(memory: &Region, secrets: bool, output: &mut impl Write) -> io::Result<()> {
+    for (row, (bytes, taint)) in memory.bytes().chunks(16).zip(memory.taint().chunks(16)).enumerate() {
+        write!(output, "{:#x}:", memory.window.origin.wrapping_add(16 * row as u64))?;
         for (byte, &taint) in bytes.iter().zip(taint) {
             match (taint, secrets) {
                 (0, _) => write!(output, " {byte:02x}")?,

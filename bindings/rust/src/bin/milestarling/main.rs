@@ -5,6 +5,7 @@ mod elf;
 mod input;
 mod list;
 mod places;
+mod turns;
 mod why;
 
 use input::{say, Failure, Source};
@@ -64,18 +65,30 @@ milestarling: the loads and stores of an AArch64 emulator
         ldr x0, [x1, #8]     one more word to run, by its text: any line that begins
                              with none of these names
 
+      A case may be of two plugins that take turns in one memory. Then each turn is shown
+      with its steps and its answer, and both plugins' registers:
+
+        shared NUMBER NUMBER the address and the length of the range that both load from
+                             and neither stores to, in place of `readonly`
+        plugin NAME NUMBER NUMBER
+                             one of the two, and the address and the length of its own
+                             range: registers, pc and monitor behind it are its
+        turn NAME            one more turn of this plugin: the words behind it are run in
+                             it. A refused word ends the turn, and the next is taken
+
   milestarling why [FILE] [PLACE] [--at STEP]
       Tells why a place is tainted at the end of a case's run, or with --at just after a
       step (0 is the start): the step that tainted it, its text, and the place that it
       was copied from, and so on back to the start. A place is a register (x3, sp, q5 or
       v5: all of its tainted bytes), a byte of one (x3.2), or an address (0x1010).
       Without a place, those are told of that a word was refused for with answer 5.
-      The file is a case or a trace. No value of a register or of memory is shown.
+      The file is a case of one plugin or a trace. No value of a register or of memory is
+      shown.
 
   milestarling trace [FILE]
-      Runs a case and writes its trace: a text with all that `why` goes by and with no
-      values, for those who don't have the case. A trace begins with this line, and has
-      one statement a line:
+      Runs a case of one plugin and writes its trace: a text with all that `why` goes by
+      and with no values, for those who don't have the case. A trace begins with this
+      line, and has one statement a line:
 
         milestarling trace 1
         # WORDS              a comment

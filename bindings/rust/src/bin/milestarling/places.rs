@@ -51,10 +51,15 @@ pub fn shown_places(places: &[Place]) -> String {
 pub fn tainted_by_steps(mut session: Session, mut memory: Region, words: &[u32]) -> Vec<Vec<Place>> {
     let done = words.iter().map_while(|&word| {
         let step = session.step(&mut memory, word).ok()?;
-        let places = Instruction::new(word).map_or_else(|_| Vec::new(), |found| set_by(found, step)).into_iter();
-        Some(places.filter(|&place| is_tainted(&session, &memory, place)).collect())
+        Some(tainted_by(&session, &memory, word, step))
     });
     done.collect()
+}
+
+/// The places that are tainted after a step of those that it sets.
+pub fn tainted_by(session: &Session, memory: &Region, word: u32, step: Step) -> Vec<Place> {
+    let places = Instruction::new(word).map_or_else(|_| Vec::new(), |found| set_by(found, step)).into_iter();
+    places.filter(|&place| is_tainted(session, memory, place)).collect()
 }
 
 /// The bytes that a step has set by a copy.

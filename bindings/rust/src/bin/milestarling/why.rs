@@ -1,6 +1,6 @@
 //! `milestarling why` and `milestarling trace`: the past of a run, of a case or of a text that has no values.
 
-use crate::case::Case;
+use crate::case::{Case, Machine};
 use crate::input::{Failure, Source};
 use crate::number;
 use crate::places::{next_place, shown_places, shown_span, shown_word};
@@ -13,8 +13,10 @@ fn read(source: &mut Source) -> Result<Past, Failure> {
     if Past::is_text(&text) {
         return text.parse().map_err(|error| source.wrong(error));
     }
-    let (mut session, mut memory, words) = Case::read(source, &text)?.machine();
-    Ok(Past::run(&mut session, &mut memory, &words).0)
+    match Case::read(source, &text)? {
+        Machine::Alone(mut session, mut memory, words) => Ok(Past::run(&mut session, &mut memory, &words).0),
+        Machine::Pair(_) => Err(source.wrong("a case of two plugins: why a byte is tainted is told of a plugin alone")),
+    }
 }
 
 /// Writes a case's past as a text.
