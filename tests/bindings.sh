@@ -22,6 +22,7 @@ example() { # NAME WORDS...
 }
 example plugin "$top"/examples/plugin/{compare,compare_early,look_up,look_up_kind,copy_by_kind,copy_by_letter}.bin
 example turns "$top/examples/lock.bin"
+example plugins
 
 # What the README prints for Rust, as it is printed, in a function that may fail; it lists no bytes.
 {
