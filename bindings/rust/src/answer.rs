@@ -45,7 +45,8 @@ pub enum Answer {
     NoRoom = 10,
     /// No word has this instruction; or it was asked about a register, or a byte of one, that there isn't.
     NoSuchInstruction = 11,
-    /// The access is neither wholly in the plugin's own range nor, for a load, wholly in the shared one ([`Shared`](crate::Shared)).
+    /// The access of one of two plugins is neither wholly in its own range nor, for a load, wholly in the shared one
+    /// ([`Shared`](crate::Shared)).
     NotAllowed = 12,
     /// The lister is closed, or is said to hold more than three bytes.
     Closed = 16,

@@ -34,7 +34,8 @@
 //! password. A value that the plugin needs to branch on, though it came of a secret, such as a length or the verdict on a
 //! password, is the host's to give out, by setting its register with [`Taint::NONE`]: docs/SECRECY.md. `examples/plugin.rs` is
 //! a host that does its duty. And where several sessions share memory, each one's monitor observes what the others do
-//! ([`Session::observe`], [`Session::observe_run`]); the plugins of a [`Shared`] store nothing that the other's can watch.
+//! ([`Session::observe`], [`Session::observe_run`]); in a [`Shared`] they needn't, since neither plugin stores to what the other
+//! may load.
 //!
 //! # An example
 //!

@@ -200,8 +200,9 @@ pub fn run(
 ///
 /// All is as [`run`] has it, but for what the words may reach: a load lies wholly in `ranges.shared` or wholly in `ranges.own`,
 /// and a store wholly in `ranges.own`. Nothing else of memory is read-only. Ranges of which two have a byte in common, or one
-/// isn't inside the window, are refused with 1, before 10. A store that touches the shared range is refused with 8, and any other
-/// access that isn't allowed with 12. [`Shared`](crate::Shared) keeps the ranges of both plugins, and hands each turn its own.
+/// isn't inside the window, are refused with 1, before 10; `ranges.other` counts for nothing else. A store that touches the shared
+/// range is refused with 8, and any other access that isn't allowed with 12. [`Shared`](crate::Shared) keeps the ranges of both
+/// plugins, and hands each turn its own.
 ///
 /// ```
 /// use milestarling::raw::{turn, SessionRecord, VectorsRecord};

@@ -100,14 +100,17 @@ impl Plugin {
 ///
 /// # The monitors
 ///
-/// Each plugin has its own, and no turn opens the other's: a plugin stores to its own range alone, and the other's monitor can
-/// watch no byte of that. A write of the host's own is another matter, and both monitors observe it: [`write`](Shared::write) and
-/// [`parts_mut`](Shared::parts_mut) see to that.
+/// Each plugin has its own, and no turn opens the other's: a load-exclusive arms it for bytes that its plugin may load, and the
+/// other plugin stores to none of these. A write of the host's own is another matter, and both monitors observe it:
+/// [`write`](Shared::write) and [`parts_mut`](Shared::parts_mut) see to that. A lock between the two there isn't: to take one in
+/// the shared range is a store, and is refused with [`Answer::ReadOnly`](crate::Answer::ReadOnly).
 ///
-/// # What the host computes
+/// # The host's own duty
 ///
-/// Between two turns it does its duty for each plugin as for a plugin alone, by [`session_mut`](Shared::session_mut). What it
-/// computes of one plugin's values and hands to the other, it gives out itself.
+/// Between two turns the host does its duty for each plugin as for a plugin alone, by [`session_mut`](Shared::session_mut). What
+/// it computes of one plugin's values and hands to the other, it gives out itself. What it stores for a plugin by itself, such as
+/// the zeros of `dc zva`, it holds against that plugin's [`ranges`](Shared::ranges) first. Why a byte is tainted
+/// ([`Past`](crate::Past)) is told of a plugin alone, and not promised of turns.
 #[derive(Clone)]
 pub struct Shared<M, T> {
     memory: Memory<M, T>,
