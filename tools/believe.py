@@ -27,7 +27,7 @@ import sys
 from typing import NamedTuple
 
 CRATES = pathlib.Path(__file__).resolve().parent.parent / 'crates'
-PAGES = [CRATES / 'promises/specs' / name for name in ('Demands.antt', 'Library.antt', 'Numbers.antt', 'Why.antt')]
+PAGES = [CRATES / 'promises/specs' / name for name in ('Demands.antt', 'Library.antt', 'Numbers.antt', 'Why.antt', 'Plugins.antt')]
 # With a dot before it, it is a projection, or stands behind its type or module.
 WORD = re.compile(r'(\.?)([^\s(){}\[\];:,.&<>⌜⌝]+)')
 HEAD = re.compile(r'(?:(?:unfoldable|abbrev|pub) )*(?:(record|data|use|mod) )?(\S+)( :)?')

@@ -1,7 +1,7 @@
 -- Laws of the tests of a plan. Assumes nothing.
 use Prim.Native.Nat.{ℕ, zero, suc, _+_, _%_, _^_, _≤_, _<_}
 use mathlib.Core.Path.{_≡_, refl, sym, ap, subst, _∙_}
-use mathlib.Core.Bool.{Bool, true, false, not, _&&_, _||_}
+use mathlib.Core.Bool.{Bool, true, false, not, _||_}
 use mathlib.Core.List.{List, _++_}
 use native.Mathlib.Omega.{arith}
 use borrow.Author.Tests.{ltb-true, ltb-false, eqb-true}
@@ -41,10 +41,12 @@ same-at a b c d false true p q f g = absurd (omega (arith, g (ltb-true c d q), l
 pub same-test : (a b c d : ℕ) → (a < b → c < d) → (c < d → a < b) → ltb a b ≡ ltb c d
 same-test a b c d f g = same-at a b c d (ltb a b) (ltb c d) refl refl f g
 
--- a second test that holds adds nothing
-pub and-true : (x y : Bool) → y ≡ true → (x && y) ≡ x
-and-true true y e = e
-and-true false y e = refl
+-- what a test that holds decides, and what one that doesn't leaves
+pub passed : {A : Type 0} (b : Bool) (x : A) {y : A} → b ≡ false → y ≡ pick b x y
+passed b x e = rw e
+
+pub held : {A : Type 0} (b : Bool) (x y : A) → b ≡ true → x ≡ pick b x y
+held b x y e = rw e
 
 -- where an access lies that is not outside
 pub record Inside (total a origin len : ℕ) : Type 0 where
@@ -94,12 +96,6 @@ touch-admitted admit t d o {a} {n} h =
 -- a planned touch lies in the window
 pub touch-inside : (w : Window) (reach : Reach) (len : ℕ) (t : Transfer) (d : Addressing) (o : Operands) {p : Plan} {a n : ℕ} → p ≡ planOf (admitIn w reach len) t d o → p ≡ Touch a n → Inside (totalOf t) a (w .origin) len
 touch-inside w reach len t d o {p} {a} e h = admit-inside w reach len t a (touch-admitted (admitIn w reach len) t d o (sym e ∙ h))
-
-passed : (b : Bool) (x : Plan) {y : Plan} → b ≡ false → y ≡ pick b x y
-passed b x e = rw e
-
-held : (b : Bool) (x y : Plan) → b ≡ true → x ≡ pick b x y
-held b x y e = rw e
 
 -- the three ways that planning ends: tainted, with a stack pointer that is not aligned, or by what the admission answers
 pub plan-tainted : (admit : Transfer → ℕ → List Refusal) (t : Transfer) (d : Addressing) (o : Operands) → o .tainted ≡ true → Refuse TaintedAddress 0 ≡ planOf admit t d o

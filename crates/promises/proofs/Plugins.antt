@@ -13,13 +13,14 @@ use Rattle.machine.specs.Rule.{wordRule}
 use Rattle.machine.specs.Machine.{Machine}
 use Rattle.machine.specs.Refusals.{bad}
 use Rattle.machine.proofs.Answers.{answers-in}
-use Rattle.execution.specs.Walk.{Log, log, afterSteps}
+use Rattle.execution.specs.Walk.{Log, log, Result, afterSteps}
 use Rattle.execution.specs.Ends.{Early}
 use Rattle.execution.specs.Run.{plainWindow, badTurn, turnStep, turnOf}
 use Rattle.execution.proofs.Walks.{run-bad, run-short}
 use Rattle.arm.proofs.Runs.{turn-as-arm}
 use Rattle.host.specs.Hosting.{Hosted, hostedOf}
 use Rattle.turns.specs.Sight.{In, Framed}
+use Rattle.turns.specs.Turns.{World, ownMachine, otherMachine, swapped, Turn, afterOurs, afterTheirs, playOf}
 use Rattle.turns.proofs.Ranges.{share-exact, bad-both}
 use Rattle.turns.proofs.Frames.{turn-framed}
 use Rattle.turns.proofs.Plays.{play-swapped}
@@ -27,7 +28,7 @@ use Rattle.turns.proofs.Views.{isolation, demand-3-each, other-half-each, taint
 use Rattle.turns.proofs.Answers.{turn-given, turn-early, turn-begun, turn-ends, turn-keeps, turn-allowed}
 use Rattle.promises.specs.Demands.{NotBegun}
 use Rattle.promises.specs.Library.{Gives}
-use Rattle.promises.specs.Plugins.{TurnCall, turnStart, turnEnd, turnLog, called, Plugins}
+use Rattle.promises.specs.Plugins.{TurnCall, turnStart, turnEnd, turnLog, called, Calls, none, mine, another, Gave, nothing, more, Plugins}
 use Rattle.promises.proofs.Answered.{by-definition, turn-number}
 use Rattle.promises.proofs.Demands.{not-begun}
 use Rattle.promises.proofs.Library.{gives, as-before}
@@ -58,6 +59,29 @@ call-marks c =
     subst (λ (h : Hosted). h .machine .taints ≡ afterSteps (wordRule (c .origin)) (c .words) (h .log) (h .steps) (turnStart c .taints)) (sym (c .allowed))
     (taints-of-turn (c .origin) (c .ranges) (c .words) (turnStart c) (turnLog c))
 
+-- ---- the calls of a host
+
+-- what a call leaves is what the turn of the definition leaves, from where it is started
+ended-as : (c : TurnCall) {origin : ℕ} {r : Ranges} {m : Machine} → c .origin ≡ origin → c .ranges ≡ r → turnStart c ≡ m → called c ≡ turnOf origin r (c .words) m (turnLog c)
+ended-as c e f g = rw (← e, ← f, ← g)
+
+machine-left : (c : TurnCall) → turnEnd c ≡ called c .machine
+machine-left c = ap (λ (h : Hosted). h .machine) (c .allowed)
+
+calls-gave : (origin : ℕ) (r : Ranges) {w : World} {ts : List Turn} {cs : List TurnCall} → Calls origin r w ts cs → Gave cs (playOf origin r ts w .reports)
+unfolding playOf
+calls-gave origin r none = nothing
+calls-gave origin r {w} (mine {ts = ts} {cs = cs} c e f g further) =
+    let t = turnOf origin r (c .words) (ownMachine w) (turnLog c) in
+    let same : called c ≡ t = ended-as c e f g in
+    let left : turnEnd c ≡ t .machine = machine-left c ∙ ap (λ (x : Result Machine). x .machine) same in
+    more c (record { lent = turnLog c; result = t }) refl (subst (Gives (c .reply) (c .after)) same (call-gives c))
+    (subst (λ (m : Machine). Gave cs (playOf origin r ts (afterOurs w m) .reports)) left (calls-gave origin r further))
+calls-gave origin r {w} (another {ts = ts} {cs = cs} c e f g further) =
+    let t = turnOf origin (swapped r) (c .words) (otherMachine w) (turnLog c) in
+    let left : turnEnd c ≡ t .machine = machine-left c ∙ ap (λ (x : Result Machine). x .machine) (ended-as c e f g) in
+    subst (λ (m : Machine). Gave cs (playOf origin r ts (afterTheirs w m) .reports)) left (calls-gave origin r further)
+
 pub plugins : Plugins
 plugins =
     record {
@@ -80,6 +104,7 @@ plugins =
       isolation = isolation;
       two-sequences = demand-3-each;
       two-fillings = other-half-each;
+      calls = calls-gave;
       call = call-gives;
       call-as-arm = λ c r. subst (Gives (c .reply) (c .after)) (turn-as-arm (c .origin) (c .ranges) (c .words) (turnStart c) (turnLog c) r) (call-gives c);
       call-answers = λ c. rw (call-gives c .answer) (turn-number (c .origin) (c .ranges) (c .words) (turnStart c) (turnLog c));

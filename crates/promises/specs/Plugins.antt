@@ -34,7 +34,7 @@ use Rattle.arm.specs.Choices.{armStepIn, badTurnStart}
 use Rattle.host.specs.declared.RunReply.{RunReply}
 use Rattle.host.specs.Hosting.{hosted, hostedOf}
 use Rattle.turns.specs.Sight.{In, Allowed, Sees, Framed}
-use Rattle.turns.specs.Turns.{World, ownMachine, swapped, Turn, playOf, swapTurn, swapWorld, SameOrder, ShowsPlay}
+use Rattle.turns.specs.Turns.{World, ownMachine, otherMachine, swapped, Turn, ours, theirs, afterOurs, afterTheirs, Report, playOf, swapTurn, swapWorld, SameOrder, ShowsPlay}
 use Rattle.turns.specs.Views.{Unchanged, SameOver, FilledOver}
 use Rattle.promises.specs.Answered.{oneOf, Answered, Is}
 use Rattle.promises.specs.Demands.{NotBegun}
@@ -71,6 +71,20 @@ turnLog c = log (c .before .trace) (c .before .statuses)
 
 abbrev pub called : TurnCall → Result Machine
 called c = turnOf (c .origin) (c .ranges) (c .words) (turnStart c) (turnLog c)
+
+-- the calls of a host for both plugins, in their order: each hands in what the plugin's own last call left, with the memory and marks
+-- that the last call of either left. Listed are ours
+pub data Calls (origin : ℕ) (r : Ranges) : World → List Turn → List TurnCall → Type 0 where
+  none : {w : World} → Calls origin r w [] []
+  mine : {w : World} {ts : List Turn} {cs : List TurnCall} → (c : TurnCall) → c .origin ≡ origin → c .ranges ≡ r → turnStart c ≡ ownMachine w
+      → Calls origin r (afterOurs w (turnEnd c)) ts cs → Calls origin r w (ours (c .words) (turnLog c) ∷ ts) (c ∷ cs)
+  another : {w : World} {ts : List Turn} {cs : List TurnCall} → (c : TurnCall) → c .origin ≡ origin → c .ranges ≡ swapped r → turnStart c ≡ otherMachine w
+      → Calls origin r (afterTheirs w (turnEnd c)) ts cs → Calls origin r w (theirs (c .words) (turnLog c) ∷ ts) cs
+
+-- each of our calls gives what the definition reports of that turn
+pub data Gave : List TurnCall → List Report → Type 0 where
+  nothing : Gave [] []
+  more : {cs : List TurnCall} {ps : List Report} → (c : TurnCall) (p : Report) → turnLog c ≡ p .lent → Gives (c .reply) (c .after) (p .result) → Gave cs ps → Gave (c ∷ cs) (p ∷ ps)
 
 -- ---- all of it
 
@@ -119,6 +133,8 @@ pub record Plugins : Type 0 where
       → ShowsPlay (SameOver (Sees origin r)) (playOf origin r ts w) (playOf origin r us v)
   pub two-fillings : (origin : ℕ) (r : Ranges) {ts us : List Turn} → SameOrder ts us → (w v : World) → FilledOver (Sees origin r) (ownMachine w) (ownMachine v)
       → ShowsPlay (FilledOver (Sees origin r)) (playOf origin r ts w) (playOf origin r us v)
+  -- the calls of a host are such a sequence: what is said above of ours is said of what they return and leave
+  pub calls : (origin : ℕ) (r : Ranges) {w : World} {ts : List Turn} {cs : List TurnCall} → Calls origin r w ts cs → Gave cs (playOf origin r ts w .reports)
   -- a turn of the library is such a turn, and Arm's where the machine is one that there is, as all are that code holds
   pub call : (c : TurnCall) → Gives (c .reply) (c .after) (called c)
   pub call-as-arm : (c : TurnCall) → Real (turnStart c)
