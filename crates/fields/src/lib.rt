@@ -12,6 +12,8 @@ pub use line::put_field;
 pub use line::put_monitor;
 pub use line::put_name;
 pub use line::put_numbers;
+pub use line::put_register;
 pub use line::put_registers;
+pub use line::put_vector;
 pub use line::put_vectors;
 pub use line::remark;

@@ -57,7 +57,7 @@ pub fn put_registers(output: &mut [u8], at: usize, file: Registers) -> usize {
     ascii::put_byte(output, end, b'\n')
 }
 
-fn put_register(output: &mut [u8], at: usize, value: u64, taints: u64) -> usize {
+pub fn put_register(output: &mut [u8], at: usize, value: u64, taints: u64) -> usize {
     let tab_end = ascii::put_byte(output, at, b'\t');
     let value_end = put_hex(output, tab_end, value, 16);
     if taints == 0 {
@@ -88,7 +88,7 @@ pub fn put_vectors(
     ascii::put_byte(output, end, b'\n')
 }
 
-fn put_vector(output: &mut [u8], at: usize, value: Halves, taint: Halves) -> usize {
+pub fn put_vector(output: &mut [u8], at: usize, value: Halves, taint: Halves) -> usize {
     let tab_end = ascii::put_byte(output, at, b'\t');
     let high_end = put_hex(output, tab_end, value.high, 16);
     let low_end = put_hex(output, high_end, value.low, 16);
