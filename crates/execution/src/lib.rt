@@ -164,7 +164,7 @@ fn walk(
     let mut last = no_code(0);
     let mut i = 0;
     while i < words.len() {
-        match machine::decide_within(
+        match machine::decide(
             words[i],
             state.pc,
             state.monitor,

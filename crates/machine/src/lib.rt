@@ -79,6 +79,7 @@ pub fn step(
         state.pc,
         state.monitor,
         window,
+        Reach::Alone,
         &state.registers.value,
         &state.registers.taint,
         &vectors,
@@ -176,38 +177,8 @@ pub fn next_pc(pc: u64) -> u64
     std::num::wrapping_add_u64(pc, 4)
 }
 
-// The first half, of a plugin alone.
-pub fn decide<'a>(
-    word: u32,
-    pc: u64,
-    monitor: Monitor,
-    window: Window,
-    value: &'a [u64; 32],
-    tainted: &'a [u64; 32],
-    vectors: &[[u64; 2]; 32],
-    vector_taint: &[[u64; 2]; 32],
-    memory: &mut [u8],
-    taint: &mut [u8],
-) -> Decision
-    ensures { λ r. ⌜ told (stateOf (now (value .entry)) (now (tainted .entry)) pc monitor) (now (vectors .entry)) (now («vector_taint» .entry)) r (now (memory .exit)) (now (taint .exit)) ≡ ends (stepOf window word) (machineOf (stateOf (now (value .entry)) (now (tainted .entry)) pc monitor) (now (vectors .entry)) (now («vector_taint» .entry)) (now (memory .entry)) (now (taint .entry))) ⌝ }
-{
-    decide_within(
-        word,
-        pc,
-        monitor,
-        window,
-        Reach::Alone,
-        value,
-        tainted,
-        vectors,
-        vector_taint,
-        memory,
-        taint,
-    )
-}
-
 // The first half, by what may be reached. The arrays of the register file are lent, so that reading a register copies nothing.
-pub fn decide_within<'a>(
+pub fn decide<'a>(
     word: u32,
     pc: u64,
     monitor: Monitor,

@@ -5,6 +5,7 @@ mod watch;
 
 use instruction::Answer;
 use machine::Decision;
+use machine::Reach;
 use machine::Shown;
 use machine::State;
 use machine::Window;
@@ -155,6 +156,7 @@ fn step_replied(
         state.pc,
         state.monitor,
         Window { origin, readonly },
+        Reach::Alone,
         &state.registers.value,
         &state.registers.taint,
         vectors,

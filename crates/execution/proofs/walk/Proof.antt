@@ -36,8 +36,8 @@ walk-spec =
     (λ c. search needs)
     (λ c κs. search needs)
     (λ c κs. search needs)
-    (λ c. omega (arith, c .before .before .before .before .before .before .before .before .before .before .before .before .before .before .before .before .before .before .before .before .loop .inv .1, c .before .before .before .before .before .before .before .before .before .decide-within .kept .1 .1 .1 .1 .1 .1 .1 .1 .1 .0))
-    (λ c. omega (arith, c .before .before .before .before .before .before .before .before .before .before .before .before .before .before .before .before .before .before .before .before .loop .inv .2, c .before .before .before .before .before .before .before .before .before .decide-within .kept .1 .1 .1 .1 .1 .1 .1 .1 .1 .1 .0))
+    (λ c. omega (arith, c .before .before .before .before .before .before .before .before .before .before .before .before .before .before .before .before .before .before .before .before .loop .inv .1, c .before .before .before .before .before .before .before .before .before .decide .kept .1 .1 .1 .1 .1 .1 .1 .1 .1 .0))
+    (λ c. omega (arith, c .before .before .before .before .before .before .before .before .before .before .before .before .before .before .before .before .before .before .before .before .loop .inv .2, c .before .before .before .before .before .before .before .before .before .decide .kept .1 .1 .1 .1 .1 .1 .1 .1 .1 .1 .0))
     (λ c. omega (arith, c .before .before .before .before .before .before .before .before .before .before .before .before .before .before .before .before .before .before .before .before .loop .inv .3))
     (λ c. omega (arith, c .before .before .before .before .before .before .before .before .before .before .before .before .before .before .before .before .before .before .before .before .loop .inv .4))
     (λ c.
@@ -45,7 +45,7 @@ walk-spec =
     let a = c .before .before .before .before .before .before .before .before .before .before .before .before .before .before .before .before .before .before .before .before .before .before .before .before .before .before .before .args in
     let below = c .before .before .before .before .before .before .before .before .before .before .before .before .before .before .before .before .before .before .before .loop-test .taken in
     let m = machineOf (l .state) (l .vectors) (l .vector-taint) (l .memory) (l .taint) in
-    let told = rw (c .before .before .before .answer .given .1) at (c .before .before .before .before .before .before .before .before .before .decide-within .ensures) in
+    let told = rw (c .before .before .before .answer .given .1) at (c .before .before .before .before .before .before .before .before .before .decide .ensures) in
     c .ended .ensures (l .vectors) (l .vector-taint) _ _ _ _ ∙ rw (c .before .no-code2 .ensures) (stops (stepIn (a .window) (a .reach)) (a .words .now) (l .i) m (log (l .trace) (l .statuses)) (l .last) below (l .inv .7) told))
     (λ c. search needs)
     (λ c κs.
@@ -59,7 +59,7 @@ walk-spec =
     let a = c .before .before .before .before .before .before .before .before .before .before .before .before .before .before .before .before .before .before .before .before .before .before .before .before .before .before .before .before .before .before .before .before .before .args in
     let below = c .before .before .before .before .before .before .before .before .before .before .before .before .before .before .before .before .before .before .before .before .before .before .before .before .before .loop-test .taken in
     let m = machineOf (l .state) (l .vectors) (l .vector-taint) (l .memory) (l .taint) in
-    let made = c .before .before .before .before .before .before .before .before .before .before .before .before .before .before .before .decide-within in
+    let made = c .before .before .before .before .before .before .before .before .before .before .before .before .before .before .before .decide in
     let told = rw (c .before .before .before .before .before .before .before .before .before .shown .given .1) at (made .ensures) in
     let next = c .before .before .before .before .before .noted in (
       omega (arith, below, next .ensures .0),
@@ -83,7 +83,7 @@ walk-spec =
     let a = c .before .before .before .before .before .before .before .before .before .before .before .before .before .before .before .before .before .before .before .before .before .before .before .before .before .before .before .before .before .before .before .before .before .args in
     let below = c .before .before .before .before .before .before .before .before .before .before .before .before .before .before .before .before .before .before .before .before .before .before .before .before .before .loop-test .taken in
     let m = machineOf (l .state) (l .vectors) (l .vector-taint) (l .memory) (l .taint) in
-    let made = c .before .before .before .before .before .before .before .before .before .before .before .before .before .before .before .decide-within in
+    let made = c .before .before .before .before .before .before .before .before .before .before .before .before .before .before .before .decide in
     let told = rw (c .before .before .before .before .before .before .before .before .before .shown2 .given .1) at (made .ensures) in
     let next = c .before .before .before .before .before .noted2 in (
       omega (arith, below, next .ensures .0),
@@ -109,7 +109,7 @@ walk-spec =
     let a = c .before .before .before .before .before .before .before .before .before .before .before .before .before .before .before .before .before .before .before .before .before .before .before .before .before .before .before .before .before .before .before .before .before .before .before .before .before .args in
     let below = c .before .before .before .before .before .before .before .before .before .before .before .before .before .before .before .before .before .before .before .before .before .before .before .before .before .before .before .before .before .loop-test .taken in
     let m = machineOf (l .state) (l .vectors) (l .vector-taint) (l .memory) (l .taint) in
-    let made = c .before .before .before .before .before .before .before .before .before .before .before .before .before .before .before .before .before .before .before .decide-within in
+    let made = c .before .before .before .before .before .before .before .before .before .before .before .before .before .before .before .before .before .before .before .decide in
     let told = rw (c .before .before .before .before .before .before .before .before .before .before .before .before .before .shown3 .given .1) at (made .ensures) in
     let next = c .before .before .before .before .before .before .before .before .before .noted3 in (
       omega (arith, below, next .ensures .0),

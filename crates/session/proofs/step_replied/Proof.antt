@@ -53,8 +53,8 @@ step-replied-spec =
     let m = machineOf (a .t2) (a .vectors .now) (a .vector-taint .now) (a .memory .now) (a .taint .now) in
     let told = rw (c .before .before .before .shown2 .given .1) at (c .before .before .before .before .before .before .before .before .before .decide .ensures) in
     rw (c .with-reply3 .ensures, c .before .settled .ensures) (ap lentOf (shows m (stepOf w (a .word) m) told)))
-    (λ c. omega (arith, c .before .before .before .before .before .before .before .before .before .before .before .before .before .decide .kept .1 .1 .1 .1 .1 .1 .1 .1 .0))
     (λ c. omega (arith, c .before .before .before .before .before .before .before .before .before .before .before .before .before .decide .kept .1 .1 .1 .1 .1 .1 .1 .1 .1 .0))
+    (λ c. omega (arith, c .before .before .before .before .before .before .before .before .before .before .before .before .before .decide .kept .1 .1 .1 .1 .1 .1 .1 .1 .1 .1 .0))
     (λ c.
     let a = c .before .before .before .before .before .before .before .before .before .before .before .before .before .before .before .before .before .before .before .before .before .before .before .before .args in
     let w : Window = record { origin = a .origin; readonly = a .readonly } in

@@ -1,13 +1,13 @@
--- `machine::decide_within` meets its contract. Assumes nothing.
+-- `machine::decide` meets its contract. Assumes nothing.
 use mathlib.Core.Path.{sym, _∙_}
 use Rattle.plan.proofs.Tests.{same-lengths}
 use Rattle.machine.proofs.Answers.{step-in}
 use borrow.Author.Needs.{needs}
-use Rattle.machine.proofs.decide_within.Statement.{statement}
-use Rattle.machine.proofs.decide_within.Tie as tie
+use Rattle.machine.proofs.decide.Statement.{statement}
+use Rattle.machine.proofs.decide.Tie as tie
 
-pub decide-within-spec : {M : Type 1} → statement M
-decide-within-spec =
+pub decide-spec : {M : Type 1} → statement M
+decide-spec =
     tie.close
     (tie.spec
     (λ c κs. search needs)
