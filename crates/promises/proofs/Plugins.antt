@@ -1,14 +1,15 @@
 -- Two plugins, one memory: every sentence is a law of crate turns, or one of machine and execution at the reach of a turn. A call of the
 -- library carries them over its contract. Assumes nothing.
-use Prim.Native.Nat.{ℕ, _+_}
+use Prim.Native.Nat.{ℕ, _+_, _*_}
 use mathlib.Core.Path.{_≡_, refl, sym, ap, subst, _∙_}
 use mathlib.Core.Bool.{Bool, true, false, _||_}
 use mathlib.Core.List.{List}
-use lib.ListN.{length}
+use lib.ListN.{length, take}
 use Rattle.instruction.specs.Answers.{answerNumber}
 use Rattle.plan.specs.declared.ranges.Ranges.{Ranges}
 use Rattle.plan.specs.declared.ranges.Reach.the-variants.{Ranged}
 use Rattle.plan.specs.Ranges.{badRanges}
+use Rattle.machine.specs.declared.Shown.{Shown}
 use Rattle.machine.specs.Rule.{wordRule}
 use Rattle.machine.specs.Machine.{Machine}
 use Rattle.machine.specs.Refusals.{bad}
@@ -16,11 +17,13 @@ use Rattle.machine.proofs.Answers.{answers-in}
 use Rattle.execution.specs.Walk.{Log, log, Result, afterSteps}
 use Rattle.execution.specs.Ends.{Early}
 use Rattle.execution.specs.Run.{plainWindow, badTurn, turnStep, turnOf}
+use Rattle.execution.specs.Secrecy.{ShowsRun}
 use Rattle.execution.proofs.Walks.{run-bad, run-short}
 use Rattle.arm.proofs.Runs.{turn-as-arm}
 use Rattle.host.specs.Hosting.{Hosted, hostedOf}
-use Rattle.turns.specs.Sight.{In, Framed}
-use Rattle.turns.specs.Turns.{World, ownMachine, otherMachine, swapped, Turn, afterOurs, afterTheirs, playOf}
+use Rattle.turns.specs.Sight.{In, Sees, Framed}
+use Rattle.turns.specs.Turns.{World, ownMachine, otherMachine, swapped, Turn, afterOurs, afterTheirs, Report, playOf, SameOrder, Reports, ShowsPlay}
+use Rattle.turns.specs.Views.{Unchanged, SameOver, FilledOver}
 use Rattle.turns.proofs.Ranges.{share-exact, bad-both}
 use Rattle.turns.proofs.Frames.{turn-framed}
 use Rattle.turns.proofs.Plays.{play-swapped}
@@ -28,7 +31,7 @@ use Rattle.turns.proofs.Views.{isolation, demand-3-each, other-half-each, taint
 use Rattle.turns.proofs.Answers.{turn-given, turn-early, turn-begun, turn-ends, turn-keeps, turn-allowed}
 use Rattle.promises.specs.Demands.{NotBegun}
 use Rattle.promises.specs.Library.{Gives}
-use Rattle.promises.specs.Plugins.{TurnCall, turnStart, turnEnd, turnLog, called, Calls, none, mine, another, Gave, nothing, more, Plugins}
+use Rattle.promises.specs.Plugins.{TurnCall, turnStart, turnEnd, turnLog, called, Calls, none, mine, another, Gave, nothing, more, TurnsShow, AllShow, neither, both, CallsShow, Plugins}
 use Rattle.promises.proofs.Answered.{by-definition, turn-number}
 use Rattle.promises.proofs.Demands.{not-begun}
 use Rattle.promises.proofs.Library.{gives, as-before}
@@ -75,12 +78,41 @@ calls-gave origin r {w} (mine {ts = ts} {cs = cs} c e f g further) =
     let t = turnOf origin r (c .words) (ownMachine w) (turnLog c) in
     let same : called c ≡ t = ended-as c e f g in
     let left : turnEnd c ≡ t .machine = machine-left c ∙ ap (λ (x : Result Machine). x .machine) same in
-    more c (record { lent = turnLog c; result = t }) refl (subst (Gives (c .reply) (c .after)) same (call-gives c))
+    more c (record { lent = turnLog c; result = t }) refl left (subst (Gives (c .reply) (c .after)) same (call-gives c))
     (subst (λ (m : Machine). Gave cs (playOf origin r ts (afterOurs w m) .reports)) left (calls-gave origin r further))
 calls-gave origin r {w} (another {ts = ts} {cs = cs} c e f g further) =
     let t = turnOf origin (swapped r) (c .words) (otherMachine w) (turnLog c) in
     let left : turnEnd c ≡ t .machine = machine-left c ∙ ap (λ (x : Result Machine). x .machine) (ended-as c e f g) in
     subst (λ (m : Machine). Gave cs (playOf origin r ts (afterTheirs w m) .reports)) left (calls-gave origin r further)
+
+-- two calls whose turns the definition reports, where it shows the same of both
+turns-show : (R : Machine → Machine → Type 0) (c d : TurnCall) (p q : Report) → turnLog c ≡ p .lent → turnLog d ≡ q .lent → turnEnd c ≡ p .result .machine → turnEnd d ≡ q .result .machine
+    → Gives (c .reply) (c .after) (p .result) → Gives (d .reply) (d .after) (q .result) → ShowsRun R (p .result) (q .result) → (p .lent ≡ q .lent → p .result .log ≡ q .result .log) → TurnsShow R c d
+turns-show R c d p q lent lent′ left left′ g h s logs =
+    record {
+      answer = g .answer ∙ ap answerNumber (s .answer) ∙ sym (h .answer);
+      code = g .code ∙ ap (λ (x : Shown). x .code) (s .shown) ∙ sym (h .code);
+      address = g .address ∙ ap (λ (x : Shown). x .address) (s .shown) ∙ sym (h .address);
+      steps = g .steps ∙ s .steps ∙ sym (h .steps);
+      trace = same-part (λ n. n * 2) (g .steps) (g .trace) (h .steps) (h .trace) (s .trace);
+      statuses = same-part (λ n. n) (g .steps) (g .statuses) (h .steps) (h .statuses) (s .statuses);
+      machine = subst (λ (m : Machine). R m (turnEnd d)) (sym left) (subst (R (p .result .machine)) (sym left′) (s .machine));
+      logs = λ e. log-same (g .trace) (g .statuses) ∙ logs (sym lent ∙ e ∙ lent′) ∙ sym (log-same (h .trace) (h .statuses));
+    }
+  where
+    same-part : (f : ℕ → ℕ) {n m j k : ℕ} {xs ys zs us : List ℕ} → n ≡ j → xs ≡ zs → m ≡ k → ys ≡ us → take (f j) zs ≡ take (f k) us → take (f n) xs ≡ take (f m) ys
+    same-part f e g i h t = rw (e, g, i, h) t
+
+    log-same : {x y : List ℕ} {l : Log} → x ≡ l .trace → y ≡ l .statuses → log x y ≡ l
+    log-same e f = rw (e, f)
+
+all-show : (R : Machine → Machine → Type 0) {cs ds : List TurnCall} {ps qs : List Report} → Gave cs ps → Gave ds qs → Reports R ps qs → AllShow R cs ds
+all-show R nothing nothing Reports.none = neither
+all-show R (more c p lent left g further) (more d q lent′ left′ h others) (Reports.more s logs rest) = both c d (turns-show R c d p q lent lent′ left left′ g h s logs) (all-show R further others rest)
+
+calls-show : (origin : ℕ) (r : Ranges) (R : Machine → Machine → Type 0)
+    → ((ts us : List Turn) → SameOrder ts us → (w v : World) → R (ownMachine w) (ownMachine v) → ShowsPlay R (playOf origin r ts w) (playOf origin r us v)) → CallsShow origin r R
+calls-show origin r R shows w v ts us cs ds order c d h = all-show R (calls-gave origin r c) (calls-gave origin r d) (shows ts us order w v h .reports)
 
 pub plugins : Plugins
 plugins =
@@ -105,6 +137,9 @@ plugins =
       two-sequences = demand-3-each;
       two-fillings = other-half-each;
       calls = calls-gave;
+      calls-isolated = λ origin r. calls-show origin r (Unchanged (Sees origin r)) (λ ts us order. isolation origin r order);
+      calls-secret = λ origin r. calls-show origin r (SameOver (Sees origin r)) (λ ts us order. demand-3-each origin r order);
+      calls-filled = λ origin r. calls-show origin r (FilledOver (Sees origin r)) (λ ts us order. other-half-each origin r order);
       call = call-gives;
       call-as-arm = λ c r. subst (Gives (c .reply) (c .after)) (turn-as-arm (c .origin) (c .ranges) (c .words) (turnStart c) (turnLog c) r) (call-gives c);
       call-answers = λ c. rw (call-gives c .answer) (turn-number (c .origin) (c .ranges) (c .words) (turnStart c) (turnLog c));

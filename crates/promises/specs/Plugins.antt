@@ -2,12 +2,12 @@
 -- that a turn returns and leaves, of origin, ranges, words, the machine of the plugin whose turn it is and the lent trace and
 -- statuses. `playOf` is a sequence of turns, as one of the two sees it: ours are its own. What a host is given of a turn is said
 -- below, field by field.
-use Prim.Native.Nat.{ℕ, _+_}
+use Prim.Native.Nat.{ℕ, _+_, _*_}
 use mathlib.Core.Path.{_≡_}
 use mathlib.Core.Bool.{true, false}
 use mathlib.Core.List.{List, [], _∷_, map}
 use mathlib.Core.Logic.{_↔_}
-use lib.ListN.{length}
+use lib.ListN.{length, take}
 use Rattle.instruction.specs.Answers.{answerNumber}
 use Rattle.access.specs.declared.transfer.Transfer.{Transfer}
 use Rattle.access.specs.declared.addressing.Addressing.{Addressing}
@@ -84,7 +84,29 @@ pub data Calls (origin : ℕ) (r : Ranges) : World → List Turn → List TurnCa
 -- each of our calls gives what the definition reports of that turn
 pub data Gave : List TurnCall → List Report → Type 0 where
   nothing : Gave [] []
-  more : {cs : List TurnCall} {ps : List Report} → (c : TurnCall) (p : Report) → turnLog c ≡ p .lent → Gives (c .reply) (c .after) (p .result) → Gave cs ps → Gave (c ∷ cs) (p ∷ ps)
+  more : {cs : List TurnCall} {ps : List Report} → (c : TurnCall) (p : Report) → turnLog c ≡ p .lent → turnEnd c ≡ p .result .machine → Gives (c .reply) (c .after) (p .result) → Gave cs ps
+      → Gave (c ∷ cs) (p ∷ ps)
+
+-- two calls that show the same, with the two numbers of the trace and the status for each step done, and leave machines in a relation;
+-- and all of trace and statuses, where the same were lent
+pub record TurnsShow (R : Machine → Machine → Type 0) (c d : TurnCall) : Type 0 where
+  pub answer : c .reply .answer ≡ d .reply .answer
+  pub code : c .reply .code ≡ d .reply .code
+  pub address : c .reply .address ≡ d .reply .address
+  pub steps : c .reply .steps ≡ d .reply .steps
+  pub trace : take (c .reply .steps * 2) (c .after .trace) ≡ take (d .reply .steps * 2) (d .after .trace)
+  pub statuses : take (c .reply .steps) (c .after .statuses) ≡ take (d .reply .steps) (d .after .statuses)
+  pub machine : R (turnEnd c) (turnEnd d)
+  pub logs : turnLog c ≡ turnLog d → log (c .after .trace) (c .after .statuses) ≡ log (d .after .trace) (d .after .statuses)
+
+pub data AllShow (R : Machine → Machine → Type 0) : List TurnCall → List TurnCall → Type 0 where
+  neither : AllShow R [] []
+  both : {cs ds : List TurnCall} → (c d : TurnCall) → TurnsShow R c d → AllShow R cs ds → AllShow R (c ∷ cs) (d ∷ ds)
+
+-- for every order of turns and any calls of two hosts, from worlds in which our machines are in a relation, each of our calls shows the same
+abbrev pub CallsShow : ℕ → Ranges → (Machine → Machine → Type 0) → Type 0
+CallsShow origin r R =
+    (w v : World) (ts us : List Turn) (cs ds : List TurnCall) → SameOrder ts us → Calls origin r w ts cs → Calls origin r v us ds → R (ownMachine w) (ownMachine v) → AllShow R cs ds
 
 -- ---- all of it
 
@@ -133,8 +155,11 @@ pub record Plugins : Type 0 where
       → ShowsPlay (SameOver (Sees origin r)) (playOf origin r ts w) (playOf origin r us v)
   pub two-fillings : (origin : ℕ) (r : Ranges) {ts us : List Turn} → SameOrder ts us → (w v : World) → FilledOver (Sees origin r) (ownMachine w) (ownMachine v)
       → ShowsPlay (FilledOver (Sees origin r)) (playOf origin r ts w) (playOf origin r us v)
-  -- the calls of a host are such a sequence: what is said above of ours is said of what they return and leave
+  -- the calls of a host are such a sequence, and all three hold of what they return and leave
   pub calls : (origin : ℕ) (r : Ranges) {w : World} {ts : List Turn} {cs : List TurnCall} → Calls origin r w ts cs → Gave cs (playOf origin r ts w .reports)
+  pub calls-isolated : (origin : ℕ) (r : Ranges) → CallsShow origin r (Unchanged (Sees origin r))
+  pub calls-secret : (origin : ℕ) (r : Ranges) → CallsShow origin r (SameOver (Sees origin r))
+  pub calls-filled : (origin : ℕ) (r : Ranges) → CallsShow origin r (FilledOver (Sees origin r))
   -- a turn of the library is such a turn, and Arm's where the machine is one that there is, as all are that code holds
   pub call : (c : TurnCall) → Gives (c .reply) (c .after) (called c)
   pub call-as-arm : (c : TurnCall) → Real (turnStart c)
