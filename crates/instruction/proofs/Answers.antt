@@ -1,20 +1,18 @@
 -- An answer's number tells which it is. Assumes nothing.
-use Prim.Native.Nat.{ℕ, _-_}
+use Prim.Native.Nat.{ℕ}
 use mathlib.Core.Path.{_≡_, refl, sym, ap, _∙_}
 use mathlib.Core.List.{_∷_, []}
-use lib.Dec.{ltb}
 use lib.ListN.{getD}
-use Rattle.bits.specs.Choice.{pick}
 use Rattle.instruction.specs.Types.{Answer}
 use Rattle.instruction.specs.Answers.{answerNumber}
 
--- 13 to 15 are no number of an answer
 answerAt : ℕ → Answer
 answerAt n =
     getD
     (Answer.Done ∷ Answer.BadWindow ∷ Answer.NotInSet ∷ Answer.Undefined ∷ Answer.Unpredictable ∷ Answer.TaintedAddress ∷ Answer.Misaligned ∷ Answer.OutOfWindow
-    ∷ Answer.ReadOnly ∷ Answer.NoSuchText ∷ Answer.NoRoom ∷ Answer.NoSuchInstruction ∷ Answer.NotAllowed ∷ Answer.Closed ∷ Answer.BadTrace ∷ Answer.AfterEnd ∷ [])
-    (pick (ltb n 13) n (n - 3)) Answer.Done
+    ∷ Answer.ReadOnly ∷ Answer.NoSuchText ∷ Answer.NoRoom ∷ Answer.NoSuchInstruction ∷ Answer.NotAllowed ∷ Answer.Malformed ∷ Answer.BadChecksum ∷ Answer.BadRecordType
+    ∷ Answer.Closed ∷ Answer.BadTrace ∷ Answer.AfterEnd ∷ [])
+    n Answer.Done
 
 number-back : (a : Answer) → answerAt (answerNumber a) ≡ a
 unfolding answerAt
@@ -31,6 +29,9 @@ number-back Answer.NoSuchText = refl
 number-back Answer.NoRoom = refl
 number-back Answer.NoSuchInstruction = refl
 number-back Answer.NotAllowed = refl
+number-back Answer.Malformed = refl
+number-back Answer.BadChecksum = refl
+number-back Answer.BadRecordType = refl
 number-back Answer.Closed = refl
 number-back Answer.BadTrace = refl
 number-back Answer.AfterEnd = refl
