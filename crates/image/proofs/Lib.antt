@@ -1,0 +1,11 @@
+pub mod Digits
+pub mod Cuts
+pub mod Steps
+pub mod Loops
+pub mod Tests
+pub mod Texts
+pub mod Faults
+pub mod Addresses
+pub mod Verdicts
+pub mod Written
+pub mod Back
