@@ -27,7 +27,8 @@ import sys
 from typing import NamedTuple
 
 CRATES = pathlib.Path(__file__).resolve().parent.parent / 'crates'
-PAGES = [CRATES / 'promises/specs' / name for name in ('Demands.antt', 'Library.antt', 'Numbers.antt', 'Why.antt', 'Plugins.antt')]
+PAGE_NAMES = 'Demands', 'Library', 'Numbers', 'Why', 'Plugins', 'Images'
+PAGES = [CRATES / 'promises/specs' / f'{name}.antt' for name in PAGE_NAMES]
 # With a dot before it, it is a projection, or stands behind its type or module.
 WORD = re.compile(r'(\.?)([^\s(){}\[\];:,.&<>⌜⌝]+)')
 HEAD = re.compile(r'(?:(?:unfoldable|abbrev|pub) )*(?:(record|data|use|mod) )?(\S+)( :)?')

@@ -4,4 +4,5 @@ pub mod Library
 pub mod Numbers
 pub mod Why
 pub mod Plugins
+pub mod Images
 pub mod Vectors

@@ -4,3 +4,4 @@ pub mod Library
 pub mod Numbers
 pub mod Why
 pub mod Plugins
+pub mod Images
