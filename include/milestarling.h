@@ -32,8 +32,8 @@
  *
  * A compiler that can warns where what a function answers is dropped (MILESTARLING_MUST_USE).
  *
- * The last part of this file has the run, the step, the turn of one of two plugins and the question why a byte is tainted over
- * structs, whose parts can't be taken for each other.
+ * The last part of this file has the run, the step, the turn of one of two plugins, the import of an image and the question why a
+ * byte is tainted over structs, whose parts can't be taken for each other.
  */
 #ifndef MILESTARLING_H
 #define MILESTARLING_H
@@ -115,6 +115,12 @@ enum milestarling_answer {
     MILESTARLING_NO_SUCH_INSTRUCTION = 11,
     /* in a turn, an access that lies neither wholly in the plugin's own range nor, being a load, wholly in the shared one */
     MILESTARLING_NOT_ALLOWED = 12,
+    /* a line of an image isn't one of Intel HEX, stands after the end, or there is no end */
+    MILESTARLING_MALFORMED = 13,
+    /* the bytes of an image's line don't add up to 0 */
+    MILESTARLING_BAD_CHECKSUM = 14,
+    /* a line of an image has a type other than 00, 01 and 04 */
+    MILESTARLING_BAD_RECORD_TYPE = 15,
     /* the lister is closed, or is said to hold more than three bytes */
     MILESTARLING_CLOSED = 16,
     /* words, trace or statuses are too short for the steps, or a step is none that a run leaves */
@@ -287,6 +293,12 @@ struct milestarling_lister_reply {
     struct milestarling_lister lister;
     uint64_t answer;
     uint64_t length;
+};
+
+/* The number of the line that is refused, from 1: 0 where no line is. */
+struct milestarling_import_reply {
+    uint64_t answer;
+    uint64_t line;
 };
 
 /* How many links there are: 0 where the place isn't tainted, and where the answer isn't 0. */
@@ -487,6 +499,38 @@ struct milestarling_why_reply milestarling_why(
     uint64_t origin, uint64_t readonly, uint64_t memory_length,
     uint64_t step, uint64_t kind, uint64_t number, uint64_t byte,
     uint64_t *links, size_t links_length);
+
+/*
+ * Reads a whole memory image in Intel HEX into memory, and takes the taint from each byte that it writes. It is the host's call,
+ * before a run or between two: the read-only part may be filled too.
+ *
+ * text             lines, each ended by a newline: a colon and pairs of hexadecimal digits, in either case, for the count, two
+ *                  bytes of offset, the type, as many bytes as the count says, and the checksum. Type 00 has data, 04 the upper
+ *                  half of the addresses behind it, and 01 is the last line
+ * origin, readonly, memory, taint    as milestarling_run takes them
+ *
+ * The address of a data byte is the upper half times 65,536, and the line's offset and the byte's index added, modulo 2^32. A
+ * byte that comes later replaces an earlier one.
+ *
+ * Answers, and with any but 0 memory and taint are as they were: 1 where memory ends above the address space or is shorter than
+ * its read-only part, or there isn't a taint byte for each of its bytes. Then that of the lowest line that has a fault, of which
+ * the first is given:
+ *
+ * 13   the line isn't as above, with nothing else in it: a carriage return, a space or a missing newline too; or its count isn't
+ *      0 in type 01, or 2 in type 04; or it stands after the end. A missing end is told of the line after the last
+ * 14   the bytes of the line don't add up to a multiple of 256
+ * 15   its type is another. How to get a text with none: docs/ANSWERS.md
+ *  7   a byte of it isn't inside memory
+ *
+ * The time is linear in the text, and nothing is kept or allocated. milestarling_memory_import, below, takes the same from where
+ * it stands.
+ */
+MILESTARLING_MUST_USE
+struct milestarling_import_reply milestarling_import(
+    const uint8_t *text, size_t text_length,
+    uint64_t origin, uint64_t readonly,
+    uint8_t *memory, size_t memory_length,
+    uint8_t *taint, size_t taint_length);
 
 /*
  * Writes the line of text of a word to the start of a buffer, without a zero at its end. Answers 0, 2, 3 or 10;
@@ -863,6 +907,19 @@ static inline struct milestarling_step_reply milestarling_session_step(
         memory.taint_length != 0 ? memory.taint : no_taint, memory.taint_length);
 }
 
+/* milestarling_import into memory. */
+MILESTARLING_MUST_USE
+static inline struct milestarling_import_reply milestarling_memory_import(
+    struct milestarling_memory memory, const uint8_t *text, size_t text_length)
+{
+    const uint8_t no_text[1] = {0};
+    uint8_t no_bytes[1] = {0}, no_taint[1] = {0};
+    return milestarling_import(
+        text_length != 0 ? text : no_text, text_length, memory.origin, memory.readonly,
+        memory.length != 0 ? memory.bytes : no_bytes, memory.length,
+        memory.taint_length != 0 ? memory.taint : no_taint, memory.taint_length);
+}
+
 /* Opens the monitor if another session's run has stored to what it watches: the trace and the statuses are that run's, and
    so many of them are looked at as it has done steps, also where it was refused then. */
 static inline void milestarling_observe_run(
@@ -1058,6 +1115,12 @@ static inline const char *milestarling_answer_text(uint64_t answer)
         return "no word has this instruction, or there is no such register or byte";
     case MILESTARLING_NOT_ALLOWED:
         return "the access is neither in the plugin's own range nor, for a load, in the shared one";
+    case MILESTARLING_MALFORMED:
+        return "the line isn't one of Intel HEX, stands after the end, or the end is missing";
+    case MILESTARLING_BAD_CHECKSUM:
+        return "the checksum of the line is wrong";
+    case MILESTARLING_BAD_RECORD_TYPE:
+        return "the type of the line isn't 00, 01 or 04";
     case MILESTARLING_CLOSED:
         return "the lister is closed, or is said to hold more than three bytes";
     case MILESTARLING_BAD_TRACE:

@@ -43,6 +43,7 @@ typedef char length_at_8[offsetof(struct milestarling_range, length) == 8 ? 1 : 
 typedef char shared_at_0[offsetof(struct milestarling_ranges, shared) == 0 ? 1 : -1];
 typedef char own_at_16[offsetof(struct milestarling_ranges, own) == 16 ? 1 : -1];
 typedef char other_at_32[offsetof(struct milestarling_ranges, other) == 32 ? 1 : -1];
+typedef char import_reply_has_16_bytes[sizeof(struct milestarling_import_reply) == 16 ? 1 : -1];
 typedef char why_reply_has_16_bytes[sizeof(struct milestarling_why_reply) == 16 ? 1 : -1];
 typedef char link_has_24_bytes[sizeof(struct milestarling_link) == 8 * MILESTARLING_LINK_NUMBERS ? 1 : -1];
 typedef char access_has_16_bytes[sizeof(struct milestarling_access) == 8 * MILESTARLING_TRACE_NUMBERS ? 1 : -1];
@@ -596,6 +597,33 @@ static void plugins_take_turns(void)
     hold(ran.answer == MILESTARLING_BAD_WINDOW && same(&ran.session, &before), "by the numbers themselves");
 }
 
+static void an_image_is_imported(void)
+{
+    static const char image[] = ":020000040001F9\n:04000200deadbeefc2\n:00000001FF\n";
+    static const char late[] = ":020000040001F9\n:04000200DEADBEEFC2\n:00000001FE\n";
+    uint8_t filled[8] = {1, 1, 1, 1, 1, 1, 1, 1}, marks[8] = {1, 1, 1, 1, 1, 1, 1, 1};
+    const uint8_t before[8] = {1, 1, 1, 1, 1, 1, 1, 1}, after[8] = {1, 1, 0xde, 0xad, 0xbe, 0xef, 1, 1};
+    const uint8_t cleared[8] = {1, 1, 0, 0, 0, 0, 1, 1};
+    struct milestarling_memory memory = {NULL, 8, NULL, 8, 0x10000, 8};
+    struct milestarling_import_reply reply;
+    memory.bytes = filled;
+    memory.taint = marks;
+    reply = milestarling_memory_import(memory, (const uint8_t *)late, sizeof late - 1);
+    hold(reply.answer == MILESTARLING_BAD_CHECKSUM && reply.line == 3, "a line's checksum");
+    hold(memcmp(filled, before, 8) == 0 && memcmp(marks, before, 8) == 0, "a refused image changes nothing");
+    reply = milestarling_memory_import(memory, (const uint8_t *)image, sizeof image - 1);
+    hold(reply.answer == MILESTARLING_DONE && reply.line == 0, "an image");
+    hold(memcmp(filled, after, 8) == 0 && memcmp(marks, cleared, 8) == 0, "its bytes, untainted");
+    reply = milestarling_memory_import(memory, NULL, 0);
+    hold(reply.answer == MILESTARLING_MALFORMED && reply.line == 1, "no lines");
+    memory.origin = 0x10003;
+    reply = milestarling_memory_import(memory, (const uint8_t *)image, sizeof image - 1);
+    hold(reply.answer == MILESTARLING_OUT_OF_WINDOW && reply.line == 2, "a byte before memory");
+    memory.readonly = 9;
+    reply = milestarling_memory_import(memory, (const uint8_t *)image, sizeof image - 1);
+    hold(reply.answer == MILESTARLING_BAD_WINDOW && reply.line == 0, "a read-only part that is too long");
+}
+
 int main(void)
 {
     uint64_t answer;
@@ -618,6 +646,7 @@ int main(void)
     the_start_is_explained();
     a_copy_is_explained();
     plugins_take_turns();
+    an_image_is_imported();
     hold(same_vectors(&unused, &before), "words without vector registers leave them alone");
     hold(milestarling_list(over, 3, short_line, sizeof short_line).length == MILESTARLING_SHORT_MAX, "the short line");
     for (answer = 0; answer < 64; answer++) {

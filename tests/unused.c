@@ -46,6 +46,7 @@ int main(void)
     ANSWER(struct milestarling_session, milestarling_observed(session, 0, 0, 0));
     ANSWER(struct milestarling_why_reply, milestarling_why(words, 1, trace, 2, statuses, 1, 0, session.value_taint, kept->taint,
         taint, 4, 0, 0, 4, 0, 0, 0, 0, numbered, 3));
+    ANSWER(struct milestarling_import_reply, milestarling_import(statuses, 1, 0, 0, bytes, 4, taint, 4));
     ANSWER(struct milestarling_text_reply, milestarling_text(0, bytes, 4));
     ANSWER(struct milestarling_word_reply, milestarling_word(bytes, 4));
     ANSWER(struct milestarling_text_reply, milestarling_list(bytes, 4, taint, 4));
@@ -70,6 +71,7 @@ int main(void)
     ANSWER(struct milestarling_ranges, milestarling_ranges_swapped(ranges));
     ANSWER(struct milestarling_run_reply, milestarling_session_turn(shared, ranges, &session, &vectors, words, 1, NULL, 0, statuses,
         1));
+    ANSWER(struct milestarling_import_reply, milestarling_memory_import(memory, statuses, 1));
     ANSWER(struct milestarling_place, milestarling_place_register(0, 0));
     ANSWER(struct milestarling_place, milestarling_place_vector(0, 0));
     ANSWER(struct milestarling_place, milestarling_place_memory(0));

@@ -9,7 +9,7 @@ use std::fmt;
 ///
 /// assert_eq!(Answer::OutOfWindow.number(), 7);
 /// assert_eq!(Answer::try_from(8), Ok(Answer::ReadOnly));
-/// assert!(Answer::try_from(13).is_err());
+/// assert!(Answer::try_from(19).is_err());
 /// assert_eq!(Answer::TaintedAddress.to_string(), "the address would come from a secret value");
 /// ```
 #[derive(Clone, Copy, Debug, PartialEq, Eq, PartialOrd, Ord, Hash)]
@@ -48,6 +48,12 @@ pub enum Answer {
     /// The access of one of two plugins is neither wholly in its own range nor, for a load, wholly in the shared one
     /// ([`Shared`](crate::Shared)).
     NotAllowed = 12,
+    /// A line of an image isn't one of Intel HEX, stands after the end, or the end is missing.
+    Malformed = 13,
+    /// The bytes of an image's line don't add up to 0.
+    BadChecksum = 14,
+    /// A line of an image has a type other than 00, 01 and 04.
+    BadRecordType = 15,
     /// The lister is closed, or is said to hold more than three bytes.
     Closed = 16,
     /// The words, the trace or the statuses are too short for the steps, or no run leaves them so.
@@ -72,12 +78,15 @@ impl Answer {
         Answer::NoRoom,
         Answer::NoSuchInstruction,
         Answer::NotAllowed,
+        Answer::Malformed,
+        Answer::BadChecksum,
+        Answer::BadRecordType,
         Answer::Closed,
         Answer::BadTrace,
         Answer::AfterEnd,
     ];
 
-    /// The answer of each number up to the largest: not every number is an answer's.
+    /// The answer of each number up to the largest.
     const BY_NUMBER: [Option<Answer>; Answer::AfterEnd as usize + 1] = {
         let mut table = [None; Answer::AfterEnd as usize + 1];
         let mut place = 0;
@@ -124,6 +133,9 @@ impl fmt::Display for Answer {
             Answer::NoRoom => "the buffer, the trace or the list of statuses or links lent is too short",
             Answer::NoSuchInstruction => "no word has this instruction, or there is no such register or byte",
             Answer::NotAllowed => "the access is neither in the plugin's own range nor, for a load, in the shared one",
+            Answer::Malformed => "the line isn't one of Intel HEX, stands after the end, or the end is missing",
+            Answer::BadChecksum => "the checksum of the line is wrong",
+            Answer::BadRecordType => "the type of the line isn't 00, 01 or 04",
             Answer::Closed => "the lister is closed, or is said to hold more than three bytes",
             Answer::BadTrace => {
                 "the words, the trace or the statuses are too short for the steps, or no run leaves them so"

@@ -3,8 +3,8 @@
 #![allow(unsafe_code)]
 
 use crate::raw::{
-    DecodeReply, Lister, ListerReply, Numbers, RunReply, SessionRecord, StepReply, TextReply, VectorReply, WhyReply,
-    WordReply,
+    DecodeReply, ImportReply, Lister, ListerReply, Numbers, RunReply, SessionRecord, StepReply, TextReply, VectorReply,
+    WhyReply, WordReply,
 };
 use crate::{Ranges, Taint};
 
@@ -105,6 +105,16 @@ extern "C" {
         links: *mut u64,
         links_len: usize,
     ) -> WhyReply;
+    fn milestarling_import(
+        text: *const u8,
+        text_len: usize,
+        origin: u64,
+        readonly: u64,
+        memory: *mut u8,
+        memory_len: usize,
+        taint: *mut u8,
+        taint_len: usize,
+    ) -> ImportReply;
 }
 
 // All are proved for any numbers and any slices, without a trap and without an endless loop. What is left for a
@@ -357,6 +367,23 @@ pub(crate) fn why(
             byte,
             links.as_mut_ptr(),
             links.len(),
+        )
+    }
+}
+
+#[inline]
+pub(crate) fn import(text: &[u8], origin: u64, readonly: u64, memory: &mut [u8], taint: &mut [u8]) -> ImportReply {
+    // SAFETY: each pointer and length come from one slice.
+    unsafe {
+        milestarling_import(
+            text.as_ptr(),
+            text.len(),
+            origin,
+            readonly,
+            memory.as_mut_ptr(),
+            memory.len(),
+            taint.as_mut_ptr(),
+            taint.len(),
         )
     }
 }

@@ -7,6 +7,7 @@
 //! - [`Session`] is one session's registers, with their taints, its [`Vectors`], PC and the monitor of exclusive accesses. It
 //!   does steps and runs in a [`Memory`], which owns its bytes and their taints or borrows them, and [`step_in`] does so in
 //!   several.
+//! - [`Memory::import_hex`] reads a memory image in Intel HEX.
 //! - [`Shared`] has two plugins that take turns in one memory, and neither sees anything of the other.
 //! - [`Taint`] says which bytes of a register are secret, and [`VectorTaint`] which of a vector register.
 //! - [`Past`] does a run and keeps what it leaves with the taints that it started with, tells why a byte is tainted, and has a
@@ -63,6 +64,7 @@
 mod answer;
 mod ffi;
 mod image;
+mod import;
 mod memory;
 mod numbers;
 mod past;
@@ -80,6 +82,7 @@ mod vectors;
 
 pub use answer::{Answer, Refusal, UnknownAnswer};
 pub use image::{words, Words};
+pub use import::ImportError;
 pub use memory::{step_in, Access, Memory, TaintedBytes, Window};
 pub use numbers::{classify, touches_memory};
 pub use past::{Past, Start};

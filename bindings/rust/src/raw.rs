@@ -143,6 +143,17 @@ pub struct ListerReply {
     pub length: u64,
 }
 
+/// What importing a memory image returns.
+#[must_use]
+#[repr(C)]
+#[derive(Clone, Copy, Debug, Default, PartialEq, Eq)]
+pub struct ImportReply {
+    /// The answer: 0, 1, 7, 13, 14 or 15.
+    pub answer: u64,
+    /// The number of the line that is refused, from 1; 0 where no line is.
+    pub line: u64,
+}
+
 /// What asking why a byte is tainted returns beside the links.
 #[must_use]
 #[repr(C)]
@@ -531,4 +542,24 @@ pub fn why(
         byte,
         links,
     )
+}
+
+/// Reads a memory image in Intel HEX into memory, and takes the taint from each byte that it writes.
+///
+/// `memory` begins at the address `origin`; its first `readonly` bytes may be filled too. Where the answer isn't 0 nothing is
+/// changed. [`Memory::import_hex`](crate::Memory::import_hex) is the same with an error that says what is wrong.
+///
+/// ```
+/// use milestarling::raw::import;
+///
+/// let (mut memory, mut taint) = ([1; 4], [1; 4]);
+/// let reply = import(b":02000100AABB98\n:00000001FF\n", 0, 4, &mut memory, &mut taint);
+/// assert_eq!((reply.answer, reply.line), (0, 0));
+/// assert_eq!((memory, taint), ([1, 0xaa, 0xbb, 1], [1, 0, 0, 1]));
+/// let reply = import(b":02000100AABB98\n:00000001FE\n", 0, 4, &mut memory, &mut taint);
+/// assert_eq!((reply.answer, reply.line), (14, 2));
+/// ```
+#[inline]
+pub fn import(text: &[u8], origin: u64, readonly: u64, memory: &mut [u8], taint: &mut [u8]) -> ImportReply {
+    ffi::import(text, origin, readonly, memory, taint)
 }

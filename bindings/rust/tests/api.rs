@@ -174,14 +174,14 @@ fn an_access_says_its_bytes() {
 
 #[test]
 fn answers_have_their_numbers() {
-    let numbers = [0, 1, 2, 3, 4, 5, 6, 7, 8, 9, 10, 11, 12, 16, 17, 18];
+    let numbers = [0, 1, 2, 3, 4, 5, 6, 7, 8, 9, 10, 11, 12, 13, 14, 15, 16, 17, 18];
     assert_eq!(Answer::ALL.iter().map(|answer| answer.number()).collect::<Vec<u8>>(), numbers);
     for &answer in Answer::ALL {
         assert_eq!(Answer::try_from(u64::from(answer)), Ok(answer));
         assert_eq!(answer.is_refusal(), answer != Answer::Done);
         assert!(!answer.to_string().is_empty());
     }
-    for number in [13, 14, 15, 19, 255, 256, 1 << 32, u64::MAX] {
+    for number in [19, 255, 256, 1 << 32, u64::MAX] {
         assert_eq!(Answer::try_from(number).unwrap_err().0, number);
     }
 }

@@ -742,6 +742,53 @@ fn a_wrong_case_is_named_by_its_line() {
     }
 }
 
+const IMAGE: &[u8] = b":020000040001F9\n:04000200DEADBEEFC2\n:01000900aa4c\n:00000001FF\n";
+
+#[test]
+fn imports_an_image() {
+    let path = made("plugin.hex", IMAGE);
+    let path = path.to_str().unwrap();
+    let ranges = "0x10002 to 0x10005, 4 bytes\n0x10009, 1 byte\n";
+    for (file, input) in [(path, &b""[..]), ("-", IMAGE)] {
+        let ended = call(&["import", file, "--at", "0x10000", "--size", "16"], input);
+        assert_eq!(ended, Ended::well(ranges));
+    }
+    let out = made("plugin.bin", b"older");
+    let name = out.to_str().unwrap();
+    assert_eq!(call(&["import", path, "--at", "65536", "--size", "10", "--out", name], b""), Ended::well(""));
+    assert_eq!(fs::read(&out).unwrap(), [0, 0, 0xde, 0xad, 0xbe, 0xef, 0, 0, 0, 0xaa]);
+    let end = call(&["import", "--at", "0xffffffffffffffff", "--size", "1"], b":00000001FF\n");
+    assert_eq!(end, Ended::well(""));
+}
+
+#[test]
+fn a_refused_image_is_named_by_its_line() {
+    let import = |text: &[u8]| call(&["import", "--at", "0x10000", "--size", "9"], text);
+    import(IMAGE).fails(1, "standard input: refused (7), line 3: a byte of the line isn't inside the memory window\n");
+    import(&IMAGE[..16]).fails(1, "refused (13), line 2: ");
+    import(b":00000001FE\n").fails(1, "refused (14), line 1: the checksum of the line is wrong\n");
+    import(b":020000021000EC\n").fails(1, "the type of the line isn't 00, 01 or 04; how to convert it: ");
+    import(b":00000001FF\r\n").fails(1, "; it ends in a carriage return, as objcopy writes it: ");
+    call(&["import", "--at", "0xffffffffffffffff", "--size", "2"], IMAGE).fails(1, "refused (1): the memory window");
+    call(&["import", "--at", "0"], IMAGE).fails(2, "say --size");
+    call(&["import", "--size", "1"], IMAGE).fails(2, "say --at");
+    call(&["import", "--at", "0", "--size", "1073741825"], IMAGE).fails(2, "more than 1073741824 bytes");
+    call(&["import", "nowhere.hex", "--at", "0", "--size", "1"], b"").fails(1, "nowhere.hex: ");
+}
+
+#[test]
+fn a_case_takes_an_image() {
+    let path = made("case.hex", IMAGE);
+    let case =
+        |size| format!("origin 0x10000\ntainted zeros {size}\nimage {}\nx1 0x10002\nldr w0, [x1]\n", path.display());
+    let ended = call(&["run"], case(16).as_bytes());
+    let memory = "0x10000: ** ** de ad be ef ** ** ** aa ** ** ** ** ** **\n";
+    assert!(ended.wrote.contains("x0 0xefbeadde\n") && ended.wrote.ends_with(memory), "{ended:?}");
+    call(&["run"], case(9).as_bytes()).fails(1, "standard input: line 3: ");
+    call(&["run"], case(9).as_bytes()).fails(1, "case.hex: refused (7), line 3: ");
+    call(&["run"], b"image nowhere.hex\n").fails(1, "line 1: nowhere.hex: ");
+}
+
 #[test]
 fn says_how_it_is_called() {
     let help = call(&["--help"], b"");
@@ -753,7 +800,7 @@ fn says_how_it_is_called() {
     let widest = help.wrote.lines().map(|line| line.chars().count()).max().unwrap();
     assert!(widest <= 90, "{widest}");
     assert_eq!(call(&["--version"], b""), Ended::well(concat!("milestarling ", env!("CARGO_PKG_VERSION"), "\n")));
-    call(&[], b"").fails(2, "list, word, text, run, why or trace");
+    call(&[], b"").fails(2, "list, word, text, run, import, why or trace");
     call(&["lists"], b"").fails(2, "`lists` is no command");
     call(&["list", "a", "b"], b"").fails(2, "one file at a time");
     call(&["list", "--as", "b"], b"").fails(2, "one file at a time");

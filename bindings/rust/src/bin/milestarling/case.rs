@@ -1,5 +1,6 @@
 //! `milestarling run`: a case in a readable form.
 
+use crate::import;
 use crate::input::{Failure, Source};
 use crate::places::{blame, shown_places, shown_word, tainted_by_steps, Region};
 use crate::turns::{Pair, Plugins};
@@ -9,11 +10,12 @@ use milestarling::{
     VectorRegister, VectorTaint, Window,
 };
 use std::fmt::Display;
+use std::fs;
 use std::io::{self, Write};
 use std::str::FromStr;
 
 /// The most bytes of memory that a case may have.
-const MEMORY_MAX: usize = 1 << 30;
+pub const MEMORY_MAX: usize = 1 << 30;
 
 /// What a case says.
 #[derive(Default)]
@@ -83,6 +85,7 @@ impl Case {
             ("readonly", rest) => self.window.readonly = number(rest.trim())?,
             ("shared" | "plugin" | "turn", rest) => self.plugins.statement(at, name, rest.trim())?,
             ("word", rest) => self.push(hexadecimal(rest.trim())?)?,
+            ("image", rest) => self.import(rest.trim())?,
             ("pc", rest) => self.session()?.set_pc(number(rest.trim())?),
             ("monitor", rest) => {
                 let (address, bytes) = first_word(rest.trim());
@@ -147,6 +150,14 @@ impl Case {
     fn push(&mut self, word: u32) -> Result<(), String> {
         self.plugins.words(&mut self.words)?.push(word);
         Ok(())
+    }
+
+    /// Reads a memory image into what there is of memory.
+    fn import(&mut self, name: &str) -> Result<(), String> {
+        let text = fs::read(name).map_err(|error| format!("{name}: {error}"))?;
+        let parts = TaintedBytes { bytes: &mut self.bytes[..], taint: &mut self.taint[..] };
+        let done = Memory::new(self.window, parts).import_hex(&text);
+        done.map_err(|error| format!("{name}: {}", import::said(&text, error)))
     }
 
     fn add(&mut self, length: u64, bytes: impl Iterator<Item = u8>, tainted: bool) -> Result<(), String> {

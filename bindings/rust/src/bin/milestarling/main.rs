@@ -2,6 +2,7 @@
 
 mod case;
 mod elf;
+mod import;
 mod input;
 mod list;
 mod places;
@@ -50,6 +51,8 @@ milestarling: the loads and stores of an AArch64 emulator
         bytes HEX..          more bytes of memory, two digits each
         letters LETTERS      more bytes of memory: the rest of the line
         zeros NUMBER         more bytes of memory, so many and all 0
+        image FILE           bytes of an Intel HEX file, by their addresses, over the
+                             memory that stands before this line, and not tainted
         x0 NUMBER            the value of x0 to x30, sp or pc, at first 0
         q0 NUMBER            the value of a vector register, q0 to q31, at first 0, with
                              up to 128 bits
@@ -75,6 +78,12 @@ milestarling: the loads and stores of an AArch64 emulator
                              range: registers, pc and monitor behind it are its
         turn NAME            one more turn of this plugin: the words behind it are run in
                              it. A refused word ends the turn, and the next is taken
+
+  milestarling import [FILE] --at ADDRESS --size NUMBER [--out FILE]
+      Reads a memory image in Intel HEX into so many zeros from an address on, and writes
+      them to a file, or without one the ranges that the image has bytes in. A line that
+      is refused is named. docs/ANSWERS.md has the commands that make of what objcopy
+      writes a text that is taken.
 
   milestarling why [FILE] [PLACE] [--at STEP]
       Tells why a place is tainted at the end of a case's run, or with --at just after a
@@ -114,7 +123,7 @@ where all went well, 1 where something was refused or failed, and 2 where the co
 was called wrongly.
 ";
 
-const COMMANDS: &str = "list, word, text, run, why or trace";
+const COMMANDS: &str = "list, word, text, run, import, why or trace";
 
 fn main() -> ExitCode {
     let words: Vec<OsString> = env::args_os().skip(1).collect();
@@ -154,6 +163,7 @@ fn command(words: &[OsString], output: &mut impl Write) -> Result<(), Failure> {
             let (secrets, files): (Vec<&str>, Vec<&str>) = rest.iter().partition(|&&word| word == "--secrets");
             case::run(Source::of(&files)?, !secrets.is_empty(), output)
         }
+        "import" => import::import(rest, output),
         "why" => {
             let (words, at) = option(rest, "--at")?;
             why::why(&words, at, output)
