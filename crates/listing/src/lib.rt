@@ -2,6 +2,8 @@
 mod line;
 
 use instruction::Answer;
+pub use line::line_length;
+pub use line::put_line;
 use text::TEXT_MAX;
 ghost use mathlib.Core.Path.{_≡_};
 ghost use lib.Dec.{leb};

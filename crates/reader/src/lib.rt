@@ -7,6 +7,7 @@ mod name;
 mod scan;
 mod tail;
 
+pub use compare::same;
 use instruction::Answer;
 use printer::write;
 use text::TEXT_MAX;

@@ -1,0 +1,9 @@
+pub mod Parts
+pub mod Hex
+pub mod Fates
+pub mod Certain
+pub mod Lined
+pub mod Told
+pub mod Rooms
+pub mod Passed
+pub mod Promised

@@ -1,0 +1,4 @@
+pub mod Lines
+pub mod Rescue
+pub mod Whole
+pub mod route
