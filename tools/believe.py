@@ -27,7 +27,7 @@ import sys
 from typing import NamedTuple
 
 CRATES = pathlib.Path(__file__).resolve().parent.parent / 'crates'
-PAGE_NAMES = 'Demands', 'Library', 'Numbers', 'Why', 'Plugins', 'Images'
+PAGE_NAMES = 'Demands', 'Library', 'Numbers', 'Why', 'Plugins', 'Images', 'Rescue'
 PAGES = [CRATES / 'promises/specs' / f'{name}.antt' for name in PAGE_NAMES]
 # With a dot before it, it is a projection, or stands behind its type or module.
 WORD = re.compile(r'(\.?)([^\s(){}\[\];:,.&<>⌜⌝]+)')

@@ -5,4 +5,5 @@ pub mod Numbers
 pub mod Why
 pub mod Plugins
 pub mod Images
+pub mod Rescue
 pub mod Vectors

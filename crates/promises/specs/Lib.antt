@@ -5,3 +5,4 @@ pub mod Numbers
 pub mod Why
 pub mod Plugins
 pub mod Images
+pub mod Rescue
