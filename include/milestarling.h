@@ -82,6 +82,10 @@ extern "C" {
 #define MILESTARLING_TEXT_MAX 35
 #define MILESTARLING_LINE_MAX 47
 
+/* The most bytes that a line gains where a listing is rescued, and the most bytes of its line in the report. */
+#define MILESTARLING_RESCUE_GAIN 10
+#define MILESTARLING_REPORT_LINE_MAX 30
+
 /* What a call answers. Of those that apply to a step, the lowest is given. */
 enum milestarling_answer {
     MILESTARLING_DONE = 0,
@@ -133,6 +137,13 @@ enum milestarling_answer {
 struct milestarling_text_reply {
     uint64_t answer;
     uint64_t length;
+};
+
+/* The lengths of what is put out and of the report, both 0 where the answer isn't. */
+struct milestarling_rescue_reply {
+    uint64_t answer;
+    uint64_t length;
+    uint64_t report_length;
 };
 
 /* The word is 0 where the answer isn't. */
@@ -552,6 +563,34 @@ struct milestarling_word_reply milestarling_word(const uint8_t *text, size_t tex
 MILESTARLING_MUST_USE
 struct milestarling_text_reply milestarling_list(
     const uint8_t *bytes, size_t bytes_length, uint8_t *output, size_t output_length);
+
+/*
+ * Rescues a damaged listing, line by line; the last line may lack its newline. A line that is exactly what its eight
+ * lower-case hex digits give is kept. A line of two tabs whose first field isn't such digits, but whose second is the text of an
+ * allocated word, is restored: it becomes that word's line. Any other is dropped, `short` lines too. Writes the lines that are kept
+ * and restored to the start of an output, and a line for each line of the input to the start of a report: its number from 1, a tab,
+ * and kept, restored or dropped. All of them end in a newline. Answers 0 or 10; output and report change only with 0.
+ * For an input of n bytes and m lines, of which there are never more than bytes, n + m * MILESTARLING_RESCUE_GAIN bytes for the output
+ * and m * MILESTARLING_REPORT_LINE_MAX for the report always suffice; shorter ones are measured first, which takes longer.
+ * milestarling_rescue_lines counts the lines.
+ */
+MILESTARLING_MUST_USE
+struct milestarling_rescue_reply milestarling_rescue(
+    const uint8_t *input, size_t input_length, uint8_t *output, size_t output_length, uint8_t *report, size_t report_length);
+
+/* How many lines an input has: as many as newlines, and one more where the last lacks its own. */
+MILESTARLING_MUST_USE
+static inline size_t milestarling_rescue_lines(const uint8_t *input, size_t input_length)
+{
+    size_t lines = 0;
+    size_t i;
+    for (i = 0; i < input_length; i++)
+        if (input[i] == 10)
+            lines++;
+    if (input_length > 0 && input[input_length - 1] != 10)
+        lines++;
+    return lines;
+}
 
 /*
  * The same listing of bytes that come in fragments, of any length and cut anywhere: writes the lines of the words that

@@ -35,6 +35,7 @@ typedef char reply_has_32_bytes[sizeof(struct milestarling_step_reply) == 32 ? 1
 typedef char run_reply_has_568_bytes[sizeof(struct milestarling_run_reply) == 568 ? 1 : -1];
 typedef char lister_has_5_bytes[sizeof(struct milestarling_lister) == 5 ? 1 : -1];
 typedef char lister_reply_has_24_bytes[sizeof(struct milestarling_lister_reply) == 24 ? 1 : -1];
+typedef char rescue_reply_has_24_bytes[sizeof(struct milestarling_rescue_reply) == 24 ? 1 : -1];
 typedef char memory_has_48_bytes[sizeof(struct milestarling_memory) == 48 ? 1 : -1];
 typedef char shared_memory_has_40_bytes[sizeof(struct milestarling_shared_memory) == 40 ? 1 : -1];
 typedef char range_has_16_bytes[sizeof(struct milestarling_range) == 16 ? 1 : -1];

@@ -40,6 +40,12 @@ for level in -O0 -O2; do
     done
 done
 
+# Rescued listings, held against lines worked by hand.
+for level in -O0 -O2; do
+    cc -std=c11 "$level" "${strict[@]}" -Iinclude -o "$room/rescue" tests/rescue.c "$archive"
+    "$room/rescue"
+done
+
 # Which words touch memory, of all values of the bits that say so.
 cc -std=c11 -O2 "${strict[@]}" -Iinclude -o "$room/touches" tests/touches.c "$archive"
 "$room/touches"

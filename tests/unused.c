@@ -50,6 +50,8 @@ int main(void)
     ANSWER(struct milestarling_text_reply, milestarling_text(0, bytes, 4));
     ANSWER(struct milestarling_word_reply, milestarling_word(bytes, 4));
     ANSWER(struct milestarling_text_reply, milestarling_list(bytes, 4, taint, 4));
+    ANSWER(struct milestarling_rescue_reply, milestarling_rescue(bytes, 4, taint, 4, statuses, 1));
+    ANSWER(size_t, milestarling_rescue_lines(bytes, 4));
     ANSWER(struct milestarling_lister_reply, milestarling_lister_push(lister, bytes, 4, taint, 4));
     ANSWER(struct milestarling_lister_reply, milestarling_lister_close(lister, taint, 4));
     ANSWER(uint64_t, milestarling_classify(0));

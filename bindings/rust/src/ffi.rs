@@ -3,7 +3,7 @@
 #![allow(unsafe_code)]
 
 use crate::raw::{
-    DecodeReply, ImportReply, Lister, ListerReply, Numbers, RunReply, SessionRecord, StepReply, TextReply, VectorReply,
+    DecodeReply, ImportReply, Lister, ListerReply, Numbers, RescueReply, RunReply, SessionRecord, StepReply, TextReply, VectorReply,
     WhyReply, WordReply,
 };
 use crate::{Ranges, Taint};
@@ -71,6 +71,14 @@ extern "C" {
     fn milestarling_text(word: u32, buffer: *mut u8, buffer_len: usize) -> TextReply;
     fn milestarling_word(text: *const u8, text_len: usize) -> WordReply;
     fn milestarling_list(bytes: *const u8, bytes_len: usize, output: *mut u8, output_len: usize) -> TextReply;
+    fn milestarling_rescue(
+        input: *const u8,
+        input_len: usize,
+        output: *mut u8,
+        output_len: usize,
+        report: *mut u8,
+        report_len: usize,
+    ) -> RescueReply;
     fn milestarling_lister_push(
         lister: Lister,
         fragment: *const u8,
@@ -287,6 +295,21 @@ pub(crate) fn word(text: &[u8]) -> WordReply {
 pub(crate) fn list(bytes: &[u8], output: &mut [u8]) -> TextReply {
     // SAFETY: each pointer and length come from one slice.
     unsafe { milestarling_list(bytes.as_ptr(), bytes.len(), output.as_mut_ptr(), output.len()) }
+}
+
+#[inline]
+pub(crate) fn rescue(input: &[u8], output: &mut [u8], report: &mut [u8]) -> RescueReply {
+    // SAFETY: each pointer and length come from one slice.
+    unsafe {
+        milestarling_rescue(
+            input.as_ptr(),
+            input.len(),
+            output.as_mut_ptr(),
+            output.len(),
+            report.as_mut_ptr(),
+            report.len(),
+        )
+    }
 }
 
 #[inline]

@@ -15,6 +15,7 @@
 //! - [`Instruction`] goes from words to lines of text and back, and to [`Numbers`] and back.
 //! - [`words`] goes through an image, word by word, and [`touches_memory`] says which words a host steps.
 //! - [`listing`] lists bytes, and [`Lister`] and [`ListingWriter`] list what comes in fragments.
+//! - [`rescue`] makes a listing of one that was damaged, and says what became of each line.
 //! - [`raw`] has the library's functions as they are.
 //!
 //! # The host's loop
@@ -71,6 +72,7 @@ mod past;
 mod place;
 pub mod raw;
 mod register;
+mod rescue;
 mod session;
 mod shared;
 mod shown;
@@ -89,6 +91,7 @@ pub use past::{Past, Start};
 pub use place::{Copied, Link, Place};
 pub use raw::Numbers;
 pub use register::{Register, UnknownRegister, VectorRegister};
+pub use rescue::{rescue, Fate, Fates, Rescued};
 pub use session::{Monitor, Run, Session, Step};
 pub use shared::{Plugin, Range, Ranges, Shared};
 pub use stream::{Lister, ListingWriter};

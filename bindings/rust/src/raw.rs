@@ -112,6 +112,19 @@ pub struct WordReply {
     pub word: u64,
 }
 
+/// What rescuing a listing returns.
+#[must_use]
+#[repr(C)]
+#[derive(Clone, Copy, Debug, Default, PartialEq, Eq)]
+pub struct RescueReply {
+    /// The answer.
+    pub answer: u64,
+    /// How many bytes were put out; 0 for a refusal.
+    pub length: u64,
+    /// How many bytes the report has; 0 for a refusal.
+    pub report_length: u64,
+}
+
 /// A lister of a stream, which a host hands on from call to call. The default is a new one.
 ///
 /// Every lister is one that a call takes, and gets an answer.
@@ -363,6 +376,20 @@ pub fn word(text: &[u8]) -> WordReply {
 #[inline]
 pub fn list(bytes: &[u8], output: &mut [u8]) -> TextReply {
     ffi::list(bytes, output)
+}
+
+/// Writes the lines of a damaged listing that are kept and restored to the start of a buffer, and a line for each of its
+/// lines to the start of a report.
+///
+/// ```
+/// let (mut output, mut report) = ([0; 64], [0; 64]);
+/// let reply = milestarling::raw::rescue(b"9400420\tldr x0, [x1, #8]\t0\n", &mut output, &mut report);
+/// assert_eq!(&output[..reply.length as usize], b"f9400420\tldr x0, [x1, #8]\t0\n");
+/// assert_eq!(&report[..reply.report_length as usize], b"1\trestored\n");
+/// ```
+#[inline]
+pub fn rescue(input: &[u8], output: &mut [u8], report: &mut [u8]) -> RescueReply {
+    ffi::rescue(input, output, report)
 }
 
 /// Writes the lines of the words that are whole with one more fragment of a stream to the start of a buffer.

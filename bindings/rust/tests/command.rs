@@ -800,7 +800,7 @@ fn says_how_it_is_called() {
     let widest = help.wrote.lines().map(|line| line.chars().count()).max().unwrap();
     assert!(widest <= 90, "{widest}");
     assert_eq!(call(&["--version"], b""), Ended::well(concat!("milestarling ", env!("CARGO_PKG_VERSION"), "\n")));
-    call(&[], b"").fails(2, "list, word, text, run, import, why or trace");
+    call(&[], b"").fails(2, "list, rescue, word, text, run, import, why or trace");
     call(&["lists"], b"").fails(2, "`lists` is no command");
     call(&["list", "a", "b"], b"").fails(2, "one file at a time");
     call(&["list", "--as", "b"], b"").fails(2, "one file at a time");

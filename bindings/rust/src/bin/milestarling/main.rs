@@ -6,6 +6,7 @@ mod import;
 mod input;
 mod list;
 mod places;
+mod rescue;
 mod turns;
 mod why;
 
@@ -25,6 +26,13 @@ milestarling: the loads and stores of an AArch64 emulator
       (unpredictable), parted by tabs; and a line `short` for bytes that are left over.
       With --at each line begins with its address, counted from this one, and a tab.
       Of an ELF file the executable load segments are listed, with their own addresses.
+
+  milestarling rescue [FILE] [--report FILE]
+      Rescues a damaged listing, line by line: a line that is what its eight digits give
+      is kept; one whose digits are damaged is restored from its text; any other is
+      dropped, `short` lines too. Says how many lines were kept, restored and dropped on
+      standard error, and by --report writes what became of each line to a file, by its
+      number. The status is 1 where a line was dropped.
 
   milestarling word [HEX..]
       Lists words that are given by up to eight hexadecimal digits. Behind answer 2 stands
@@ -123,7 +131,7 @@ where all went well, 1 where something was refused or failed, and 2 where the co
 was called wrongly.
 ";
 
-const COMMANDS: &str = "list, word, text, run, import, why or trace";
+const COMMANDS: &str = "list, rescue, word, text, run, import, why or trace";
 
 fn main() -> ExitCode {
     let words: Vec<OsString> = env::args_os().skip(1).collect();
@@ -158,6 +166,10 @@ fn command(words: &[OsString], output: &mut impl Write) -> Result<(), Failure> {
         "list" => {
             let (files, at) = option(rest, "--at")?;
             list::list(Source::of(&files)?, at.map(|at| number(at).map_err(Failure::Usage)).transpose()?, output)
+        }
+        "rescue" => {
+            let (files, report) = option(rest, "--report")?;
+            rescue::rescue(Source::of(&files)?, report, output)
         }
         "run" => {
             let (secrets, files): (Vec<&str>, Vec<&str>) = rest.iter().partition(|&&word| word == "--secrets");
