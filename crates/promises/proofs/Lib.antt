@@ -1,3 +1,4 @@
+pub mod Tests
 pub mod Answered
 pub mod Demands
 pub mod Library

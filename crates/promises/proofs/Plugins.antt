@@ -4,11 +4,14 @@ use Prim.Native.Nat.{ℕ, _+_, _*_}
 use mathlib.Core.Path.{_≡_, refl, sym, ap, subst, _∙_}
 use mathlib.Core.Bool.{Bool, true, false, _||_}
 use mathlib.Core.List.{List}
+use mathlib.Core.Logic.{_⊎_, _↔_}
+use native.Mathlib.Omega.{arith}
 use lib.ListN.{length, take}
 use Rattle.instruction.specs.Answers.{answerNumber}
+use Rattle.plan.specs.declared.ranges.Range.{Range}
 use Rattle.plan.specs.declared.ranges.Ranges.{Ranges}
 use Rattle.plan.specs.declared.ranges.Reach.the-variants.{Ranged}
-use Rattle.plan.specs.Ranges.{badRanges}
+use Rattle.plan.specs.Ranges.{share, overlap, misses, badRanges}
 use Rattle.machine.specs.declared.Shown.{Shown}
 use Rattle.machine.specs.Rule.{wordRule}
 use Rattle.machine.specs.Machine.{Machine}
@@ -29,12 +32,31 @@ use Rattle.turns.proofs.Frames.{turn-framed}
 use Rattle.turns.proofs.Plays.{play-swapped}
 use Rattle.turns.proofs.Views.{isolation, demand-3-each, other-half-each, taints-of-turn}
 use Rattle.turns.proofs.Answers.{turn-given, turn-early, turn-begun, turn-ends, turn-keeps, turn-allowed}
+use Rattle.image.proofs.Faults.{Tells}
 use Rattle.promises.specs.Demands.{NotBegun}
 use Rattle.promises.specs.Library.{Gives}
-use Rattle.promises.specs.Plugins.{TurnCall, turnStart, turnEnd, turnLog, called, Calls, none, mine, another, Gave, nothing, more, TurnsShow, AllShow, neither, both, CallsShow, Plugins}
+use Rattle.promises.specs.Plugins.{TurnCall, turnStart, turnEnd, turnLog, called, Calls, none, mine, another, Gave, nothing, more, TurnsShow, AllShow, neither, both, CallsShow, Share, Leaves, Plugins}
+use Rattle.promises.proofs.Tests.{any-tells, exact, tells, outside-tells}
 use Rattle.promises.proofs.Answered.{by-definition, turn-number}
 use Rattle.promises.proofs.Demands.{not-begun}
 use Rattle.promises.proofs.Library.{gives, as-before}
+
+range-tells : (origin len : ℕ) (r : Range) → Tells (misses origin len r) (Leaves origin len r)
+range-tells origin len r = outside-tells (r .length) (r .address) origin len (λ h. omega arith) (λ h. omega arith) (λ h. omega arith) (λ h. omega arith)
+
+share-tells : (p q : Range) → Tells (share p q) (Share p q)
+share-tells p q = tells (share p q) (share-exact p q)
+
+overlap-tells : (r : Ranges) → Tells (overlap r) (Share (r .shared) (r .own) ⊎ (Share (r .shared) (r .other) ⊎ Share (r .own) (r .other)))
+unfolding overlap
+overlap-tells r = any-tells _ _ (share-tells (r .shared) (r .own)) (any-tells _ _ (share-tells (r .shared) (r .other)) (share-tells (r .own) (r .other)))
+
+ranges-exact : (r : Ranges) (origin len : ℕ) → (badRanges r origin len ≡ true)
+    ↔ ((Share (r .shared) (r .own) ⊎ (Share (r .shared) (r .other) ⊎ Share (r .own) (r .other))) ⊎ (Leaves origin len (r .shared) ⊎ (Leaves origin len (r .own) ⊎ Leaves origin len (r .other))))
+unfolding badRanges
+ranges-exact r origin len =
+    exact (badRanges r origin len)
+    (any-tells _ _ (overlap-tells r) (any-tells _ _ (range-tells origin len (r .shared)) (any-tells _ _ (range-tells origin len (r .own)) (range-tells origin len (r .other)))))
 
 second-true : (a b : Bool) → b ≡ true → (a || b) ≡ true
 second-true true b e = refl
@@ -117,7 +139,7 @@ calls-show origin r R shows w v ts us cs ds order c d h = all-show R (calls-gave
 pub plugins : Plugins
 plugins =
     record {
-      shared-byte = share-exact;
+      bad-ranges = ranges-exact;
       bad-both = bad-both;
       turn-ranges = λ origin r words m l e. turn-bad origin r words m l (second-true (bad (plainWindow origin) m) (badRanges r origin (length (m .memory))) e);
       turn-window = turn-bad;

@@ -1,10 +1,13 @@
--- What "get an answer" means: for every input there is exactly one result, and its answer is one of 01's table.
-use Prim.Native.Nat.{ℕ}
+-- What "get an answer" means: for every input there is exactly one result, and its answer is one of 01's table. And what refusals say
+-- that several calls have.
+use Prim.Native.Nat.{ℕ, _+_, _^_, _<_}
 use mathlib.Core.Path.{_≡_}
 use mathlib.Core.Bool.{Bool, true, false}
 use mathlib.Core.List.{List, [], _∷_}
+use mathlib.Core.Logic.{_⊎_}
 use lib.Dec.{eqb}
 use Rattle.bits.specs.Choice.{pick}
+use Rattle.plan.specs.declared.window.Window.{Window}
 
 abbrev pub oneOf : List ℕ → ℕ → Bool
 oneOf [] n = false
@@ -24,3 +27,11 @@ pub record Answered {R : Type 0} (allows : R → Type 0) (number : R → ℕ) (n
 -- a result that a definition gives
 abbrev pub Is : {R : Type 0} → R → R → Type 0
 Is x r = r ≡ x
+
+-- refusals in their order: n is k where the first of them holds, else what those behind it say
+abbrev pub First : ℕ → ℕ → Type 0 → Type 0 → Type 0
+First n k holds behind = (holds × (n ≡ k)) ⊎ ((¬ holds) × behind)
+
+-- "1 for window or mark length": memory ends above the addresses, the read-only part is longer, or there isn't one mark for each byte
+abbrev pub WrongLent : Window → ℕ → ℕ → Type 0
+WrongLent w len marks = (2 ^ 64 < w .origin + len) ⊎ ((len < w .readonly) ⊎ (¬ (marks ≡ len)))

@@ -17,7 +17,7 @@ use Rattle.image.specs.Import.{outcome, importOf}
 use Rattle.image.specs.Faults.{IsMalformed, WrongSum, WrongType, addressIn, Outside, faultOf, faultAt, Lowest, OneEnd}
 use Rattle.image.specs.Last.{named, LastIs}
 use Rattle.image.specs.Hex.{upperDigits, lowerDigits, hexIn, AllBytes}
-use Rattle.promises.specs.Answered.{oneOf}
+use Rattle.promises.specs.Answered.{oneOf, WrongLent}
 
 pub record ImportCall : Type 0 where
   pub text : List ℕ
@@ -34,9 +34,8 @@ pub record ImportCall : Type 0 where
 abbrev pub dataOf : ImportCall → List (ℕ × ℕ)
 dataOf c = placesOf 0 (linesOf (c .text))
 
--- "window or mark length": memory ends above the addresses, the read-only part is longer, or there isn't one mark for each byte
 abbrev pub BadLent : ImportCall → Type 0
-BadLent c = (2 ^ 64 < c .window .origin + length (c .memory)) ⊎ ((length (c .memory) < c .window .readonly) ⊎ (¬ (length (c .taint) ≡ length (c .memory))))
+BadLent c = WrongLent (c .window) (length (c .memory)) (length (c .taint))
 
 -- an image of some bytes, and a window with room for it
 pub record Holds (c : ImportCall) (start : ℕ) (bytes : List ℕ) : Type 0 where

@@ -2,11 +2,11 @@
 -- that a turn returns and leaves, of origin, ranges, words, the machine of the plugin whose turn it is and the lent trace and
 -- statuses. `playOf` is a sequence of turns, as one of the two sees it: ours are its own. What a host is given of a turn is said
 -- below, field by field.
-use Prim.Native.Nat.{ℕ, _+_, _*_}
+use Prim.Native.Nat.{ℕ, _+_, _*_, _<_}
 use mathlib.Core.Path.{_≡_}
 use mathlib.Core.Bool.{true, false}
 use mathlib.Core.List.{List, [], _∷_, map}
-use mathlib.Core.Logic.{_↔_}
+use mathlib.Core.Logic.{_↔_, _⊎_}
 use lib.ListN.{length, take}
 use Rattle.instruction.specs.Answers.{answerNumber}
 use Rattle.access.specs.declared.transfer.Transfer.{Transfer}
@@ -18,7 +18,7 @@ use Rattle.plan.specs.declared.ranges.Ranges.{Ranges}
 use Rattle.plan.specs.declared.ranges.Reach.the-variants.{Ranged}
 use Rattle.plan.specs.Refusals.{answerIn, Given}
 use Rattle.plan.specs.Admission.{totalOf}
-use Rattle.plan.specs.Ranges.{share, badRanges}
+use Rattle.plan.specs.Ranges.{badRanges}
 use Rattle.machine.specs.declared.State.{State}
 use Rattle.machine.specs.declared.Shown.{Shown}
 use Rattle.machine.specs.Rule.{wordRule}
@@ -108,12 +108,23 @@ abbrev pub CallsShow : ℕ → Ranges → (Machine → Machine → Type 0) → T
 CallsShow origin r R =
     (w v : World) (ts us : List Turn) (cs ds : List TurnCall) → SameOrder ts us → Calls origin r w ts cs → Calls origin r v us ds → R (ownMachine w) (ownMachine v) → AllShow R cs ds
 
+-- ---- ranges
+
+-- a byte lies in both
+abbrev pub Share : Range → Range → Type 0
+Share p q = (b : ℕ) × (In p b × In q b)
+
+abbrev pub Leaves : ℕ → ℕ → Range → Type 0
+Leaves origin len r = (r .address < origin) ⊎ (origin + len < r .address + r .length)
+
 -- ---- all of it
 
 pub record Plugins : Type 0 where
-  -- "Refusals: 1 if two ranges share a byte": there is one that lies in both
-  pub shared-byte : (p q : Range) → (share p q ≡ true) ↔ ((b : ℕ) × (In p b × In q b))
-  -- "or one, empty too, isn't inside the window as 7 counts": in every turn, to both, before 10, and then nothing is changed
+  -- "Refusals: 1 if two ranges share a byte or one, empty too, isn't inside the window as 7 counts"
+  pub bad-ranges : (r : Ranges) (origin len : ℕ) → (badRanges r origin len ≡ true)
+      ↔ ((Share (r .shared) (r .own) ⊎ (Share (r .shared) (r .other) ⊎ Share (r .own) (r .other)))
+      ⊎ (Leaves origin len (r .shared) ⊎ (Leaves origin len (r .own) ⊎ Leaves origin len (r .other))))
+  -- in every turn, to both, before 10, and then nothing is changed
   pub bad-both : (r : Ranges) (origin len : ℕ) → badRanges (swapped r) origin len ≡ badRanges r origin len
   pub turn-ranges : (origin : ℕ) (r : Ranges) (words : List ℕ) (m : Machine) (l : Log) → badRanges r origin (length (m .memory)) ≡ true → NotBegun 1 m l (turnOf origin r words m l)
   pub turn-window : (origin : ℕ) (r : Ranges) (words : List ℕ) (m : Machine) (l : Log) → badTurn origin r m ≡ true → NotBegun 1 m l (turnOf origin r words m l)

@@ -149,7 +149,7 @@ module _ (w : Window) (len : ℕ) (g : Past) (steps step : ℕ) (q : Question) (
       (rw z, rw z)
 
   -- a question that is answered with 0 passes every test
-  accepted : what .answer ≡ 0 → Accepted w len g steps step q
+  pub accepted : what .answer ≡ 0 → Accepted w len g steps step q
   unfolding saidOf
   accepted h =
       let es = whyRefusals w len g steps step q (length before) in
