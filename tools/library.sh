@@ -1,12 +1,13 @@
 #!/usr/bin/env bash
 # Builds target/staticlib/libmilestarling.a, the library for C and Rust, and proves all that it is made of. rt makes an
-# archive of what one crate exports: libhost.a, libsession.a for the functions over a session's record, librecords.a for
-# instructions as numbers, libwhy.a for why a byte is tainted, libturns.a for the turns of two plugins, libimage.a for memory images,
-# and librescue.a for damaged listings. Hosts link them as one, by the project's name. It is built anew unless this very archive was
-# built of these very sources by this kit.
+# archive of what one crate exports: host; session, for the functions over a session's record; records, for instructions as
+# numbers; why, for why a byte is tainted; turns, for the turns of two plugins; image, for memory images; and rescue, for
+# damaged listings. Hosts link them as one, by the project's name. It is built anew unless this very archive was built of
+# these very sources by this kit.
 set -euo pipefail
 cd "$(dirname "${BASH_SOURCE[0]}")/.."
 archive=target/staticlib/libmilestarling.a
+parts=(host session records why turns image rescue)
 
 built_of() {
     rt version
@@ -19,24 +20,14 @@ if [ -f "$archive" ] && [ -f "$archive.made" ] && built_of | cmp -s - "$archive.
     exit
 fi
 rm -f "$archive.made"
-rt staticlib host
-rt staticlib session
-rt staticlib records
-rt staticlib why
-rt staticlib turns
-rt staticlib image
-rt staticlib rescue
+# They share crates, which are proved before two archives are made at a time.
+rt check "${parts[@]}"
+printf '%s\n' "${parts[@]}" | xargs -P 2 -n 1 rt staticlib
 rm -f "$archive"
-ar -M <<END
-create $archive
-addlib target/staticlib/libhost.a
-addlib target/staticlib/libsession.a
-addlib target/staticlib/librecords.a
-addlib target/staticlib/libwhy.a
-addlib target/staticlib/libturns.a
-addlib target/staticlib/libimage.a
-addlib target/staticlib/librescue.a
-save
-end
-END
+{
+    echo "create $archive"
+    printf 'addlib target/staticlib/lib%s.a\n' "${parts[@]}"
+    echo save
+    echo end
+} | ar -M
 built_of > "$archive.made"
