@@ -160,26 +160,33 @@ type-tells l = type-at (typeIn l) (eqb (typeIn l) 0) (eqb (typeIn l) 1) (eqb (ty
 
 -- ---- the window
 
-beyond-at : (origin len a : ℕ) (p q : Bool) → ltb a origin ≡ p → leb (origin + len) a ≡ q → Tells (pick p true q) ((a < origin) ⊎ (origin + len ≤ a))
-beyond-at origin len a true q e f = ((λ h. inl (ltb-true a origin e)), (λ h. impossible h))
-beyond-at origin len a false true e f = ((λ h. inr (leb-true (origin + len) a f)), (λ h. impossible h))
-beyond-at origin len a false false e f = ((λ h. impossible (sym h)), no)
-  where
-    no : {b : Bool} → b ≡ false → ((a < origin) ⊎ (origin + len ≤ a)) → ⊥
-    no h (inl g) = omega (arith, g, ltb-false a origin e)
-    no h (inr g) = omega (arith, g, leb-false (origin + len) a f)
+-- one of some addresses is outside: the lowest or the highest is
+abbrev pub Ends : ℕ → ℕ → ℕ → ℕ → Type 0
+Ends origin len low high = (low < origin) ⊎ (origin + len ≤ high)
 
-beyond-tells : (origin len a : ℕ) → Tells (beyond origin len a) ((a < origin) ⊎ (origin + len ≤ a))
+ends-at : (origin len low high : ℕ) (p q : Bool) → ltb low origin ≡ p → leb (origin + len) high ≡ q → Tells (pick p true q) (Ends origin len low high)
+ends-at origin len low high true q e f = ((λ h. inl (ltb-true low origin e)), (λ h. impossible h))
+ends-at origin len low high false true e f = ((λ h. inr (leb-true (origin + len) high f)), (λ h. impossible h))
+ends-at origin len low high false false e f = ((λ h. impossible (sym h)), no)
+  where
+    no : {b : Bool} → b ≡ false → ((low < origin) ⊎ (origin + len ≤ high)) → ⊥
+    no h (inl g) = omega (arith, g, ltb-false low origin e)
+    no h (inr g) = omega (arith, g, leb-false (origin + len) high f)
+
+pub ends-tell : (origin len low high : ℕ) → Tells (pick (ltb low origin) true (leb (origin + len) high)) (Ends origin len low high)
+ends-tell origin len low high = ends-at origin len low high (ltb low origin) (leb (origin + len) high) refl refl
+
+beyond-tells : (origin len a : ℕ) → Tells (beyond origin len a) (Ends origin len a a)
 unfolding beyond
-beyond-tells origin len a = beyond-at origin len a (ltb a origin) (leb (origin + len) a) refl refl
+beyond-tells origin len a = ends-tell origin len a a
 
 -- one of some bytes from an address on is
-record Leaves (origin len a n : ℕ) : Type 0 where
-  index : ℕ
-  counted : index < n
-  address : ((a + index) % 2 ^ 32 < origin) ⊎ (origin + len ≤ (a + index) % 2 ^ 32)
+pub record Leaves (origin len a n : ℕ) : Type 0 where
+  pub index : ℕ
+  pub counted : index < n
+  pub address : Ends origin len ((a + index) % 2 ^ 32) ((a + index) % 2 ^ 32)
 
-leaves-first : {origin len a n : ℕ} → (((a % 2 ^ 32) < origin) ⊎ (origin + len ≤ a % 2 ^ 32)) → Leaves origin len a (suc n)
+leaves-first : {origin len a n : ℕ} → Ends origin len (a % 2 ^ 32) (a % 2 ^ 32) → Leaves origin len a (suc n)
 leaves-first {origin} {len} {a} {n} h = record { index = 0; counted = omega arith; address = rw (add-zero a) h }
 
 leaves-later : {origin len a n : ℕ} → Leaves origin len (suc a) n → Leaves origin len a (suc n)
@@ -187,19 +194,19 @@ leaves-later {origin} {len} {a} {n} l =
     let e : a + suc (l .index) ≡ suc a + l .index = omega arith in
     record { index = suc (l .index); counted = omega (arith, l .counted); address = rw e (l .address) }
 
-leaves-at : (origin len a n i : ℕ) → i < suc n → (((a + i) % 2 ^ 32 < origin) ⊎ (origin + len ≤ (a + i) % 2 ^ 32)) → ¬ (((a % 2 ^ 32) < origin) ⊎ (origin + len ≤ a % 2 ^ 32))
+leaves-at : (origin len a n i : ℕ) → i < suc n → Ends origin len ((a + i) % 2 ^ 32) ((a + i) % 2 ^ 32) → ¬ Ends origin len (a % 2 ^ 32) (a % 2 ^ 32)
     → Leaves origin len (suc a) n
 leaves-at origin len a n zero c h inside = absurd (inside (rw (add-zero a) at h))
 leaves-at origin len a n (suc i) c h inside =
     let e : a + suc i ≡ suc a + i = omega arith in
     record { index = i; counted = omega arith; address = rw e at h }
 
-placed-at : {origin len a n : ℕ} (t u : Bool) → Tells t (((a % 2 ^ 32) < origin) ⊎ (origin + len ≤ a % 2 ^ 32)) → Tells u (Leaves origin len (suc a) n) → Tells (pick t true u) (Leaves origin len a (suc n))
+placed-at : {origin len a n : ℕ} (t u : Bool) → Tells t (Ends origin len (a % 2 ^ 32) (a % 2 ^ 32)) → Tells u (Leaves origin len (suc a) n) → Tells (pick t true u) (Leaves origin len a (suc n))
 placed-at true u p q = ((λ h. leaves-first (p .0 refl)), (λ h. impossible h))
 placed-at {origin} {len} {a} {n} false u p q =
     ((λ h. leaves-later (q .0 h)), (λ h l. q .1 h (leaves-at origin len a n (l .index) (l .counted) (l .address) (p .1 refl))))
 
-placed-tells : (origin len a : ℕ) (bs : List ℕ) → Tells (anyBeyond origin len (placed a bs)) (Leaves origin len a (length bs))
+pub placed-tells : (origin len a : ℕ) (bs : List ℕ) → Tells (anyBeyond origin len (placed a bs)) (Leaves origin len a (length bs))
 placed-tells origin len a [] = ((λ h. impossible (sym h)), (λ h l. omega (arith, l .counted)))
 placed-tells origin len a (b ∷ bs) =
     placed-at (beyond origin len (a % 2 ^ 32)) (anyBeyond origin len (placed (suc a) bs)) (beyond-tells origin len (a % 2 ^ 32)) (placed-tells origin len (suc a) bs)

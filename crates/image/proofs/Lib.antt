@@ -5,6 +5,7 @@ pub mod Loops
 pub mod Tests
 pub mod Texts
 pub mod Faults
+pub mod Spans
 pub mod Addresses
 pub mod Verdicts
 pub mod Written

@@ -3,7 +3,7 @@ use Prim.Native.Nat.{ℕ, zero, suc, _+_, _-_, _*_, _%_, _^_, _≤_, _<_}
 use mathlib.Core.Path.{_≡_, refl, sym, ap, _∙_}
 use mathlib.Core.Bool.{Bool, true, false, not}
 use mathlib.Core.List.{List, [], _∷_}
-use native.Mathlib.Nat.{add-suc}
+use native.Mathlib.Nat.{add-suc, add-zero}
 use native.Mathlib.Numerals.{add-one}
 use native.Mathlib.Omega.{arith}
 use borrow.Author.Tests.{lt-ltb, le-ltb, leb-true, leb-false}
@@ -12,53 +12,62 @@ use lib.ListN.{length, getD, length-set}
 use Rattle.bits.specs.Choice.{pick}
 use Rattle.image.specs.Lines.{digitOf, digitsIn, byteIn, bytesIn}
 use Rattle.image.specs.Records.{total, placed}
-use Rattle.image.specs.Import.{beyond, anyBeyond, put, puts, clears}
+use Rattle.image.specs.route.Rest.{summed}
+use Rattle.image.specs.Import.{put, puts, clears}
 
 left : (n i : ℕ) → i < n → n - i ≡ suc (n - suc i)
 left n i h = omega arith
 
--- ---- digits
+-- ---- shape and sum
 
-module _ (l : List ℕ) (n i b r : ℕ) (more : i < n) (read : b ≡ getD l (i + 1) 0) (value : r ≡ digitOf b) (so : digitsIn l (i + 1) (n - i) ≡ digitsIn l 1 n) where
-  digits-go : digitsIn l (i + 1) (n - i) ≡ pick (ltb r 16) (digitsIn l (i + 1 + 1) (n - (i + 1))) false
-  digits-go = rw (value, read, left n i more, add-one i, add-one (suc i))
+module _ (l : List ℕ) (n i sum z h : ℕ) (more : i < n) (so : summed l i (n - i) sum ≡ z) (high : h ≡ digitOf (getD l (2 * i + 1) 0)) where
+  summed-go : pick (ltb h 16) (pick (ltb (digitOf (getD l (2 * i + 2) 0)) 16) (summed l (suc i) (n - suc i) (sum + byteIn l i)) 256) 256 ≡ z
+  summed-go = rw high (rw (left n i more) at so)
 
-  pub digits-stop : 15 < r → false ≡ digitsIn l 1 n
-  digits-stop h = rw (digits-go, le-ltb r 16 (omega arith)) at so
+  pub summed-no-high : 15 < h → 256 ≡ z
+  summed-no-high p = rw (le-ltb h 16 (omega arith)) at summed-go
 
-  pub digits-more : r ≤ 15 → digitsIn l (i + 1 + 1) (n - (i + 1)) ≡ digitsIn l 1 n
-  digits-more h = rw (digits-go, lt-ltb r 16 (omega arith)) at so
+  module _ (d : ℕ) (yes : h ≤ 15) (low : d ≡ digitOf (getD l (2 * i + 2) 0)) where
+    summed-pair : pick (ltb d 16) (summed l (suc i) (n - suc i) (sum + byteIn l i)) 256 ≡ z
+    summed-pair = rw low (rw (lt-ltb h 16 (omega arith)) at summed-go)
 
--- ---- the sum
+    pub summed-no-low : 15 < d → 256 ≡ z
+    summed-no-low p = rw (le-ltb d 16 (omega arith)) at summed-pair
 
-pub total-more : (l : List ℕ) (n i sum r : ℕ) → i < n → r ≡ byteIn l i → sum + total (bytesIn l i (n - i)) ≡ total (bytesIn l 0 n)
-    → sum + r + total (bytesIn l (i + 1) (n - (i + 1))) ≡ total (bytesIn l 0 n)
-total-more l n i sum r h e so =
-    let s : sum + (byteIn l i + total (bytesIn l (suc i) (n - suc i))) ≡ total (bytesIn l 0 n) = rw (left n i h) at so in
-    rw (add-one, e) (omega (arith, s))
+    byte-is : d ≤ 15 → h * 16 + d ≡ byteIn l i
+    unfolding byteIn
+    byte-is p = rw (← high, ← low) (omega arith)
+
+    pub summed-more : (b : ℕ) → d ≤ 15 → b ≡ h * 16 + d → summed l (i + 1) (n - (i + 1)) (sum + b) ≡ z
+    summed-more b p e = rw (add-one i, e, byte-is p) (rw (lt-ltb d 16 (omega arith)) at summed-pair)
+
+-- ---- the line
+
+digits-two : (l : List ℕ) (at n : ℕ) → digitsIn l at (2 * suc n) ≡ pick (ltb (digitOf (getD l at 0)) 16) (pick (ltb (digitOf (getD l (suc at) 0)) 16) (digitsIn l (suc (suc at)) (2 * n)) false) false
+digits-two l at n =
+    let e : 2 * suc n ≡ suc (suc (2 * n)) = omega arith in
+    rw e
+
+summed-at : (a b c : Bool) (r s : ℕ) → r ≡ pick c s 256 → pick a (pick b r 256) 256 ≡ pick (pick a (pick b c false) false) s 256
+summed-at true true c r s e = e
+summed-at true false c r s e = refl
+summed-at false b c r s e = refl
+
+pub summed-is : (l : List ℕ) (n i sum : ℕ) → summed l i n sum ≡ pick (digitsIn l (2 * i + 1) (2 * n)) ((sum + total (bytesIn l i n)) % 256) 256
+summed-is l zero i sum = rw (add-zero sum)
+summed-is l (suc n) i sum =
+    let e : sum + (byteIn l i + total (bytesIn l (suc i) n)) ≡ sum + byteIn l i + total (bytesIn l (suc i) n) = omega arith in
+    let f : suc (suc (2 * i + 1)) ≡ 2 * suc i + 1 = omega arith in
+    let g : suc (2 * i + 1) ≡ 2 * i + 2 = omega arith in
+    rw (digits-two l (2 * i + 1) n, e, f, g)
+    (summed-at (ltb (digitOf (getD l (2 * i + 1) 0)) 16) (ltb (digitOf (getD l (2 * i + 2) 0)) 16) (digitsIn l (2 * suc i + 1) (2 * n)) (summed l (suc i) n (sum + byteIn l i))
+    ((sum + byteIn l i + total (bytesIn l (suc i) n)) % 256) (summed-is l n (suc i) (sum + byteIn l i)))
 
 -- ---- bytes at their addresses
 
 pub places-go : (l : List ℕ) (a n i : ℕ) → i < n
     → placed (a + i) (bytesIn l (4 + i) (n - i)) ≡ ((a + i) % 4294967296, byteIn l (4 + i)) ∷ placed (a + (i + 1)) (bytesIn l (4 + (i + 1)) (n - (i + 1)))
 places-go l a n i h = rw (left n i h, add-one i, add-suc a i, add-suc 4 i)
-
-beyond-at : (a origin len : ℕ) → origin ≤ a → (t u : Bool) → leb len (a - origin) ≡ t → leb (origin + len) a ≡ u → t ≡ u
-beyond-at a origin len h true true p q = refl
-beyond-at a origin len h false false p q = refl
-beyond-at a origin len h true false p q = absurd (omega (arith, leb-true len (a - origin) p, leb-false (origin + len) a q))
-beyond-at a origin len h false true p q = absurd (omega (arith, leb-false len (a - origin) p, leb-true (origin + len) a q))
-
-pub beyond-same : (a origin len : ℕ) → origin ≤ a → leb len (a - origin) ≡ leb (origin + len) a
-beyond-same a origin len h = beyond-at a origin len h (leb len (a - origin)) (leb (origin + len) a) refl refl
-
-module _ (l : List ℕ) (a n i origin len : ℕ) (r : Bool) (more : i < n) (test : r ≡ beyond origin len ((a + i) % 4294967296))
-    (so : anyBeyond origin len (placed (a + i) (bytesIn l (4 + i) (n - i))) ≡ anyBeyond origin len (placed a (bytesIn l 4 n))) where
-  pub beyond-stop : r ≡ true → true ≡ anyBeyond origin len (placed a (bytesIn l 4 n))
-  beyond-stop h = rw (places-go l a n i more, ← test, h) at so
-
-  pub beyond-more : r ≡ false → anyBeyond origin len (placed (a + (i + 1)) (bytesIn l (4 + (i + 1)) (n - (i + 1)))) ≡ anyBeyond origin len (placed a (bytesIn l 4 n))
-  beyond-more h = rw (places-go l a n i more, ← test, h) at so
 
 put-length-at : (origin a b : ℕ) (xs : List ℕ) (t : Bool) → length (pick t xs (lib.ListN.set xs (a - origin) b)) ≡ length xs
 put-length-at origin a b xs true = refl

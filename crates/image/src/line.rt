@@ -1,11 +1,12 @@
 // The line at the start of what is left of a text. A byte past the end is 0, and no digit and no newline.
 use instruction::Answer;
 ghost use mathlib.Core.Path.{_≡_};
-ghost use Prim.Native.Nat.{_+_, _*_, _<_, _≤_};
+ghost use Prim.Native.Nat.{_<_};
 ghost use lib.Dec.{ltb};
+ghost use Rattle.bits.specs.Choice.{pick};
 ghost use Rattle.plan.specs.Refusals.{answerIn};
-ghost use Rattle.image.specs.Lines.{digitOf, digitsIn, byteIn};
-ghost use Rattle.image.specs.route.Rest.{begins, Totals};
+ghost use Rattle.image.specs.Lines.{digitOf, byteIn};
+ghost use Rattle.image.specs.route.Rest.{begins, Sums};
 ghost use Rattle.image.specs.Records.{sumIn, badCount, badType, upperAfter, placesIn};
 ghost use Rattle.image.specs.Import.{anyBeyond, faultsIn};
 
@@ -59,52 +60,40 @@ pub fn byte_in(rest: &[u8], i: usize) -> u64
     bits::wide(high % 16 * 16 + low % 16)
 }
 
-fn all_digits(rest: &[u8], n: usize) -> bool
+// The bytes of a line added up modulo 256, n of them, and 256 where one of their digits is none.
+fn sum_of(rest: &[u8], n: usize) -> u64
     requires { ⌜ n < 65536 ⌝ }
-    ensures { λ r. ⌜ r ≡ digitsIn (now (rest .entry)) 1 n ⌝ }
-{
-    let mut i = 0;
-    while i < n {
-        if digit(bits::byte_at(rest, i + 1)) > 15 {
-            return false;
-        }
-        i += 1;
-    }
-    true
-}
-
-fn is_line(rest: &[u8]) -> bool
-    ensures { λ r. ⌜ r ≡ begins (now (rest .entry)) ⌝ }
-{
-    if bits::byte_at(rest, 0) != 58 {
-        return false;
-    }
-    let count = byte_in(rest, 0) as usize;
-    if !all_digits(rest, 2 * (5 + count)) {
-        return false;
-    }
-    bits::byte_at(rest, 2 * count + 11) == 10
-}
-
-// The bytes of a line added up, n of them.
-fn total_of(rest: &[u8], n: usize) -> u64
-    requires { ⌜ n < 65536 ⌝ }
-    ensures { λ r. ⌜ Totals (now (rest .entry)) n r ⌝ }
+    ensures { λ r. ⌜ Sums (now (rest .entry)) n r ⌝ }
 {
     let mut i = 0;
     let mut sum: u64 = 0;
     while i < n {
-        sum += byte_in(rest, i);
+        let high = digit(bits::byte_at(rest, 2 * i + 1));
+        if high > 15 {
+            return 256;
+        }
+        let low = digit(bits::byte_at(rest, 2 * i + 2));
+        if low > 15 {
+            return 256;
+        }
+        sum += bits::wide(high * 16 + low);
         i += 1;
     }
-    sum
+    sum % 256
 }
 
+// Shape and sum at once, since each takes all digits: the sum, and 256 where it isn't a line.
 fn sum(rest: &[u8]) -> u64
-    ensures { λ r. ⌜ r ≡ sumIn (now (rest .entry)) ⌝ }
+    ensures { λ r. ⌜ r ≡ pick (begins (now (rest .entry))) (sumIn (now (rest .entry))) 256 ⌝ }
 {
+    if bits::byte_at(rest, 0) != 58 {
+        return 256;
+    }
     let count = byte_in(rest, 0) as usize;
-    total_of(rest, 5 + count) % 256
+    if bits::byte_at(rest, 2 * count + 11) != 10 {
+        return 256;
+    }
+    sum_of(rest, 5 + count)
 }
 
 fn is_bad_count(rest: &[u8]) -> bool
@@ -153,8 +142,7 @@ fn leaves(rest: &[u8], upper: u64, origin: u64, len: u64) -> bool
         return false;
     }
     let first = upper * 65536 + (byte_in(rest, 1) * 256 + byte_in(rest, 2));
-    let count = byte_in(rest, 0) as usize;
-    crate::place::any_beyond(rest, first, count, origin, len)
+    crate::place::any_beyond(first, byte_in(rest, 0), origin, len)
 }
 
 // The first fault of the line, or none.
@@ -165,13 +153,14 @@ pub fn fault(rest: &[u8], ended: bool, upper: u64, origin: u64, len: u64) -> Ans
     if ended {
         return Answer::Malformed;
     }
-    if !is_line(rest) {
+    let sum = sum(rest);
+    if sum > 255 {
         return Answer::Malformed;
     }
     if is_bad_count(rest) {
         return Answer::Malformed;
     }
-    if sum(rest) != 0 {
+    if sum != 0 {
         return Answer::BadChecksum;
     }
     if is_bad_type(byte_in(rest, 3)) {

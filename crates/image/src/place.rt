@@ -1,32 +1,38 @@
 // The data bytes of the line at the start of what is left of a text, at their addresses.
 ghost use mathlib.Core.Path.{_≡_};
-ghost use Prim.Native.Nat.{_<_};
-ghost use lib.ListN.{length};
+ghost use mathlib.Core.Bool.{true};
+ghost use Prim.Native.Nat.{_+_, _<_, _≤_};
+ghost use lib.Dec.{ltb, leb};
+ghost use Rattle.bits.specs.Choice.{pick};
 ghost use Rattle.image.specs.Lines.{bytesIn};
 ghost use Rattle.image.specs.Records.{placed, placesIn};
-ghost use Rattle.image.specs.Import.{beyond, anyBeyond, put, puts, clears};
+ghost use Rattle.image.specs.Import.{put, puts, clears};
+ghost use Rattle.image.specs.route.Rest.{SomeBeyond};
 
-fn is_beyond(origin: u64, len: u64, a: u64) -> bool
-    ensures { λ r. ⌜ r ≡ beyond origin len a ⌝ }
+// Whether one of some addresses is outside the window: the lowest or the highest of them is then.
+fn is_beyond(low: u64, high: u64, origin: u64, len: u64) -> bool
+    requires { ⌜ low ≤ high ⌝ }
+    ensures { λ r. ⌜ r ≡ pick (ltb low origin) true (leb (origin + len) high) ⌝ }
 {
-    if a < origin {
+    if low < origin {
         return true;
     }
-    a - origin >= len
+    high - origin >= len
 }
 
-pub fn any_beyond(rest: &[u8], first: u64, count: usize, origin: u64, len: u64) -> bool
+// Whether one of so many bytes from an address on is. Those that run on past 2^32 have both ends of the addresses.
+pub fn any_beyond(first: u64, count: u64, origin: u64, len: u64) -> bool
     requires { ⌜ (first < 4294967296) × (count < 256) ⌝ }
-    ensures { λ r. ⌜ r ≡ anyBeyond origin len (placed first (bytesIn (now (rest .entry)) 4 count)) ⌝ }
+    ensures { λ r. ⌜ SomeBeyond origin len first count r ⌝ }
 {
-    let mut i = 0;
-    while i < count {
-        if is_beyond(origin, len, (first + i as u64) % 4294967296) {
-            return true;
-        }
-        i += 1;
+    if count == 0 {
+        return false;
     }
-    false
+    let last = first + (count - 1);
+    if last < 4294967296 {
+        return is_beyond(first, last, origin, len);
+    }
+    is_beyond(0, 4294967295, origin, len)
 }
 
 fn put_byte(bytes: &mut [u8], origin: u64, a: u64, b: u8)

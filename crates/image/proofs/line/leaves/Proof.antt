@@ -1,5 +1,7 @@
 -- `image::line::leaves` meets its contract. Assumes nothing.
 use borrow.Author.Needs.{needs}
+use Rattle.image.specs.Lines.{bytesIn}
+use Rattle.image.proofs.Faults.{bytes-length}
 use Rattle.image.proofs.Tests.{places-data, places-none}
 use Rattle.image.proofs.line.leaves.Statement.{statement}
 use Rattle.image.proofs.line.leaves.Tie as tie
@@ -19,7 +21,7 @@ returns-2 c =
     let low = c .before .before .byte-in3 in
     let count = c .before .byte-in4 in
     let places = places-data (entry .args .rest .now) (entry .args .upper) _ (kind .ensures .0) _ _ _ (test .left) (high .ensures .0) (low .ensures .0) (count .ensures .0) in
-    rw (← places) (c .any-beyond .ensures)
+    rw (← places) (c .any-beyond .ensures .is (bytesIn (entry .args .rest .now) 4 (count .result)) (bytes-length _ 4 _))
 
 pub leaves-spec : {M : Type 1} → statement M
 leaves-spec =
