@@ -8,17 +8,22 @@ use milestarling::{Answer, ImportError, Memory, TaintedBytes, Window};
 use std::fs;
 use std::io::{self, Write};
 
-/// What is wrong with a text, and how to get one that is taken where a build tool has written it.
+/// How to make of what objcopy writes a text that is taken.
+const CONVERSION: &str = "`srec_cat FILE.hex -intel -o TAKEN.hex -intel -disable=exec-start-address` makes a text that is taken. \
+    Without srec_cat, let objcopy move all addresses to 0x100000 or above by --change-addresses, and drop the carriage returns \
+    by `tr -d '\\r'` and the lines of types 03 and 05";
+
+/// What is wrong with a text, and where a build tool has written it, how to get one that is taken.
 pub fn said(text: &[u8], error: ImportError) -> String {
     let line = error.line().and_then(|line| text.split(|&byte| byte == b'\n').nth(line as usize - 1));
-    let hint = match error.answer() {
-        Answer::Malformed if line.is_some_and(|line| line.ends_with(b"\r")) => {
-            "; it ends in a carriage return, as objcopy writes it: see `A memory image that is refused` in docs/ANSWERS.md"
-        }
-        Answer::BadRecordType => "; how to convert it: see `A memory image that is refused` in docs/ANSWERS.md",
-        _ => "",
-    };
-    format!("{error}{hint}")
+    let returned = line.is_some_and(|line| line.ends_with(b"\r"));
+    match error.answer() {
+        Answer::Malformed if returned => format!("{error}; objcopy ends lines in a carriage return. {CONVERSION}"),
+        Answer::BadRecordType => format!(
+            "{error}; objcopy writes 02 below 0x100000, which must never be dropped, and 03 and 05 for the start. {CONVERSION}"
+        ),
+        _ => error.to_string(),
+    }
 }
 
 /// Reads an image into so many zeros from an address on. They are put into a file, or it is written where the image has bytes.
