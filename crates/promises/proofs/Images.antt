@@ -5,20 +5,21 @@ use mathlib.Core.Bool.{Bool, true, false}
 use mathlib.Core.List.{List, [], _∷_}
 use mathlib.Core.Logic.{_↔_, _⊎_, inl, inr}
 use native.Mathlib.Omega.{arith}
-use borrow.Author.Tests.{eqb-true, eqb-false, eq-eqb, ne-eqb}
-use lib.Dec.{eqb}
+use borrow.Author.Tests.{eqb-true, eqb-false, eq-eqb, ne-eqb, lt-ltb, ltb-true}
+use lib.Dec.{eqb, ltb}
 use lib.ListN.{length, getD, replicate}
 use lib.Seq.{sets}
-use Rattle.bits.specs.Choice.{pick}
+use Rattle.bits.specs.Choice.{pick, lookup}
 use Rattle.instruction.specs.declared.answer.Answer.the-variants.{Done}
 use Rattle.plan.specs.Window.{badWindow}
 use Rattle.image.specs.declared.Reply.{Reply}
-use Rattle.image.specs.Lines.{linesOf, digitOf, byteIn, shaped}
+use Rattle.image.specs.Lines.{linesOf, digitTable, digitOf, byteIn, shaped}
 use Rattle.image.specs.Records.{sumIn, badCount, badType, upperAfter, placesIn}
 use Rattle.image.specs.Import.{reply, beyond, faultsIn, replyOf, put, Outcome, outcome, importOf}
 use Rattle.image.specs.Faults.{faultAt, Lowest, OneEnd}
 use Rattle.image.specs.Last.{named, LastIs}
 use Rattle.image.specs.Hex.{hexIn, upperDigits, lowerDigits}
+use Rattle.image.proofs.Cuts.{held}
 use Rattle.image.proofs.Faults.{window-tells, fault-malformed, fault-sum, fault-type, fault-outside}
 use Rattle.image.proofs.Addresses.{data-at, data-length, no-data, upper-half, same-half}
 use Rattle.image.proofs.Verdicts.{import-number, import-window, import-bad, import-lowest, import-clean, import-no-line, import-refused, import-lengths, import-said, import-kept, import-marks, clean-end}
@@ -142,6 +143,31 @@ call-answers : (c : ImportCall) → oneOf importNumbers (c .reply .answer) ≡ t
 call-answers c =
     rw (answer-is c) (import-number (λ n. oneOf importNumbers n ≡ true) refl refl refl refl refl (c .window) (c .text) (c .memory) (c .taint) (λ e. refl))
 
+-- ---- digits
+
+abbrev keysOf : List (ℕ × ℕ) → List ℕ
+keysOf [] = []
+keysOf (e ∷ es) = e .0 ∷ keysOf es
+
+abbrev allDigits : List (ℕ × ℕ) → Bool
+allDigits [] = true
+allDigits (e ∷ es) = pick (ltb (e .1) 16) (allDigits es) false
+
+listed-at : (b x : Bool) (v w : ℕ) → ltb v 16 ≡ true → ltb w 16 ≡ x → ltb (pick b v w) 16 ≡ pick b true x
+listed-at true x v w p q = p
+listed-at false x v w p q = q
+
+listed : (es : List (ℕ × ℕ)) → allDigits es ≡ true → (c : ℕ) → ltb (lookup 16 es c) 16 ≡ oneOf (keysOf es) c
+listed [] h c = refl
+listed (e ∷ es) h c =
+    let two = held (ltb (e .1) 16) (allDigits es) h in
+    listed-at (eqb c (e .0)) (oneOf (keysOf es) c) (e .1) (lookup 16 es c) (two .0) (listed es (two .1) c)
+
+all-listed : (c : ℕ) → (digitOf c < 16) ↔ (oneOf (keysOf digitTable) c ≡ true)
+unfolding digitOf
+all-listed c =
+    ((λ h. sym (listed digitTable refl c) ∙ lt-ltb (digitOf c) 16 h), (λ h. ltb-true (digitOf c) 16 (listed digitTable refl c ∙ h)))
+
 missing : (origin len : ℕ) (ended : Bool) (upper : ℕ) → (faultAt origin len ended upper [] 0 ≡ 13) ↔ (ended ≡ false)
 missing origin len true upper = ((λ h. absurd (omega (arith, h))), (λ h. absurd (let z : _≡_ {A = ℕ} 0 1 = cc in omega arith)))
 missing origin len false upper = ((λ h. refl), (λ h. refl))
@@ -172,16 +198,24 @@ images =
       lengths = call-lengths;
       upper-read = λ c. call-back c upperDigits upper-read;
       lower-read = λ c. call-back c lowerDigits lower-read;
+      digits = all-listed;
       three-faults = refl;
       two-faults = refl;
       one-fault = refl;
       sum-and-window = refl;
       window-alone = refl;
       count-and-sum = refl;
+      upper-count = refl;
+      empty-line = refl;
+      returned = refl;
+      no-newline = refl;
+      behind-window = refl;
+      around = refl;
       lower-line = refl;
       behind-end = refl;
       no-end = refl;
       no-lines = refl;
+      no-bytes = refl;
       replaced = refl;
       runs-on = refl;
       put-above = refl;

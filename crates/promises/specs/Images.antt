@@ -11,7 +11,7 @@ use lib.Seq.{sets}
 use Rattle.ascii.specs.Ascii.{asc}
 use Rattle.plan.specs.declared.window.Window.{Window}
 use Rattle.image.specs.declared.Reply.{Reply}
-use Rattle.image.specs.Lines.{linesOf, byteIn, countIn}
+use Rattle.image.specs.Lines.{linesOf, digitOf, byteIn, countIn}
 use Rattle.image.specs.Records.{typeIn, upperAfter, placesIn, placesOf}
 use Rattle.image.specs.Import.{outcome, importOf}
 use Rattle.image.specs.Faults.{IsMalformed, WrongSum, WrongType, addressIn, Outside, faultOf, faultAt, Lowest, OneEnd}
@@ -55,15 +55,21 @@ abbrev pub textOf : List String → List ℕ
 textOf [] = []
 textOf (s ∷ ss) = asc s ++ (10 ∷ textOf ss)
 
--- of lines, into 4 bytes from an address on that are all read-only and marked: the answer, its line, and what memory and marks are then
-abbrev pub Gives : ℕ → List String → ℕ → ℕ → List ℕ → List ℕ → Type 0
-Gives origin lines answer line memory taint =
-    importOf (record { origin = origin; readonly = 4 }) (textOf lines) (1 ∷ 2 ∷ 3 ∷ 4 ∷ []) (1 ∷ 1 ∷ 1 ∷ 1 ∷ [])
+-- of a text, into 4 bytes from an address on that are all read-only and marked: the answer, its line, and what memory and marks are then
+abbrev pub GivesText : ℕ → List ℕ → ℕ → ℕ → List ℕ → List ℕ → Type 0
+GivesText origin text answer line memory taint =
+    importOf (record { origin = origin; readonly = 4 }) text (1 ∷ 2 ∷ 3 ∷ 4 ∷ []) (1 ∷ 1 ∷ 1 ∷ 1 ∷ [])
     ≡ outcome (record { answer = answer; line = line }) memory taint
 
+abbrev pub Gives : ℕ → List String → ℕ → ℕ → List ℕ → List ℕ → Type 0
+Gives origin lines answer line memory taint = GivesText origin (textOf lines) answer line memory taint
+
 -- refused, at 16
+abbrev pub RefusesText : List ℕ → ℕ → ℕ → Type 0
+RefusesText text answer line = GivesText 16 text answer line (1 ∷ 2 ∷ 3 ∷ 4 ∷ []) (1 ∷ 1 ∷ 1 ∷ 1 ∷ [])
+
 abbrev pub Refuses : List String → ℕ → ℕ → Type 0
-Refuses lines answer line = Gives 16 lines answer line (1 ∷ 2 ∷ 3 ∷ 4 ∷ []) (1 ∷ 1 ∷ 1 ∷ 1 ∷ [])
+Refuses lines answer line = RefusesText (textOf lines) answer line
 
 pub record Images : Type 0 where
   pub answers : (c : ImportCall) → oneOf (0 ∷ 1 ∷ 7 ∷ 13 ∷ 14 ∷ 15 ∷ []) (c .reply .answer) ≡ true
@@ -105,6 +111,8 @@ pub record Images : Type 0 where
   -- "upper or lower case digits": the text that is written for an image is read, and leaves exactly its bytes
   pub upper-read : (c : ImportCall) (start : ℕ) (bytes : List ℕ) → Holds c start bytes → c .text ≡ hexIn upperDigits start bytes → ReadBack c start bytes
   pub lower-read : (c : ImportCall) (start : ℕ) (bytes : List ℕ) → Holds c start bytes → c .text ≡ hexIn lowerDigits start bytes → ReadBack c start bytes
+  -- and nothing else is a digit
+  pub digits : (c : ℕ) → (digitOf c < 16) ↔ (oneOf (asc "0123456789ABCDEFabcdef") c ≡ true)
   -- a line with three faults, and with one of them less each time; a line of data with two; the count of an end and its checksum
   pub three-faults : Refuses (":00000005FFF" ∷ ":00000001FF" ∷ []) 13 1
   pub two-faults : Refuses (":00000005FF" ∷ ":00000001FF" ∷ []) 14 1
@@ -112,12 +120,21 @@ pub record Images : Type 0 where
   pub sum-and-window : Refuses (":0100000000FE" ∷ ":00000001FF" ∷ []) 14 1
   pub window-alone : Refuses (":0100000000FF" ∷ ":00000001FF" ∷ []) 7 1
   pub count-and-sum : Refuses (":0100000100FF" ∷ []) 13 1
+  -- a type 04 line of three bytes; an empty line; a carriage return; no newline; a byte behind the window, and one that comes to lie
+  -- before it, since addresses are modulo 2^32
+  pub upper-count : Refuses (":03000004000000F9" ∷ ":00000001FF" ∷ []) 13 1
+  pub empty-line : Refuses (":0100100000EF" ∷ "" ∷ ":00000001FF" ∷ []) 13 2
+  pub returned : RefusesText (asc ":00000001FF" ++ (13 ∷ 10 ∷ [])) 13 1
+  pub no-newline : RefusesText (asc ":00000001FF") 13 1
+  pub behind-window : Refuses (":0100140000EB" ∷ ":00000001FF" ∷ []) 7 1
+  pub around : Gives 4294967295 (":02000004FFFFFC" ∷ ":02FFFF00AABB9B" ∷ ":00000001FF" ∷ []) 7 2 (1 ∷ 2 ∷ 3 ∷ 4 ∷ []) (1 ∷ 1 ∷ 1 ∷ 1 ∷ [])
   -- the lower line of two; a line behind the end; no end; no line
   pub lower-line : Refuses (":0100000000FF" ∷ ":00000005FFF" ∷ []) 7 1
   pub behind-end : Refuses (":00000001FF" ∷ ":00000001FF" ∷ []) 13 2
   pub no-end : Refuses (":0100100000EF" ∷ []) 13 2
   pub no-lines : Refuses [] 13 1
-  -- a later byte replaces an earlier one, in lower case, with an offset of the end; a line that runs on past 64 KiB; an upper half
+  -- a line of no bytes, wherever; a later byte replaces an earlier one, in lower case, with an offset of the end; a line that runs on past 64 KiB; an upper half
+  pub no-bytes : Gives 16 (":0000000000" ∷ ":00000001FF" ∷ []) 0 0 (1 ∷ 2 ∷ 3 ∷ 4 ∷ []) (1 ∷ 1 ∷ 1 ∷ 1 ∷ [])
   pub replaced : Gives 16 (":03001000aaBBccbc" ∷ ":01001200DD10" ∷ ":00123401b9" ∷ []) 0 0 (170 ∷ 187 ∷ 221 ∷ 4 ∷ []) (0 ∷ 0 ∷ 0 ∷ 1 ∷ [])
   pub runs-on : Gives 65534 (":03FFFE00AABBCCCF" ∷ ":00000001FF" ∷ []) 0 0 (170 ∷ 187 ∷ 204 ∷ 4 ∷ []) (0 ∷ 0 ∷ 0 ∷ 1 ∷ [])
   pub put-above : Gives 65536 (":020000040001F9" ∷ ":01000300AA52" ∷ ":00000001FF" ∷ []) 0 0 (1 ∷ 2 ∷ 3 ∷ 170 ∷ []) (1 ∷ 1 ∷ 1 ∷ 0 ∷ [])
