@@ -120,21 +120,24 @@ pub record Images : Type 0 where
   pub sum-and-window : Refuses (":0100000000FE" ∷ ":00000001FF" ∷ []) 14 1
   pub window-alone : Refuses (":0100000000FF" ∷ ":00000001FF" ∷ []) 7 1
   pub count-and-sum : Refuses (":0100000100FF" ∷ []) 13 1
-  -- a type 04 line of three bytes; an empty line; a carriage return; no newline; a byte behind the window, and one that comes to lie
-  -- before it, since addresses are modulo 2^32
+  -- a type 04 line of three bytes; more pairs than the count asks; an empty line; a carriage return; no newline; a byte behind the
+  -- window, and one that comes to lie before it, since addresses are modulo 2^32; a window above all of them
   pub upper-count : Refuses (":03000004000000F9" ∷ ":00000001FF" ∷ []) 13 1
+  pub too-long : Refuses (":00000001FF00" ∷ []) 13 1
   pub empty-line : Refuses (":0100100000EF" ∷ "" ∷ ":00000001FF" ∷ []) 13 2
   pub returned : RefusesText (asc ":00000001FF" ++ (13 ∷ 10 ∷ [])) 13 1
   pub no-newline : RefusesText (asc ":00000001FF") 13 1
   pub behind-window : Refuses (":0100140000EB" ∷ ":00000001FF" ∷ []) 7 1
   pub around : Gives 4294967295 (":02000004FFFFFC" ∷ ":02FFFF00AABB9B" ∷ ":00000001FF" ∷ []) 7 2 (1 ∷ 2 ∷ 3 ∷ 4 ∷ []) (1 ∷ 1 ∷ 1 ∷ 1 ∷ [])
+  pub window-above : Gives 4294967312 (":0100100000EF" ∷ ":00000001FF" ∷ []) 7 1 (1 ∷ 2 ∷ 3 ∷ 4 ∷ []) (1 ∷ 1 ∷ 1 ∷ 1 ∷ [])
   -- the lower line of two; a line behind the end; no end; no line
   pub lower-line : Refuses (":0100000000FF" ∷ ":00000005FFF" ∷ []) 7 1
   pub behind-end : Refuses (":00000001FF" ∷ ":00000001FF" ∷ []) 13 2
   pub no-end : Refuses (":0100100000EF" ∷ []) 13 2
   pub no-lines : Refuses [] 13 1
-  -- a line of no bytes, wherever; a later byte replaces an earlier one, in lower case, with an offset of the end; a line that runs on past 64 KiB; an upper half
+  -- a line of no bytes, wherever; a later byte replaces an earlier one, in lower case, with an offset of the end; a line that runs on
+  -- past 64 KiB; an upper half, whatever the offset of its line
   pub no-bytes : Gives 16 (":0000000000" ∷ ":00000001FF" ∷ []) 0 0 (1 ∷ 2 ∷ 3 ∷ 4 ∷ []) (1 ∷ 1 ∷ 1 ∷ 1 ∷ [])
   pub replaced : Gives 16 (":03001000aaBBccbc" ∷ ":01001200DD10" ∷ ":00123401b9" ∷ []) 0 0 (170 ∷ 187 ∷ 221 ∷ 4 ∷ []) (0 ∷ 0 ∷ 0 ∷ 1 ∷ [])
   pub runs-on : Gives 65534 (":03FFFE00AABBCCCF" ∷ ":00000001FF" ∷ []) 0 0 (170 ∷ 187 ∷ 204 ∷ 4 ∷ []) (0 ∷ 0 ∷ 0 ∷ 1 ∷ [])
-  pub put-above : Gives 65536 (":020000040001F9" ∷ ":01000300AA52" ∷ ":00000001FF" ∷ []) 0 0 (1 ∷ 2 ∷ 3 ∷ 170 ∷ []) (1 ∷ 1 ∷ 1 ∷ 0 ∷ [])
+  pub put-above : Gives 65536 (":021234040001B3" ∷ ":01000300AA52" ∷ ":00000001FF" ∷ []) 0 0 (1 ∷ 2 ∷ 3 ∷ 170 ∷ []) (1 ∷ 1 ∷ 1 ∷ 0 ∷ [])
