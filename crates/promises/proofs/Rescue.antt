@@ -2,7 +2,7 @@
 -- nothing.
 use Prim.Native.Nat.{ℕ, _+_, _*_, _%_, _≤_, _<_}
 use mathlib.Core.Path.{_≡_, refl, sym, ap, _∙_, subst}
-use mathlib.Core.Bool.{true, false}
+use mathlib.Core.Bool.{true}
 use mathlib.Core.List.{List, [], _∷_}
 use mathlib.Core.Logic.{_↔_, _⊎_, inl, inr}
 use native.Mathlib.Omega.{arith}
@@ -10,14 +10,15 @@ use lib.ListN.{length, take, getD}
 use lib.Seq.{sets}
 use Rattle.listing.specs.Listing.{listingOf}
 use Rattle.rescue.specs.declared.Fate.{Fate}
-use Rattle.rescue.specs.declared.Fate.the-variants.{Dropped}
+use Rattle.rescue.specs.declared.Fate.the-variants.{Kept, Restored, Dropped}
 use Rattle.rescue.specs.Lines.{linesOf}
 use Rattle.rescue.specs.Rescue.{Fates, outputOf, reportLine, reportOf, Outcome, outcome}
 use Rattle.rescue.specs.Whole.{ended, WordLine}
 use Rattle.rescue.proofs.Fates.{fate-once, fates-once, fate-some}
-use Rattle.rescue.proofs.Certain.{first-line, last-line, three-fields, kept-fate, restored-fate, answer-4-restored, digits-not-restored, short-dropped}
+use Rattle.rescue.proofs.Certain.{first-line, last-line, three-fields, kept-is, restored-is, answer-4-restored, digits-not-restored, short-dropped}
+use Rattle.rescue.proofs.Lined.{digits-are}
 use Rattle.rescue.proofs.Rooms.{lines-count, text-most, rows-most}
-use Rattle.rescue.proofs.Promised.{AllKept, correct-listing, second-pass, output-lines, output-ended, report-lines, report-ended, report-kept, Refused, Completed, call-of, starts}
+use Rattle.rescue.proofs.Promised.{AllKept, correct-listing, second-pass, output-lines, output-ended, fates-length, fate-at, row-is, report-lines, report-ended, report-kept, Refused, Completed, call-of, starts}
 use Rattle.promises.specs.Answered.{oneOf}
 use Rattle.promises.specs.Rescue.{RescueCall, rescued, reported, SaysKept, Rescue}
 
@@ -173,17 +174,22 @@ rescue =
       first-line = first-line;
       last-line = last-line;
       one-fate = λ line. let (f, a) = fate-some line in (f, a, λ g b. fate-once line g f b a);
-      kept = λ line w below whole. kept-fate line w (record { below = below; whole = whole });
+      fates = λ lines fs a. (fates-length a, fate-at a);
+      kept = kept-is;
+      restored = restored-is;
+      digits = digits-are;
       two-tabs = three-fields;
-      restored = restored-fate;
       answer-4 = answer-4-restored;
       not-restored = digits-not-restored;
       short = short-dropped;
+      put-out = λ w. (refl, refl, refl);
+      in-order = λ f fs. (refl, refl);
       answers = λ c. answer-by c (gives c);
       exactly = λ c fs a. subst (λ gs. (c .reply .answer ≡ 10) ↔ ((length (c .output) < length (outputOf gs)) ⊎ (length (c .report) < length (reportOf gs)))) (of-fates c fs a) (exactly-by c (gives c));
       refused = λ c h. let u = refused-by c (gives c) h in (u .length-is, u .rows-are, u .output, u .report);
       done = call-done;
       rows = λ c fs a h. subst (λ gs. (length (linesOf (reported c)) ≡ length (linesOf (c .input))) × ((i : ℕ) → i < length (linesOf (c .input)) → getD (linesOf (reported c)) i [] ≡ reportLine (1 + i) (getD gs i Dropped))) (of-fates c fs a) (call-rows c h);
+      names = λ n w. (row-is n (Kept w), row-is n (Restored w), row-is n Dropped);
       newlines = call-newlines;
       correct = λ c bytes b n e h. call-correct c h bytes b n e;
       second = call-second;

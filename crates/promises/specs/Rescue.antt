@@ -7,8 +7,8 @@ use mathlib.Core.List.{List, [], _∷_, _++_}
 use mathlib.Core.Logic.{_↔_, _⊎_}
 use lib.ListN.{length, take, getD}
 use lib.Seq.{sets}
+use Rattle.ascii.specs.Ascii.{asc, dec}
 use Rattle.instruction.specs.Answers.{answerNumber}
-use Rattle.instruction.specs.Table.{allocated}
 use Rattle.decoder.specs.Decoding.{classOf}
 use Rattle.text.specs.Texts.{wordText}
 use Rattle.listing.specs.Listing.{lineText, shortText, listingOf}
@@ -17,7 +17,7 @@ use Rattle.rescue.specs.declared.Fate.the-variants.{Kept, Restored, Dropped}
 use Rattle.rescue.specs.declared.Reply.{Reply}
 use Rattle.rescue.specs.Lines.{linesOf, fieldsOf}
 use Rattle.rescue.specs.Rescue.{Digits, FateOf, Fates, lineOut, outputOf, reportLine, reportOf, outcome, RescueOf}
-use Rattle.rescue.specs.Whole.{Without, ended, keptRow, WordLine}
+use Rattle.rescue.specs.Whole.{Without, EightDigits, TextLine, ended, keptRow, WordLine}
 use Rattle.promises.specs.Answered.{oneOf}
 
 pub record RescueCall : Type 0 where
@@ -46,19 +46,25 @@ pub record Rescue : Type 0 where
   pub no-line : linesOf [] ≡ []
   pub first-line : (t rest : List ℕ) → Without 10 t → linesOf (t ++ (10 ∷ rest)) ≡ t ∷ linesOf rest
   pub last-line : (t : List ℕ) → Without 10 t → 0 < length t → linesOf t ≡ t ∷ []
+  -- each line has a fate of its own
+  pub fates : (lines : List (List ℕ)) (fs : List Fate) → Fates lines fs
+      → (length fs ≡ length lines) × ((i : ℕ) → i < length lines → FateOf (getD lines i []) (getD fs i Dropped))
   -- "Keep a line that is exactly what its eight lower-case hex digits give", "Drop any other": every line has just one fate
   pub one-fate : (line : List ℕ) → (f : Fate) × FateOf line f × ((g : Fate) → FateOf line g → g ≡ f)
-  pub kept : (line : List ℕ) (w : ℕ) → w < 2 ^ 32 → line ++ (10 ∷ []) ≡ lineText w → (f : Fate) → FateOf line f → f ≡ Kept w
+  pub kept : (line : List ℕ) (w : ℕ) → FateOf line (Kept w) ↔ ((w < 2 ^ 32) × (line ++ (10 ∷ []) ≡ lineText w))
   -- "In a line of exactly two tabs, if the first field isn't such digits but the second is an allocated word's text, restore the line from
   -- that text", whatever the third field, a word of answer 4 included. A first field of eight digits is kept or dropped
+  pub restored : (line : List ℕ) (w : ℕ) → FateOf line (Restored w) ↔ TextLine line w
+  pub digits : (t : List ℕ) → Digits t ↔ EightDigits t
   pub two-tabs : (a t b : List ℕ) → Without 9 a → Without 9 t → Without 9 b → fieldsOf (a ++ (9 ∷ (t ++ (9 ∷ b)))) ≡ a ∷ t ∷ b ∷ []
-  pub restored : (a b : List ℕ) (w : ℕ) → Without 9 a → Without 9 b → ¬ Digits a → w < 2 ^ 32 → allocated w ≡ true
-      → (f : Fate) → FateOf (a ++ (9 ∷ (wordText w ++ (9 ∷ b)))) f → f ≡ Restored w
   pub answer-4 : (a b : List ℕ) (w : ℕ) → Without 9 a → Without 9 b → ¬ Digits a → w < 2 ^ 32 → answerNumber (classOf w) ≡ 4
       → (f : Fate) → FateOf (a ++ (9 ∷ (wordText w ++ (9 ∷ b)))) f → lineOut f ≡ lineText w
   pub not-restored : (line a : List ℕ) (rest : List (List ℕ)) → fieldsOf line ≡ a ∷ rest → Digits a → (w : ℕ) → ¬ FateOf line (Restored w)
   -- "`short` lines included"
   pub short : (line : List ℕ) (n : ℕ) → 0 < n → line ++ (10 ∷ []) ≡ shortText n → (f : Fate) → FateOf line f → f ≡ Dropped
+  -- what is put out for a line, in the order of the lines
+  pub put-out : (w : ℕ) → (lineOut (Kept w) ≡ lineText w) × (lineOut (Restored w) ≡ lineText w) × (lineOut Dropped ≡ [])
+  pub in-order : (f : Fate) (fs : List Fate) → (outputOf [] ≡ []) × (outputOf (f ∷ fs) ≡ lineOut f ++ outputOf fs)
   -- it answers, "10 if output or report lacks room", and exactly then, "both unchanged" and both lengths 0
   pub answers : (c : RescueCall) → oneOf (0 ∷ 10 ∷ []) (c .reply .answer) ≡ true
   pub exactly : (c : RescueCall) (fs : List Fate) → Fates (linesOf (c .input)) fs
@@ -72,6 +78,9 @@ pub record Rescue : Type 0 where
   pub rows : (c : RescueCall) (fs : List Fate) → Fates (linesOf (c .input)) fs → c .reply .answer ≡ 0
       → (length (linesOf (reported c)) ≡ length (linesOf (c .input)))
       × ((i : ℕ) → i < length (linesOf (c .input)) → getD (linesOf (reported c)) i [] ≡ reportLine (1 + i) (getD fs i Dropped))
+  pub names : (n w : ℕ)
+      → (reportLine n (Kept w) ≡ dec n ++ (9 ∷ []) ++ asc "kept") × (reportLine n (Restored w) ≡ dec n ++ (9 ∷ []) ++ asc "restored")
+      × (reportLine n Dropped ≡ dec n ++ (9 ∷ []) ++ asc "dropped")
   -- "Lines put out, the report's too, end in a newline"
   pub newlines : (c : RescueCall) → c .reply .answer ≡ 0 → (rescued c ≡ ended (linesOf (rescued c))) × (reported c ≡ ended (linesOf (reported c)))
   -- "A listing correct by today's rules, without a `short` line, comes back unchanged"

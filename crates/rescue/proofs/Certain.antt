@@ -1,8 +1,9 @@
 -- Lines whose fate is told by what stands in them. Assumes nothing.
-use Prim.Native.Nat.{ℕ, suc, _+_, _^_, _≤_, _<_}
-use mathlib.Core.Path.{_≡_, refl, sym, ap, _∙_}
+use Prim.Native.Nat.{ℕ, zero, suc, _+_, _^_, _≤_, _<_}
+use mathlib.Core.Path.{_≡_, refl, sym, ap, _∙_, subst}
 use mathlib.Core.Bool.{true, not, _||_}
 use mathlib.Core.List.{List, [], _∷_, _++_}
+use mathlib.Core.Logic.{_↔_}
 use native.Mathlib.Omega.{arith}
 use borrow.Author.Tests.{ne-eqb, not-true}
 use lib.Dec.{eqb}
@@ -28,18 +29,24 @@ use Rattle.reader.proofs.Ranges.{in-range}
 use Rattle.listing.specs.Listing.{lineText, shortText}
 use Rattle.rescue.specs.Lines.{linesOf, fieldsOf}
 use Rattle.rescue.specs.Rescue.{Digits, KeptAs, RestoredAs, FateOf, lineOut}
-use Rattle.rescue.specs.Whole.{Without}
+use Rattle.rescue.specs.Whole.{Without, TextLine}
 use Rattle.rescue.specs.declared.Fate.{Fate}
-use Rattle.rescue.specs.declared.Fate.the-variants.{Kept, Restored, Dropped}
-use Rattle.rescue.proofs.Parts.{Free, nil, cons, clean-free, parts-part, parts-last, lines-last}
+use Rattle.rescue.specs.declared.Fate.the-variants.{Restored, Dropped}
+use Rattle.rescue.proofs.Parts.{Free, nil, cons, Parted, only, more, parted, clean-free, parts-part, parts-last, lines-last}
 use Rattle.rescue.proofs.Hex.{hex-length}
+use Rattle.rescue.proofs.Lined.{digits-are}
 use Rattle.rescue.proofs.Fates.{fate-once, text-dropped, no-newline}
 
 -- ---- parting
 
-pub without-free : (s : ℕ) (t : List ℕ) → Without s t → Free s t
+without-free : (s : ℕ) (t : List ℕ) → Without s t → Free s t
 without-free s [] h = nil
 without-free s (b ∷ bs) h = cons {b = b} (h 0 (omega arith)) (without-free s bs (λ i k. h (suc i) (omega arith)))
+
+free-without : {s : ℕ} {t : List ℕ} → Free s t → Without s t
+free-without nil i h = absurd (omega (arith, h))
+free-without (cons h c) zero k = h
+free-without (cons h c) (suc i) k = free-without c i (omega arith)
 
 pub first-line : (t rest : List ℕ) → Without 10 t → linesOf (t ++ (10 ∷ rest)) ≡ t ∷ linesOf rest
 first-line t rest h = parts-part 10 [] (without-free 10 t h) rest
@@ -56,23 +63,57 @@ three-fields a t b f g h = fields-of b (without-free 9 a f) (without-free 9 t g)
 
 -- ---- kept and restored
 
-pub kept-fate : (line : List ℕ) (w : ℕ) → KeptAs line w → (f : Fate) → FateOf line f → f ≡ Kept w
-kept-fate line w k f a = fate-once line f (Kept w) a k
+pub kept-is : (line : List ℕ) (w : ℕ) → KeptAs line w ↔ ((w < 2 ^ 32) × (line ++ (10 ∷ []) ≡ lineText w))
+kept-is line w = ((λ k. (k .below, k .whole)), (λ k. record { below = k .0; whole = k .1 }))
 
-pub restored-fate : (a b : List ℕ) (w : ℕ) → Without 9 a → Without 9 b → ¬ Digits a → w < 2 ^ 32 → allocated w ≡ true
-    → (f : Fate) → FateOf (a ++ (9 ∷ (wordText w ++ (9 ∷ b)))) f → f ≡ Restored w
-restored-fate a b w h k n below defined f x =
-    let fields = fields-of b (without-free 9 a h) (clean-free 9 (omega arith) (text-clean w)) (without-free 9 b k) in
-    let r : RestoredAs (a ++ (9 ∷ (wordText w ++ (9 ∷ b)))) w =
-    record { first = a; second = wordText w; third = b; fields = fields; other = n; text = record { below = below; defined = defined; line = refl } } in
-    fate-once (a ++ (9 ∷ (wordText w ++ (9 ∷ b)))) f (Restored w) x r
+-- three fields, and the bytes of the line
+record Three (line a t b : List ℕ) : Type 0 where
+  whole : line ≡ a ++ (9 ∷ (t ++ (9 ∷ b)))
+  no-tab : Without 9 a × Without 9 b
+
+three-by : {line a t b : List ℕ} → Parted 9 (a ∷ t ∷ b ∷ []) line → Three line a t b
+three-by (more f (more g (only h))) = record { whole = refl; no-tab = (free-without f, free-without h) }
+
+three-of : (line a t b : List ℕ) → fieldsOf line ≡ a ∷ t ∷ b ∷ [] → Three line a t b
+three-of line a t b e = three-by (subst (λ ps. Parted 9 ps line) e (parted 9 line))
+
+text-line : (line : List ℕ) (w : ℕ) → RestoredAs line w → TextLine line w
+text-line line w r =
+    let q = three-of line (r .first) (r .second) (r .third) (r .fields) in
+    record {
+      before = r .first;
+      behind = r .third;
+      whole = q .whole ∙ ap (λ (t : List ℕ). r .first ++ (9 ∷ (t ++ (9 ∷ r .third)))) (sym (r .text .line));
+      no-tab = q .no-tab;
+      other = λ d. r .other (digits-are (r .first) .1 d);
+      below = r .text .below;
+      defined = r .text .defined;
+    }
+
+restored-as : (a b : List ℕ) (w : ℕ) → Without 9 a → Without 9 b → ¬ Digits a → w < 2 ^ 32 → allocated w ≡ true → RestoredAs (a ++ (9 ∷ (wordText w ++ (9 ∷ b)))) w
+restored-as a b w h k n below defined =
+    record {
+      first = a;
+      second = wordText w;
+      third = b;
+      fields = fields-of b (without-free 9 a h) (clean-free 9 (omega arith) (text-clean w)) (without-free 9 b k);
+      other = n;
+      text = record { below = below; defined = defined; line = refl };
+    }
+
+pub restored-is : (line : List ℕ) (w : ℕ) → RestoredAs line w ↔ TextLine line w
+restored-is line w = (text-line line w, back)
+  where
+    back : TextLine line w → RestoredAs line w
+    back t =
+        subst (λ l. RestoredAs l w) (sym (t .whole)) (restored-as (t .before) (t .behind) w (t .no-tab .0) (t .no-tab .1) (λ d. t .other (digits-are (t .before) .0 d)) (t .below) (t .defined))
 
 -- a word of answer 4 is allocated
 pub answer-4-restored : (a b : List ℕ) (w : ℕ) → Without 9 a → Without 9 b → ¬ Digits a → w < 2 ^ 32 → answerNumber (classOf w) ≡ 4
     → (f : Fate) → FateOf (a ++ (9 ∷ (wordText w ++ (9 ∷ b)))) f → lineOut f ≡ lineText w
 answer-4-restored a b w h k n below answer f x =
     let defined : allocated w ≡ true = sym (allocated-is w refl refl) ∙ ap (λ (m : ℕ). eqb m 0 || eqb m 4) answer in
-    ap lineOut (restored-fate a b w h k n below defined f x)
+    ap lineOut (fate-once (a ++ (9 ∷ (wordText w ++ (9 ∷ b)))) f (Restored w) x (restored-as a b w h k n below defined))
 
 pub digits-not-restored : (line a : List ℕ) (rest : List (List ℕ)) → fieldsOf line ≡ a ∷ rest → Digits a → (w : ℕ) → ¬ FateOf line (Restored w)
 digits-not-restored line a rest e d w r =

@@ -1,5 +1,5 @@
 -- Each line has just one fate. Assumes nothing.
-use Prim.Native.Nat.{ℕ, suc, _+_, _^_, _≤_, _<_}
+use Prim.Native.Nat.{ℕ, _+_, _^_, _<_}
 use mathlib.Core.Path.{_≡_, refl, sym, ap, _∙_, subst}
 use mathlib.Core.Bool.{Bool, true, false}
 use mathlib.Core.List.{List, [], _∷_, _++_, append-assoc, List-discrete}
@@ -10,7 +10,6 @@ use lib.ListN.{length, take, length-append}
 use lib.Seq.{take-at}
 use Rattle.bits.specs.Choice.{pick}
 use Rattle.ascii.specs.Ascii.{asc}
-use Rattle.instruction.specs.declared.answer.Answer.{Answer}
 use Rattle.instruction.specs.Answers.{answerNumber}
 use Rattle.instruction.specs.Table.{allocated}
 use Rattle.decoder.specs.Decoding.{classOf}
@@ -19,7 +18,7 @@ use Rattle.reader.specs.declared.Reading.{Reading}
 use Rattle.reader.specs.Reading.{LineOf, ReadOf}
 use Rattle.reader.proofs.RoundTrip.{text-injective, read-some}
 use Rattle.listing.specs.Listing.{hex8, contentText, answerText, lineText}
-use Rattle.rescue.specs.Lines.{linesOf, fieldsOf}
+use Rattle.rescue.specs.Lines.{fieldsOf}
 use Rattle.rescue.specs.Rescue.{Digits, KeptAs, RestoredAs, FateOf, Fates, none, next}
 use Rattle.rescue.specs.declared.Fate.{Fate}
 use Rattle.rescue.specs.declared.Fate.the-variants.{Kept, Restored, Dropped}
@@ -74,7 +73,7 @@ regroup : (a t b : List ℕ) → a ++ (9 ∷ []) ++ t ++ (9 ∷ []) ++ b ≡ a +
 regroup a t b = simp append-assoc
 
 -- and three fields
-pub body-fields : (w : ℕ) → fieldsOf (bodyOf w) ≡ hex8 w ∷ contentText w ∷ answerOf w ∷ []
+body-fields : (w : ℕ) → fieldsOf (bodyOf w) ≡ hex8 w ∷ contentText w ∷ answerOf w ∷ []
 unfolding bodyOf
 body-fields w =
     ap fieldsOf (regroup (hex8 w) (contentText w) (answerOf w))
@@ -89,7 +88,7 @@ no-newline a b e =
     sym (take-at a (10 ∷ []) (length a) refl) ∙ ap (take (length a)) e ∙ take-at b (10 ∷ []) (length a) (sym n)
 
 module _ {line : List ℕ} where
-  pub kept-body : {w : ℕ} → KeptAs line w → line ≡ bodyOf w
+  kept-body : {w : ℕ} → KeptAs line w → line ≡ bodyOf w
   kept-body {w} k = no-newline line (bodyOf w) (k .whole ∙ line-is w)
 
   pub kept-fields : {w : ℕ} → KeptAs line w → fieldsOf line ≡ hex8 w ∷ contentText w ∷ answerOf w ∷ []
@@ -104,7 +103,7 @@ module _ {line : List ℕ} where
       let e : hex8 v ≡ hex8 w = cc in
       hex-injective v w (k .below) (l .below) e
 
-  pub kept-not : {v w : ℕ} → KeptAs line v → RestoredAs line w → ⊥
+  kept-not : {v w : ℕ} → KeptAs line v → RestoredAs line w → ⊥
   kept-not {v} k r =
       let p = kept-fields k in
       let q = r .fields in

@@ -1,14 +1,14 @@
 -- Eight digits and their word. Assumes nothing.
-use Prim.Native.Nat.{ℕ, zero, suc, _+_, _*_, _/_, _%_, _^_, _≤_, _<_}
+use Prim.Native.Nat.{ℕ, zero, suc, _+_, _*_, _/_, _%_, _^_, _<_}
 use mathlib.Core.Path.{_≡_, refl, sym, ap, _∙_}
-use mathlib.Core.Bool.{Bool, true, false, not}
+use mathlib.Core.Bool.{true}
 use mathlib.Core.List.{List, [], _∷_, _++_, List-discrete}
 use native.Mathlib.Decide.{ℕ-discrete}
 use native.Mathlib.Nat.{pow-suc}
 use native.Mathlib.Omega.{arith}
 use borrow.Author.Tests.{eqb-true, ltb-true, lt-ltb}
 use lib.Dec.{eqb, ltb}
-use lib.ListN.{length, getD, length-append}
+use lib.ListN.{length}
 use Rattle.bits.specs.Choice.{pick}
 use Rattle.bits.proofs.Choices.{tested}
 use Rattle.listing.specs.Listing.{hexDigit, hex4, hex8}
@@ -64,7 +64,7 @@ value-back (suc n) w h =
     ∙ ap (λ (d : ℕ). w / 16 * 16 + d) (digit-back (w % 16) (omega arith))
     ∙ omega arith
 
-pub hex-value : (w : ℕ) → w < 2 ^ 32 → value 0 (hex8 w) ≡ w
+hex-value : (w : ℕ) → w < 2 ^ 32 → value 0 (hex8 w) ≡ w
 hex-value w h = ap (value 0) (hex-same w) ∙ value-back 8 w (omega (arith, h))
 
 pub hex-injective : (v w : ℕ) → v < 2 ^ 32 → w < 2 ^ 32 → hex8 v ≡ hex8 w → v ≡ w

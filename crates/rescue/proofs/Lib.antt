@@ -1,8 +1,8 @@
 pub mod Parts
 pub mod Hex
 pub mod Fates
-pub mod Certain
 pub mod Lined
+pub mod Certain
 pub mod Told
 pub mod Rooms
 pub mod Passed

@@ -1,28 +1,28 @@
 -- What the steps through one line show, over plain values. Assumes nothing.
 use Prim.Native.Nat.{ℕ, zero, suc, _+_, _*_, _/_, _%_, _^_, _-_, _≤_, _<_}
 use mathlib.Core.Path.{_≡_, refl, sym, ap, _∙_, subst}
-use mathlib.Core.Bool.{Bool, true, false}
+use mathlib.Core.Bool.{Bool, true}
 use mathlib.Core.List.{List, [], _∷_, _++_, append-assoc}
 use mathlib.Core.Logic.{inl, inr, _↔_}
 use native.Mathlib.Nat.{pow-suc, not-suc-le-zero}
+use native.Mathlib.Decide.{decLt}
 use native.Mathlib.Numerals.{add-one}
 use native.Mathlib.Omega.{arith}
 use borrow.Author.Tests.{lt-ltb, le-ltb, le-leb, lt-leb, leb-true}
-use lib.Dec.{eqb, ltb, leb}
-use lib.ListN.{length, take, drop, getD, length-append, length-drop, drop-of-length-le}
-use lib.Seq.{sets, sets-eq, length-sets, take-at, take-suc, getD-take, drop-cons}
-use Rattle.bits.specs.Choice.{pick}
+use lib.Dec.{leb}
+use lib.ListN.{length, take, drop, getD, length-append, drop-of-length-le}
+use lib.Seq.{sets-eq, take-at, take-all, take-suc, getD-take}
 use Rattle.bits.proofs.Choices.{tested}
 use Rattle.ascii.specs.route.Puts.{Puts}
 use Rattle.ascii.proofs.Pieces.{fits}
-use Rattle.listing.specs.Listing.{hexDigit, hex8, lineText, lineMost}
+use Rattle.listing.specs.Listing.{hexDigit, lineText, lineMost}
 use Rattle.listing.proofs.Steps.{line-short}
-use Rattle.rescue.specs.Lines.{fieldsOf}
-use Rattle.rescue.specs.Rescue.{Digits, FateOf}
+use Rattle.rescue.specs.Rescue.{Digits}
 use Rattle.rescue.specs.route.Search.{until, digitOf, hexN}
+use Rattle.rescue.specs.Whole.{LowerDigit, EightDigits}
 use Rattle.rescue.specs.route.Steps.{DigitsAre}
 use Rattle.rescue.proofs.Parts.{until-on, until-here}
-use Rattle.rescue.proofs.Hex.{digit-back, digit-is, hex-same}
+use Rattle.rescue.proofs.Hex.{digit-back, digit-is, hex-same, hex-length}
 use Rattle.rescue.proofs.Fates.{bodyOf, line-is, line-length, no-newline}
 
 -- ---- where a byte first stands
@@ -125,6 +125,48 @@ not-digits xs i h e k =
           omega (arith, g, ap digitOf f),
     )
 
+-- such digits, byte by byte
+lower-digit : (b : ℕ) → digitOf b < 16 → LowerDigit b
+lower-digit b h = by (decLt b 48) (decLt 57 b) (decLt b 97) (decLt 102 b)
+  where
+    by : Dec (b < 48) → Dec (57 < b) → Dec (b < 97) → Dec (102 < b) → LowerDigit b
+    by (yes a) c d e = absurd (omega (arith, h, digit-below b a))
+    by (no a) (no c) d e = inl (omega arith, omega arith)
+    by (no a) (yes c) (yes d) e = absurd (omega (arith, h, digit-between b c d))
+    by (no a) (yes c) (no d) (yes e) = absurd (omega (arith, h, digit-above b e))
+    by (no a) (yes c) (no d) (no e) = inr (omega arith, omega arith)
+
+digit-lower : (b : ℕ) → LowerDigit b → digitOf b < 16
+digit-lower b (inl (h, k)) = omega (arith, digit-figure b h k)
+digit-lower b (inr (h, k)) = omega (arith, digit-letter b h k)
+
+byte-lower : (b : ℕ) → LowerDigit b → b < 256
+byte-lower b (inl (h, k)) = omega arith
+byte-lower b (inr (h, k)) = omega arith
+
+sofar-all : (t : List ℕ) → EightDigits t → (i : ℕ) → i ≤ 8 → (w : ℕ) × Sofar t i w
+sofar-all t d zero h = (0, sofar-none t)
+sofar-all t d (suc i) h =
+    let (w, s) = sofar-all t d i (omega arith) in
+    let l = d .1 i (omega arith) in
+    let b = getD t i 0 in
+    (w * 16 + digitOf b, subst (λ j. Sofar t j (w * 16 + digitOf b)) (add-one i) (sofar-more s (omega (arith, d .0)) (byte-lower b l) refl (digit-lower b l)))
+
+pub digits-are : (t : List ℕ) → Digits t ↔ EightDigits t
+digits-are t = (there, back)
+  where
+    there : Digits t → EightDigits t
+    there d =
+        let e : hexN 8 (d .0) ≡ t = sym (hex-same (d .0)) ∙ d .2 in (
+          ap length (sym (d .2)) ∙ hex-length (d .0),
+          λ i h. subst (λ (l : List ℕ). LowerDigit (getD l i 0)) e (lower-digit (getD (hexN 8 (d .0)) i 0) (hexed-at (hexed 8 (d .0)) i h)),
+        )
+
+    back : EightDigits t → Digits t
+    back d =
+        let (w, s) = sofar-all t d 8 (omega arith) in
+        (w, omega (arith, s .below), hex-same w ∙ s .shown ∙ take-all 8 t (omega (arith, d .0)))
+
 -- ---- the line of a word
 
 module _ (w : ℕ) {xs ys : List ℕ} {r : ℕ} (p : Puts xs 0 (lineText w) ys r) (h : lineMost + 1 ≤ length xs) where
@@ -145,9 +187,6 @@ module _ (w : ℕ) {xs ys : List ℕ} {r : ℕ} (p : Puts xs 0 (lineText w) ys r
       ∙ ap (take (length (bodyOf w))) (p .text ∙ sets-eq (lineText w) xs 0 s ∙ ap (λ (t : List ℕ). t ++ drop (0 + length (lineText w)) xs) (line-is w)
       ∙ append-assoc (bodyOf w) (10 ∷ []) (drop (0 + length (lineText w)) xs))
       ∙ take-at (bodyOf w) ((10 ∷ []) ++ drop (0 + length (lineText w)) xs) (length (bodyOf w)) refl
-
-  put-room : r - 1 ≤ length ys
-  put-room = omega (arith, put-end, ap length (p .text), length-sets xs 0 (lineText w), line-long, line-short w)
 
   pub line-told : (line : List ℕ) {b : Bool} (n : ℕ) → (b ≡ true) ↔ (take n ys ≡ line) → n ≡ r - 1 → (b ≡ true) ↔ (line ++ (10 ∷ []) ≡ lineText w)
   line-told line n e q =

@@ -1,6 +1,6 @@
 -- Parting bytes: at the first byte that parts, and a text in which none parts. Assumes nothing.
-use Prim.Native.Nat.{ℕ, zero, suc, _+_, _≤_, _<_}
-use mathlib.Core.Path.{_≡_, refl, sym, ap, _∙_}
+use Prim.Native.Nat.{ℕ, suc, _≤_, _<_}
+use mathlib.Core.Path.{_≡_, refl, ap}
 use mathlib.Core.Bool.{Bool, true, false}
 use mathlib.Core.List.{List, [], _∷_, _++_}
 use native.Mathlib.Omega.{arith}
@@ -45,6 +45,22 @@ pub lines-last : (s : ℕ) {p : List ℕ} → Free s p → 0 < length p → part
 lines-last s nil h = absurd (omega (arith, h))
 lines-last s (cons {b} n nil) h = single b (eqb b s) (ne-eqb b s n)
 lines-last s (cons {b} n (cons {b = c} m r)) h = rw (ne-eqb b s n, lines-last s (cons {b = c} m r) (omega arith))
+
+-- ---- the bytes of fields
+
+-- some bytes, and their parts
+pub data Parted (s : ℕ) : List (List ℕ) → List ℕ → Type 0 where
+  only : {p : List ℕ} → Free s p → Parted s (p ∷ []) p
+  more : {p : List ℕ} {ps : List (List ℕ)} {bs : List ℕ} → Free s p → Parted s ps bs → Parted s (p ∷ ps) (p ++ (s ∷ bs))
+
+parted-by : {s : ℕ} (b : ℕ) {ps : List (List ℕ)} {bs : List ℕ} → Parted s ps bs → (z : Bool) → eqb b s ≡ z → Parted s (pick z ([] ∷ ps) (lead b ps)) (b ∷ bs)
+parted-by {s} b f true e = rw (eqb-true b s e) (more nil f)
+parted-by {s} b (only h) false e = only (cons {b = b} (eqb-false b s e) h)
+parted-by {s} b (more h f) false e = more (cons {b = b} (eqb-false b s e) h) f
+
+pub parted : (s : ℕ) (bs : List ℕ) → Parted s (partsAt s ([] ∷ []) bs) bs
+parted s [] = only nil
+parted s (b ∷ bs) = parted-by b (parted s bs) (eqb b s) refl
 
 -- ---- by the first byte that parts
 

@@ -1,5 +1,5 @@
 -- What is promised of rescued listings. Assumes nothing.
-use Prim.Native.Nat.{ℕ, zero, suc, _+_, _*_, _%_, _^_, _≤_, _<_}
+use Prim.Native.Nat.{ℕ, zero, suc, _+_, _%_, _^_, _≤_, _<_}
 use mathlib.Core.Path.{_≡_, refl, sym, ap, _∙_, subst}
 use mathlib.Core.Bool.{Bool, true, false, _||_}
 use mathlib.Core.List.{List, [], _∷_, _++_, append-assoc}
@@ -14,26 +14,25 @@ use Rattle.bits.specs.Choice.{pick}
 use Rattle.ascii.specs.Ascii.{asc, dec}
 use Rattle.instruction.specs.Table.{allocated}
 use Rattle.text.specs.Texts.{wordText}
-use Rattle.reader.specs.declared.Reading.{Reading}
 use Rattle.reader.specs.Reading.{ReadOf}
 use Rattle.reader.proofs.RoundTrip.{read-back}
-use Rattle.listing.specs.Listing.{hex8, contentText, lineText, shortText, wordOf, listingOf}
-use Rattle.rescue.specs.Lines.{linesOf, fieldsOf}
-use Rattle.rescue.specs.Rescue.{KeptAs, Fates, outputOf, fateName, reportLine, reportFrom, reportOf, Outcome, lacks, bothPut, RescueOf}
+use Rattle.listing.specs.Listing.{contentText, lineText, shortText, wordOf, listingOf}
+use Rattle.rescue.specs.Lines.{linesOf}
+use Rattle.rescue.specs.Rescue.{KeptAs, FateOf, Fates, outputOf, fateName, reportLine, reportFrom, reportOf, Outcome, lacks, bothPut, RescueOf}
 use Rattle.rescue.specs.Whole.{ended, keptRow, WordLine}
 use Rattle.rescue.specs.declared.Fate.{Fate}
 use Rattle.rescue.specs.declared.Fate.the-variants.{Kept, Restored, Dropped}
-use Rattle.text.proofs.Clean.{Clean, known, dec-clean}
+use Rattle.text.proofs.Clean.{known, dec-clean}
 use Rattle.rescue.proofs.Parts.{Free, nil, cons, clean-free, free-joins, parts-part}
 use Rattle.rescue.proofs.Fates.{bodyOf, line-is, body-free, kept-fields, fates-once}
 use Rattle.rescue.proofs.Passed.{not-put, are-put}
 
 -- ---- the line of a word, as a line
 
-pub kept-of : (w : ℕ) → w < 2 ^ 32 → KeptAs (bodyOf w) w
+kept-of : (w : ℕ) → w < 2 ^ 32 → KeptAs (bodyOf w) w
 kept-of w h = record { below = h; whole = sym (line-is w) }
 
-pub body-lines : (w : ℕ) (rest : List ℕ) → linesOf (lineText w ++ rest) ≡ bodyOf w ∷ linesOf rest
+body-lines : (w : ℕ) (rest : List ℕ) → linesOf (lineText w ++ rest) ≡ bodyOf w ∷ linesOf rest
 body-lines w rest =
     ap linesOf (ap (λ (l : List ℕ). l ++ rest) (line-is w) ∙ append-assoc (bodyOf w) (10 ∷ []) rest)
     ∙ parts-part 10 [] (body-free w) rest
@@ -180,9 +179,15 @@ row-at (f ∷ fs) n (suc i) h =
     let e : suc n + i ≡ n + suc i = omega arith in
     row-at fs (suc n) i (omega arith) ∙ ap (λ (k : ℕ). reportLine k (getD fs i Dropped)) e
 
-fates-length : {lines : List (List ℕ)} {fs : List Fate} → Fates lines fs → length fs ≡ length lines
+pub fates-length : {lines : List (List ℕ)} {fs : List Fate} → Fates lines fs → length fs ≡ length lines
 fates-length Fates.none = refl
 fates-length (Fates.next a r) = ap suc (fates-length r)
+
+-- each line has its fate
+pub fate-at : {lines : List (List ℕ)} {fs : List Fate} → Fates lines fs → (i : ℕ) → i < length lines → FateOf (getD lines i []) (getD fs i Dropped)
+fate-at Fates.none i h = absurd (omega (arith, h))
+fate-at (Fates.next a r) zero h = a
+fate-at (Fates.next a r) (suc i) h = fate-at r i (omega arith)
 
 -- each line has one line in the report, numbered from 1
 pub report-lines : {lines : List (List ℕ)} {fs : List Fate} → Fates lines fs
@@ -200,7 +205,7 @@ name-kept AllKept.none i h = absurd (omega (arith, h))
 name-kept (AllKept.next k) zero h = refl
 name-kept (AllKept.next k) (suc i) h = name-kept k i (omega arith)
 
-row-is : (n : ℕ) (f : Fate) → reportLine n f ≡ dec n ++ (9 ∷ []) ++ fateName f
+pub row-is : (n : ℕ) (f : Fate) → reportLine n f ≡ dec n ++ (9 ∷ []) ++ fateName f
 unfolding reportLine
 row-is n f = refl
 

@@ -1,5 +1,5 @@
 -- The rooms that any input of so many bytes and lines needs at most. Assumes nothing.
-use Prim.Native.Nat.{ℕ, zero, suc, _+_, _*_, _/_, _%_, _-_, _≤_, _<_}
+use Prim.Native.Nat.{ℕ, zero, suc, _+_, _*_, _/_, _%_, _-_, _≤_}
 use mathlib.Core.Path.{_≡_, refl, sym, ap, _∙_, subst}
 use mathlib.Core.Bool.{Bool, true, false}
 use mathlib.Core.List.{List, [], _∷_, _++_}
@@ -9,14 +9,12 @@ use lib.Dec.{eqb, ltb}
 use lib.ListN.{length, take, length-append}
 use lib.Seq.{length-take-le}
 use Rattle.bits.specs.Choice.{pick}
-use Rattle.ascii.specs.Ascii.{asc, digits, dec}
-use Rattle.instruction.specs.Table.{allocated}
-use Rattle.text.specs.Texts.{wordText}
+use Rattle.ascii.specs.Ascii.{digits, dec}
 use Rattle.reader.specs.Reading.{LineOf}
-use Rattle.listing.specs.Listing.{contentText, lineText, lineMost}
+use Rattle.listing.specs.Listing.{contentText, lineMost}
 use Rattle.listing.proofs.Steps.{line-short}
 use Rattle.rescue.specs.Lines.{lead, partsAt, linesOf, fieldsOf}
-use Rattle.rescue.specs.Rescue.{KeptAs, RestoredAs, FateOf, Fates, none, next, lineOut, outputOf, fateName, reportLine, reportFrom, reportOf}
+use Rattle.rescue.specs.Rescue.{FateOf, Fates, none, next, lineOut, outputOf, fateName, reportLine, reportFrom, reportOf}
 use Rattle.rescue.specs.declared.Fate.{Fate}
 use Rattle.rescue.specs.declared.Fate.the-variants.{Kept, Restored, Dropped}
 use Rattle.rescue.specs.route.Steps.{FitsAs, LongAs}

@@ -1,5 +1,5 @@
 -- What each return of the functions over a line shows of its fate, over plain values. Assumes nothing.
-use Prim.Native.Nat.{ℕ, zero, suc, _+_, _^_, _-_, _≤_, _<_}
+use Prim.Native.Nat.{ℕ, suc, _+_, _^_, _-_, _≤_, _<_}
 use mathlib.Core.Path.{_≡_, refl, sym, ap, _∙_, subst}
 use mathlib.Core.Bool.{Bool, true, false}
 use mathlib.Core.List.{List, [], _∷_, _++_}
@@ -13,12 +13,11 @@ use native.Mathlib.Decide.{decLt}
 use Rattle.bits.specs.Choice.{pick}
 use Rattle.instruction.specs.Answers.{answerNumber}
 use Rattle.reader.specs.declared.Reading.{Reading}
-use Rattle.reader.specs.Reading.{LineOf, ReadOf}
+use Rattle.reader.specs.Reading.{ReadOf}
 use Rattle.listing.specs.Listing.{hex8, lineText}
-use Rattle.rescue.specs.Lines.{lead, partsAt, fieldsOf}
+use Rattle.rescue.specs.Lines.{lead, fieldsOf}
 use Rattle.rescue.specs.Rescue.{Digits, KeptAs, RestoredAs, FateOf}
-use Rattle.rescue.specs.declared.Fate.{Fate}
-use Rattle.rescue.specs.declared.Fate.the-variants.{Kept, Restored, Dropped}
+use Rattle.rescue.specs.declared.Fate.the-variants.{Dropped}
 use Rattle.rescue.specs.route.Search.{until}
 use Rattle.rescue.specs.route.Steps.{DigitsAre, WordFirst, OtherFirst}
 use Rattle.rescue.proofs.Parts.{fields-until, fields-only, until-most}
@@ -54,7 +53,7 @@ module _ (X : List ℕ) where
       let l : length X ≤ n = omega arith in
       ([], fields-only 9 X k ∙ ap (λ (t : List ℕ). t ∷ []) (sym (take-all n X l)))
 
-  pub first-field : (n : ℕ) → n ≡ until 9 X → (rest : List (List ℕ)) × (fieldsOf X ≡ take n X ∷ rest)
+  first-field : (n : ℕ) → n ≡ until 9 X → (rest : List (List ℕ)) × (fieldsOf X ≡ take n X ∷ rest)
   first-field n e = first-by n e (decLt n (length X))
 
   -- a first field of eight digits
@@ -95,9 +94,6 @@ module _ (X : List ℕ) where
     tab-in h = omega (arith, o .ends, until-most 9 X)
 
     module _ (h : n < length X) (m : ℕ) (e : m ≡ n + 1 + until 9 (drop (n + 1) X)) where
-      A : List ℕ
-      A = drop (n + 1) X
-
       one-field : fieldsOf X ≡ take n X ∷ fieldsOf (drop (n + 1) X)
       one-field = rw (o .ends) (first-here (omega (arith, h, o .ends)))
 

@@ -1,8 +1,9 @@
 -- What is said of rescued listings.
-use Prim.Native.Nat.{ℕ, _+_, _^_, _<_}
+use Prim.Native.Nat.{ℕ, _+_, _^_, _≤_, _<_}
 use mathlib.Core.Path.{_≡_}
 use mathlib.Core.Bool.{true, false}
 use mathlib.Core.List.{List, [], _∷_, _++_}
+use mathlib.Core.Logic.{_⊎_}
 use lib.ListN.{length, getD}
 use Rattle.ascii.specs.Ascii.{asc, dec}
 use Rattle.instruction.specs.declared.answer.Answer.the-variants.{Done}
@@ -18,6 +19,24 @@ use Rattle.rescue.specs.Lines.{fieldsOf}
 -- none of the bytes is s
 abbrev pub Without : ℕ → List ℕ → Type 0
 Without s t = (i : ℕ) → i < length t → ¬ (getD t i 0 ≡ s)
+
+-- 0 to 9, or a to f
+abbrev pub LowerDigit : ℕ → Type 0
+LowerDigit b = ((48 ≤ b) × (b ≤ 57)) ⊎ ((97 ≤ b) × (b ≤ 102))
+
+-- eight such bytes
+abbrev pub EightDigits : List ℕ → Type 0
+EightDigits t = (length t ≡ 8) × ((i : ℕ) → i < 8 → LowerDigit (getD t i 0))
+
+-- a line of exactly two tabs, with the text of an allocated word between them and no eight digits before them
+pub record TextLine (line : List ℕ) (w : ℕ) : Type 0 where
+  pub before : List ℕ
+  pub behind : List ℕ
+  pub whole : line ≡ before ++ (9 ∷ (wordText w ++ (9 ∷ behind)))
+  pub no-tab : Without 9 before × Without 9 behind
+  pub other : ¬ EightDigits before
+  pub below : w < 2 ^ 32
+  pub defined : allocated w ≡ true
 
 -- lines, each with its newline
 abbrev pub ended : List (List ℕ) → List ℕ
