@@ -3,6 +3,7 @@ pub mod Hex
 pub mod Fates
 pub mod Lined
 pub mod Certain
+pub mod Placed
 pub mod Told
 pub mod Rooms
 pub mod Passed

@@ -1,30 +1,29 @@
 -- Rescuing line by line: the fates of the lines that are passed, and those still to come. Assumes nothing.
-use Prim.Native.Nat.{ℕ, zero, suc, _+_, _^_, _-_, _≤_, _<_, min}
+use Prim.Native.Nat.{ℕ, suc, _+_, _-_, _≤_, _<_, min}
 use mathlib.Core.Path.{_≡_, refl, sym, ap, _∙_, subst}
 use mathlib.Core.Bool.{Bool, true, false, not, _||_}
 use mathlib.Core.List.{List, [], _∷_, _++_, append-assoc, append-nil}
 use native.Mathlib.Omega.{arith}
 use native.Mathlib.Decide.{decLt}
 use native.Mathlib.Nat.{zero-add}
-use native.Mathlib.Numerals.{add-one}
 use borrow.Author.Tests.{lt-ltb, le-ltb, ltb-false, not-true, not-false}
 use mathlib.Core.Logic.{_⊎_, inl, inr}
 use Rattle.bits.proofs.Choices.{neither}
-use lib.Dec.{ltb}
+use lib.Dec.{eqb, ltb}
 use lib.ListN.{length, take, drop, getD, length-append, length-drop, drop-of-length-le}
 use lib.Seq.{sets, drop-drop, drop-cons}
 use Rattle.bits.specs.Choice.{pick}
 use Rattle.ascii.specs.route.Puts.{Puts}
 use Rattle.ascii.proofs.Pieces.{after, nothing, fits}
-use Rattle.rescue.specs.Lines.{partsAt, linesOf}
-use Rattle.rescue.specs.Rescue.{FateOf, Fates, none, next, lineOut, outputOf, fateName, reportLine, reportFrom, reportOf, outcome, lacks, bothPut, RescueOf}
+use Rattle.rescue.specs.Lines.{lead, linesOf}
+use Rattle.rescue.specs.Rescue.{FateOf, Fates, none, next, lineOut, outputOf, reportLine, reportFrom, reportOf, outcome, lacks, bothPut, RescueOf}
 use Rattle.rescue.specs.declared.Reply.{Reply}
 use Rattle.rescue.specs.declared.Fate.{Fate}
-use Rattle.rescue.specs.declared.Fate.the-variants.{Kept, Restored, Dropped}
 use Rattle.rescue.specs.route.Search.{until}
-use Rattle.rescue.specs.route.Steps.{FitsAs, PutAs}
-use Rattle.rescue.proofs.Parts.{lines-until, until-most}
+use Rattle.rescue.specs.route.Steps.{FitsAs, PutAs, LineAt}
+use Rattle.rescue.proofs.Parts.{lines-until}
 use Rattle.rescue.proofs.Fates.{fates-once, fates-some}
+use Rattle.rescue.proofs.Rooms.{lines-count}
 
 -- ---- one fate more
 
@@ -54,7 +53,7 @@ pub record Passed (input : List ℕ) (at n : ℕ) (done : List Fate) : Type 0 wh
   pub count : length done ≡ n
   pub most : n ≤ at
 
-pub passed-none : (input : List ℕ) → Passed input 0 0 []
+passed-none : (input : List ℕ) → Passed input 0 0 []
 passed-none input = record { rest = λ fs a. a; count = refl; most = omega arith }
 
 lines-from : (xs : List ℕ) → 0 < length xs → linesOf xs ≡ take (until 10 xs) xs ∷ linesOf (drop (suc (until 10 xs)) xs)
@@ -71,7 +70,7 @@ module _ (input : List ℕ) {at end on : ℕ} (h : at < length input) (e : end �
       let r : length input ≤ on = omega (arith, k, o) in
       drop-drop (suc (until 10 (drop at input))) at input ∙ drop-of-length-le input q ∙ sym (drop-of-length-le input r)
 
-  pub next-line : linesOf (drop at input) ≡ take (end - at) (drop at input) ∷ linesOf (drop on input)
+  next-line : linesOf (drop at input) ≡ take (end - at) (drop at input) ∷ linesOf (drop on input)
   next-line =
       let q : until 10 (drop at input) ≡ end - at = omega (arith, e) in
       lines-from (drop at input) (omega (arith, length-drop at input))
@@ -82,7 +81,7 @@ module _ (input : List ℕ) {at end on : ℕ} (h : at < length input) (e : end �
     line-rest : (fs : List Fate) → Fates (linesOf (drop on input)) fs → Fates (linesOf input) ((done ++ (f ∷ [])) ++ fs)
     line-rest fs b = rw (append-assoc done (f ∷ []) fs) (p .rest (f ∷ fs) (rw next-line (next a b)))
 
-    pub passed-line : Passed input on (n + 1) (done ++ (f ∷ []))
+    passed-line : Passed input on (n + 1) (done ++ (f ∷ []))
     passed-line =
         record {
           rest = line-rest;
@@ -90,7 +89,7 @@ module _ (input : List ℕ) {at end on : ℕ} (h : at < length input) (e : end �
           most = omega (arith, p .most, e, o, h);
         }
 
-pub passed-end : {input : List ℕ} {at n : ℕ} {done : List Fate} → Passed input at n done → length input ≤ at → Fates (linesOf input) done
+passed-end : {input : List ℕ} {at n : ℕ} {done : List Fate} → Passed input at n done → length input ≤ at → Fates (linesOf input) done
 passed-end {input} {at} {n} {done} p h =
     let e : linesOf (drop at input) ≡ [] = ap linesOf (drop-of-length-le input h) in
     let t : Fates (linesOf (drop at input)) [] = rw e none in
@@ -98,20 +97,52 @@ passed-end {input} {at} {n} {done} p h =
 
 -- ---- counting
 
--- the lines that are passed, and those to come
-pub record Counted (input : List ℕ) (at n : ℕ) : Type 0 where
-  pub most : n ≤ at
-  pub all : n + length (linesOf (drop at input)) ≡ length (linesOf input)
+-- a byte before some lines
+byte-before : (b : ℕ) (ps : List (List ℕ)) → 0 < length ps → (z : Bool) → length ps + pick z 1 0 ≡ length (pick z ([] ∷ ps) (lead b ps))
+byte-before b ps h true = omega arith
+byte-before b [] h false = absurd (omega (arith, h))
+byte-before b (p ∷ ps) h false = omega arith
 
-pub counted-none : (input : List ℕ) → Counted input 0 0
-counted-none input = record { most = omega arith; all = zero-add (length (linesOf input)) }
+last-byte : (b : ℕ) (z : Bool) → 1 ≡ length (pick z ([] ∷ []) (lead b []))
+last-byte b true = refl
+last-byte b false = refl
 
-pub counted-line : {input : List ℕ} {at n : ℕ} → Counted input at n → at < length input
-    → {end : ℕ} → end ≡ at + until 10 (drop at input) → {on : ℕ} → on ≡ min (end + 1) (length input) → Counted input on (n + 1)
-counted-line {input} c h e o = record { most = omega (arith, c .most, e, o, h); all = omega (arith, c .all, ap length (next-line input h e o)) }
+-- the lines from an index on
+pub record Counted (input : List ℕ) (i lines : ℕ) : Type 0 where
+  pub inside : i < length input
+  pub some : 0 < lines
+  pub all : lines ≡ length (linesOf (drop i input))
 
-pub counted-end : {input : List ℕ} {at n : ℕ} → Counted input at n → length input ≤ at → n ≡ length (linesOf input)
-counted-end {input} c h = omega (arith, c .all, ap (λ (l : List ℕ). length (linesOf l)) (drop-of-length-le input h))
+pub counted-none : (input : List ℕ) → length input ≡ 0 → 0 ≡ length (linesOf input)
+counted-none input h = ap (λ (t : List ℕ). length (linesOf t)) (sym (drop-of-length-le input {i = 0} (omega (arith, h))))
+
+pub counted-last : (input : List ℕ) → ¬ (length input ≡ 0) → Counted input (length input - 1) 1
+counted-last input h =
+    let k = length input - 1 in
+    let inside : k < length input = omega arith in
+    let end = drop-cons input k 0 inside ∙ ap (λ (t : List ℕ). getD input k 0 ∷ t) (drop-of-length-le input {i = suc k} (omega arith)) in
+    record { inside = inside; some = omega arith; all = last-byte (getD input k 0) (eqb (getD input k 0) 10) ∙ ap (λ (t : List ℕ). length (linesOf t)) (sym end) }
+
+module _ {input : List ℕ} {i lines : ℕ} (c : Counted input i lines) where
+  pub counted-most : lines + i ≤ length input
+  counted-most = omega (arith, c .all, c .inside, lines-count 10 (drop i input), length-drop i input)
+
+  pub counted-byte : 0 < i → {r : ℕ} → r ≡ pick (eqb (getD input (i - 1) 0) 10) 1 0 → Counted input (i - 1) (lines + r)
+  counted-byte h {r} e =
+      let k = i - 1 in
+      let back : suc k ≡ i = omega arith in
+      let rest = drop-cons input k 0 (omega (arith, c .inside)) ∙ ap (λ (j : ℕ). getD input k 0 ∷ drop j input) back in
+      let some : 0 < length (linesOf (drop i input)) = omega (arith, c .some, c .all) in
+      record {
+        inside = omega (arith, c .inside);
+        some = omega (arith, c .some);
+        all =
+            (λ j. c .all j + e j) ∙ byte-before (getD input k 0) (linesOf (drop i input)) some (eqb (getD input k 0) 10)
+            ∙ ap (λ (t : List ℕ). length (linesOf t)) (sym rest);
+      }
+
+  pub counted-end : i ≤ 0 → lines ≡ length (linesOf input)
+  counted-end h = let e : i ≡ 0 = omega arith in c .all ∙ ap (λ (j : ℕ). length (linesOf (drop j input))) e
 
 -- ---- measuring
 
@@ -144,8 +175,7 @@ module _ {input : List ℕ} {room reportRoom left reportLeft at n : ℕ} (m : Me
       let b : length (reportOf (m .done)) ≤ reportRoom = omega (arith, m .rows) in
       record { fates = m .done; each = passed-end (m .passed) h; is = rw (le-ltb room (length (outputOf (m .done))) a, le-ltb reportRoom (length (reportOf (m .done))) b) }
 
-  module _ (h : at < length input) {end : ℕ} (e : end ≡ at + until 10 (drop at input)) (f : Fate)
-      (a : FateOf (take (end - at) (drop at input)) f) {on : ℕ} (o : on ≡ min (end + 1) (length input))
+  module _ (h : at < length input) {end : ℕ} {f : Fate} (line : LineAt input at end f) {on : ℕ} (o : on ≡ min (end + 1) (length input))
       {x y : ℕ} (ex : x ≡ length (lineOut f)) (ey : y ≡ length (reportLine (n + 1) f ++ (10 ∷ []))) where
     lines-on : length (outputOf (m .done ++ (f ∷ []))) ≡ length (outputOf (m .done)) + x
     lines-on = ap length (output-more (m .done) f) ∙ length-append (outputOf (m .done)) (lineOut f) ∙ ap (λ (k : ℕ). length (outputOf (m .done)) + k) (sym ex)
@@ -159,7 +189,7 @@ module _ {input : List ℕ} {room reportRoom left reportLeft at n : ℕ} (m : Me
     measured-line k l =
         record {
           done = m .done ++ (f ∷ []);
-          passed = passed-line input h e o (m .passed) f a;
+          passed = passed-line input h (line .ends) o (m .passed) f (line .is);
           lines = omega (arith, lines-on, m .lines);
           rows = omega (arith, rows-on, m .rows);
         }
@@ -169,7 +199,7 @@ module _ {input : List ℕ} {room reportRoom left reportLeft at n : ℕ} (m : Me
         → FitsAs input room reportRoom false
     over fs b k =
         let all = (m .done ++ (f ∷ [])) ++ fs in
-        record { fates = all; each = passed-line input h e o (m .passed) f a .rest fs b; is = sym (over-by (m .done ++ (f ∷ [])) fs k) }
+        record { fates = all; each = passed-line input h (line .ends) o (m .passed) f (line .is) .rest fs b; is = sym (over-by (m .done ++ (f ∷ [])) fs k) }
 
     pub measured-over : left < x → FitsAs input room reportRoom false
     measured-over k =
@@ -196,14 +226,13 @@ module _ {input output report ys zs : List ℕ} {at n i j : ℕ} (m : Putting in
   pub putting-end : length input ≤ at → PutAs input output report ys zs i j
   putting-end h = record { fates = m .done; each = passed-end (m .passed) h; lines = m .lines; rows = m .rows }
 
-  pub putting-line : at < length input → {end : ℕ} → end ≡ at + until 10 (drop at input) → (f : Fate)
-      → FateOf (take (end - at) (drop at input)) f → {on : ℕ} → on ≡ min (end + 1) (length input)
+  pub putting-line : at < length input → {end : ℕ} {f : Fate} → LineAt input at end f → {on : ℕ} → on ≡ min (end + 1) (length input)
       → {us vs : List ℕ} {k l : ℕ} → Puts ys i (lineOut f) us k → Puts zs j (reportLine (n + 1) f ++ (10 ∷ [])) vs l
       → Putting input output report us vs on (n + 1) k l
-  putting-line h e f a o p q =
+  putting-line h {f = f} line o p q =
       record {
         done = m .done ++ (f ∷ []);
-        passed = passed-line input h e o (m .passed) f a;
+        passed = passed-line input h (line .ends) o (m .passed) f (line .is);
         lines = rw (output-more (m .done) f) (after (m .lines) p);
         rows = rw (report-more (m .done) f (n + 1) (omega (arith, m .passed .count))) (after (m .rows) q);
       }

@@ -5,7 +5,9 @@ mod put;
 use instruction::Answer;
 ghost use mathlib.Core.Path.{_≡_};
 ghost use Prim.Native.Nat.{_+_, _≤_, min};
+ghost use lib.Dec.{eqb};
 ghost use lib.ListN.{length};
+ghost use Rattle.bits.specs.Choice.{pick};
 ghost use Rattle.instruction.specs.Answers.{answerNumber};
 ghost use Rattle.rescue.specs.Lines.{linesOf};
 ghost use Rattle.rescue.specs.Rescue.{outcome, RescueOf};
@@ -71,16 +73,29 @@ fn fits(input: &[u8], room: usize, space: usize) -> bool
     measured(input, room, space)
 }
 
+// The last byte is of the last line, whatever it is; each newline before it ends another.
 fn count(input: &[u8]) -> usize
     ensures { λ r. ⌜ r ≡ length (linesOf (now (input .entry))) ⌝ }
 {
-    let mut lines = 0;
-    let mut at = 0;
-    while at < input.len() {
-        at = behind(line::find(input, at, b'\n'), input.len());
-        lines += 1;
+    if input.len() == 0 {
+        return 0;
+    }
+    let mut lines = 1;
+    let mut i = input.len() - 1;
+    while i > 0 {
+        i -= 1;
+        lines += newline(input[i]);
     }
     lines
+}
+
+fn newline(byte: u8) -> usize
+    ensures { λ r. ⌜ r ≡ pick (eqb byte 10) 1 0 ⌝ }
+{
+    if byte == b'\n' {
+        return 1;
+    }
+    0
 }
 
 // Takes each line from what is left of the rooms.
@@ -92,8 +107,9 @@ fn measured(input: &[u8], room: usize, space: usize) -> bool
     let mut at = 0;
     let mut number = 0u64;
     while at < input.len() {
-        let end = line::find(input, at, b'\n');
-        let fate = line::fate(&input[at..end]);
+        let line = line::line_at(input, at);
+        let end = line.end;
+        let fate = line.fate;
         let n = put::out_length(fate, end - at);
         if left < n {
             return false;
@@ -135,9 +151,10 @@ fn put_both(input: &[u8], output: &mut [u8], report: &mut [u8]) -> Ends
     let mut at = 0;
     let mut number = 0u64;
     while at < input.len() {
-        let end = line::find(input, at, b'\n');
-        let fate = line::fate(&input[at..end]);
-        next = put::put_out(output, next, fate);
+        let line = line::line_at(input, at);
+        let end = line.end;
+        let fate = line.fate;
+        next = put::put_out(output, next, &input[at..end], fate);
         row = put::put_row(report, row, number + 1, fate);
         number += 1;
         at = behind(end, input.len());

@@ -4,19 +4,25 @@ use listing::LINE_MAX;
 ghost use mathlib.Core.Path.{_≡_};
 ghost use mathlib.Core.Bool.{true};
 ghost use mathlib.Core.List.{[], _∷_, _++_};
-ghost use mathlib.Core.Logic.{_↔_};
+ghost use mathlib.Core.Logic.{_↔_, _⊎_};
 ghost use Prim.Native.Nat.{_+_, _≤_, _<_};
 ghost use lib.ListN.{length, take, drop};
 ghost use Rattle.listing.specs.Listing.{lineText};
-ghost use Rattle.rescue.specs.Rescue.{Digits, FateOf};
+ghost use Rattle.rescue.specs.Rescue.{FateOf};
 ghost use Rattle.rescue.specs.route.Search.{until, digitOf};
-ghost use Rattle.rescue.specs.route.Steps.{DigitsAre, WordFirst, OtherFirst};
+ghost use Rattle.rescue.specs.route.Steps.{DigitsAre, WordFirst, OtherFirst, LineAt, Stands};
 
 // Room for the line of any word, with eight bytes behind it, so that its text is stored eight at a time.
 const BUFFER: usize = LINE_MAX + 8;
 
+// Where a line ends, before its newline, and what becomes of it.
+pub struct Line {
+    pub end: usize,
+    pub fate: Fate,
+}
+
 // Where a byte first stands from an index on, or the length.
-pub fn find(bytes: &[u8], from: usize, byte: u8) -> usize
+fn find(bytes: &[u8], from: usize, byte: u8) -> usize
     requires { ⌜ from ≤ length (now bytes) ⌝ }
     ensures { λ r. ⌜ (r ≡ from + until byte (drop from (now (bytes .entry)))) × (r ≤ length (now (bytes .entry))) ⌝ }
 {
@@ -78,7 +84,47 @@ fn is_line(line: &[u8], word: u32) -> bool
     reader::same(&buffer[0..body], line)
 }
 
-pub fn fate(line: &[u8]) -> Fate
+// The line at an index. Where a word's line stands there, with its newline, nothing is searched for.
+pub fn line_at(input: &[u8], at: usize) -> Line
+    requires { ⌜ at ≤ length (now input) ⌝ }
+    ensures { λ r. ⌜ LineAt (now (input .entry)) at (r .end) (r .fate) ⌝ }
+{
+    if input.len() - at >= 8 {
+        let word = digits_at(&input[at..]);
+        if word < 0x1_0000_0000 {
+            let long = standing(input, at, word as u32);
+            if long > 0 {
+                return Line {
+                    end: at + (long - 1),
+                    fate: Fate::Kept(word as u32),
+                };
+            }
+        }
+    }
+    let end = find(input, at, b'\n');
+    Line {
+        end,
+        fate: fate(&input[at..end]),
+    }
+}
+
+// How many bytes the line of a word has, with its newline, where it stands at an index; else 0.
+fn standing(input: &[u8], at: usize, word: u32) -> usize
+    requires { ⌜ at ≤ length (now input) ⌝ }
+    ensures { λ r. ⌜ (r ≡ 0) ⊎ Stands (now (input .entry)) at word r ⌝ }
+{
+    let mut buffer = [0u8; BUFFER];
+    let long = listing::put_line(&mut buffer, 0, word);
+    if input.len() - at < long {
+        return 0;
+    }
+    if reader::same(&buffer[0..long], &input[at..at + long]) {
+        return long;
+    }
+    0
+}
+
+fn fate(line: &[u8]) -> Fate
     ensures { λ r. ⌜ FateOf (now (line .entry)) r ⌝ }
 {
     let first = find(line, 0, b'\t');

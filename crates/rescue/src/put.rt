@@ -5,17 +5,40 @@ ghost use mathlib.Core.Path.{_≡_};
 ghost use mathlib.Core.List.{[], _∷_, _++_};
 ghost use lib.ListN.{length};
 ghost use Rattle.ascii.specs.route.Puts.{Puts};
-ghost use Rattle.rescue.specs.Rescue.{lineOut, fateName, reportLine};
+ghost use Rattle.rescue.specs.Rescue.{FateOf, lineOut, fateName, reportLine};
 ghost use Rattle.rescue.specs.route.Steps.{LongAs};
 
-pub fn put_out(output: &mut [u8], at: usize, fate: Fate) -> usize
+// A line that is kept is copied.
+pub fn put_out(output: &mut [u8], at: usize, line: &[u8], fate: Fate) -> usize
+    requires { ⌜ FateOf (now line) fate ⌝ }
     ensures { λ r. ⌜ Puts (now (output .entry)) at (lineOut fate) (now (output .exit)) r ⌝ }
 {
     match fate {
-        Fate::Kept(w) => listing::put_line(output, at, w),
+        Fate::Kept(_) => put_ended(output, at, line),
         Fate::Restored(w) => listing::put_line(output, at, w),
         Fate::Dropped => at,
     }
+}
+
+// A line, and a newline.
+fn put_ended(output: &mut [u8], at: usize, line: &[u8]) -> usize
+    ensures { λ r. ⌜ Puts (now (output .entry)) at (now (line .entry) ++ (10 ∷ [])) (now (output .exit)) r ⌝ }
+{
+    let end = put_copy(output, at, line);
+    ascii::put_byte(output, end, b'\n')
+}
+
+// Eight bytes at a time, and then those left over.
+fn put_copy(output: &mut [u8], at: usize, line: &[u8]) -> usize
+    ensures { λ r. ⌜ Puts (now (output .entry)) at (now (line .entry)) (now (output .exit)) r ⌝ }
+{
+    let mut next = at;
+    let mut i = 0;
+    while line.len() - i >= 8 {
+        next = ascii::put_eight(output, next, bits::eight_at(line, i));
+        i += 8;
+    }
+    ascii::put_text(output, next, &line[i..])
 }
 
 pub fn put_row(report: &mut [u8], at: usize, number: u64, fate: Fate) -> usize

@@ -24,42 +24,26 @@ measured-spec =
     μ-loop
     (λ c. (omega arith, omega arith, measured-none _ _ _))
     (λ c κs. omega arith)
-    (λ c. omega arith)
-    (λ c. search needs)
-    (λ c. search needs)
-    (λ c κs. search needs)
-    (λ c. search needs)
+    (λ c. omega (arith, c .line-at .ensures .ends))
     (λ c κs.
-    let loop = c .before .before .before .before .loop in
-    let input = c .before .before .before .before .before .before .args .input .now in
-    let end = c .before .before .find in
-    part-long (drop (loop .at) input) (end .result - loop .at) (c .fate .result) (omega (arith, length-drop (loop .at) input, end .ensures .1)) (c .fate .ensures))
-    (λ c.
-    let loop = c .before .before .before .before .before .before .loop in
-    let test = c .before .before .before .before .before .loop-test in
-    let end = c .before .before .before .before .find in
-    let fate = c .before .before .fate in
-    measured-over (loop .inv .2) (test .taken) (end .ensures .0) (fate .result) (fate .ensures) refl (c .before .out-length .ensures) refl (c .if1 .taken))
+    let loop = c .before .before .loop in
+    let input = c .before .before .before .before .args .input .now in
+    let line = c .line-at in
+    part-long (drop (loop .at) input) (line .result .end - loop .at) (line .result .fate) (omega (arith, length-drop (loop .at) input, line .ensures .most)) (line .ensures .is))
+    (λ c. measured-over (c .before .before .before .before .loop .inv .2) (c .before .before .before .loop-test .taken) (c .before .before .line-at .ensures) refl (c .before .out-length .ensures) refl (c .if1 .taken))
     (λ c. omega arith)
     (λ c κs. search needs)
     (λ c.
-    let loop = c .before .before .before .before .before .before .before .before .loop in
-    let test = c .before .before .before .before .before .before .before .loop-test in
-    let end = c .before .before .before .before .before .before .find in
-    let fate = c .before .before .before .before .fate in
-    measured-rows (loop .inv .2) (test .taken) (end .ensures .0) (fate .result) (fate .ensures) refl (c .before .before .before .out-length .ensures) (c .before .row-length .ensures) (c .if2 .taken))
+    measured-rows (c .before .before .before .before .before .before .loop .inv .2) (c .before .before .before .before .before .loop-test .taken) (c .before .before .before .before .line-at .ensures) refl (c .before .before .before .out-length .ensures) (c .before .row-length .ensures) (c .if2 .taken))
     (λ c. omega arith)
-    (λ c κs. omega arith)
-    (λ c. omega arith)
+    (λ c κs. omega (arith, c .before .before .before .before .line-at .ensures .most))
+    (λ c. omega (arith, c .behind .ensures, c .before .before .before .before .before .line-at .ensures .ends))
     (λ c.
-    let loop = c .before .before .before .before .before .before .before .before .before .loop in
-    let test = c .before .before .before .before .before .before .before .before .loop-test in
-    let end = c .before .before .before .before .before .before .before .find in
-    let fate = c .before .before .before .before .before .fate in
+    let loop = c .before .before .before .before .before .before .before .loop in
+    let line = c .before .before .before .before .before .line-at in
     let on = c .behind .ensures in (
       omega (arith, on),
-      omega (arith, on, loop .inv .1, end .ensures .0),
-      measured-line (loop .inv .2) (test .taken) (end .ensures .0) (fate .result) (fate .ensures) on (c .before .before .before .before .out-length .ensures) (c .before .before .row-length .ensures)
-          (c .before .before .before .if1 .left) (c .before .if2 .left),
+      omega (arith, on, loop .inv .1, line .ensures .ends),
+      measured-line (loop .inv .2) (c .before .before .before .before .before .before .loop-test .taken) (line .ensures) on (c .before .before .before .before .out-length .ensures) (c .before .before .row-length .ensures) (c .before .before .before .if1 .left) (c .before .if2 .left),
     ))
     (λ c. measured-end (c .before .loop .inv .2) (c .loop-test .left)))

@@ -23,27 +23,25 @@ put-both-spec =
     μ-loop
     (λ c. (omega arith, omega arith, putting-none _ _ _))
     (λ c κs. omega arith)
+    (λ c. omega (arith, c .before .line-at .ensures .ends))
+    (λ c. omega (arith, c .before .line-at .ensures .ends))
+    (λ c. omega (arith, c .before .line-at .ensures .most))
+    (λ c κs. c .before .before .line-at .ensures .is)
     (λ c. omega arith)
-    (λ c. search needs)
-    (λ c. search needs)
     (λ c κs. search needs)
-    (λ c κs. search needs)
     (λ c. omega arith)
-    (λ c κs. search needs)
-    (λ c. omega arith)
-    (λ c κs. omega arith)
-    (λ c. omega arith)
+    (λ c κs. omega (arith, c .before .before .before .before .before .before .before .before .before .line-at .ensures .most))
+    (λ c. omega (arith, c .behind .ensures, c .before .before .before .before .before .before .before .before .before .before .line-at .ensures .ends))
     (λ c.
-    let loop = c .before .before .before .before .before .before .before .before .before .before .before .before .before .loop in
-    let test = c .before .before .before .before .before .before .before .before .before .before .before .before .loop-test in
-    let end = c .before .before .before .before .before .before .before .before .before .before .before .find in
-    let fate = c .before .before .before .before .before .before .before .before .before .fate in
-    let line = c .before .before .before .before .before .before .before .put-out in
+    let loop = c .before .before .before .before .before .before .before .before .before .before .before .before .loop in
+    let test = c .before .before .before .before .before .before .before .before .before .before .before .loop-test in
+    let line = c .before .before .before .before .before .before .before .before .before .before .line-at in
+    let put = c .before .before .before .before .before .before .before .put-out in
     let row = c .before .before .before .put-row in
     let on = c .behind .ensures in (
       omega (arith, on),
-      omega (arith, on, loop .inv .1, end .ensures .0),
-      putting-line (loop .inv .2) (test .taken) (end .ensures .0) (fate .result) (fate .ensures) on (line .ensures) (row .ensures),
+      omega (arith, on, loop .inv .1, line .ensures .ends),
+      putting-line (loop .inv .2) (test .taken) (line .ensures) on (put .ensures) (row .ensures),
     ))
     (λ c. same (c .before .loop .inv .2 .lines))
     (λ c. same (c .before .loop .inv .2 .rows))

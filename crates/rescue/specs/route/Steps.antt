@@ -1,16 +1,16 @@
 -- What the steps of the code return and leave.
-use Prim.Native.Nat.{ℕ, _+_, _^_, _<_}
+use Prim.Native.Nat.{ℕ, _+_, _-_, _^_, _≤_, _<_}
 use mathlib.Core.Path.{_≡_}
 use mathlib.Core.Bool.{Bool, not, _||_}
 use mathlib.Core.List.{List, _∷_}
 use mathlib.Core.Logic.{_⊎_}
 use lib.Dec.{ltb}
-use lib.ListN.{length, take}
+use lib.ListN.{length, take, drop}
 use Rattle.ascii.specs.route.Puts.{Puts}
 use Rattle.listing.specs.Listing.{hex8, lineText}
 use Rattle.rescue.specs.Lines.{linesOf, fieldsOf}
 use Rattle.rescue.specs.route.Search.{until}
-use Rattle.rescue.specs.Rescue.{Digits, Fates, outputOf, reportOf}
+use Rattle.rescue.specs.Rescue.{Digits, FateOf, Fates, outputOf, reportOf}
 use Rattle.rescue.specs.declared.Fate.{Fate}
 use Rattle.rescue.specs.declared.Fate.the-variants.{Kept, Restored, Dropped}
 
@@ -30,6 +30,17 @@ pub record PutAs (input output report after reportAfter : List ℕ) (end reportE
   pub each : Fates (linesOf input) fates
   pub lines : Puts output 0 (outputOf fates) after end
   pub rows : Puts report 0 (reportOf fates) reportAfter reportEnd
+
+-- the line at an index: where it ends, before its newline, and its fate
+pub record LineAt (input : List ℕ) (at end : ℕ) (fate : Fate) : Type 0 where
+  pub ends : end ≡ at + until 10 (drop at input)
+  pub most : end ≤ length input
+  pub is : FateOf (take (end - at) (drop at input)) fate
+
+-- the line of a word stands at an index, with its newline
+pub record Stands (input : List ℕ) (at w long : ℕ) : Type 0 where
+  pub all : long ≡ length (lineText w)
+  pub is : take long (drop at input) ≡ lineText w
 
 -- a line whose first field is the digits of a word
 pub record WordFirst (line : List ℕ) (w : ℕ) : Type 0 where
