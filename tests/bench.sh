@@ -27,5 +27,7 @@ fi
 make -C bindings/bench LIBRARY="$(realpath "${MILESTARLING_LIB:-target/staticlib}")/libmilestarling.a"
 # Paths of a million links, on the stack that Linux gives a program by itself.
 (ulimit -s 8192 && bindings/bench/build/why)
+# A correct listing of 64 MiB, and the same damaged.
+bindings/bench/build/rescue crates/list/stdin 64
 cd bindings/rust
 cargo run --release --offline --example bench
