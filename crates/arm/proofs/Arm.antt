@@ -1,16 +1,16 @@
 -- A step does what Arm's page says, with 01's choices: the page of each row (`row-step`), and the answers before it.
 -- Assumes nothing.
-use Prim.Native.Nat.{ℕ, _+_, _%_, _^_, _≤_, _<_}
+use Prim.Native.Nat.{ℕ, _+_, _%_, _^_, _≤_}
 use mathlib.Core.Path.{_≡_, refl, ap, _∙_}
 use mathlib.Core.Bool.{Bool, true, false, not, _||_}
 use lib.Dec.{ltb, eqb}
 use lib.ListN.{length}
 use native.Mathlib.Omega.{arith}
-use borrow.Author.Tests.{ltb-false, eqb-true, eqb-false}
+use borrow.Author.Tests.{ltb-false, eqb-true}
 use Rattle.bits.specs.Choice.{pick}
 use Rattle.bits.specs.Fields.{field}
 use Rattle.bits.proofs.Choices.{neither}
-use Rattle.bits.proofs.Parts.{Has, part-lt}
+use Rattle.bits.proofs.Parts.{Has}
 use Rattle.instruction.specs.declared.answer.Answer.the-variants.{BadWindow, NotInSet, Undefined, Unpredictable}
 use Rattle.instruction.specs.declared.row.Row.{Row}
 use Rattle.instruction.specs.declared.row.Row.the-variants.{NoRow, LiteralRow, PairRow, OrderedRow, UnscaledRow, PostRow, PreRow, RegisterRow, UnsignedRow, LoadExclusiveRow, StoreExclusiveRow, AcquireReleaseRow}
@@ -31,8 +31,8 @@ use Rattle.machine.proofs.Answers.{step-in}
 use Rattle.machine.specs.Real.{Real}
 use Rattle.arm.specs.Pages.{pageOf}
 use Rattle.arm.specs.Choices.{badStart, armOf, armStepIn, armStep}
+use Rattle.arm.proofs.Conditions.{general, page-conditions}
 use Rattle.arm.proofs.Steps.{Ready, Steps}
-use Rattle.arm.proofs.Singles.{two}
 use Rattle.arm.proofs.Families.{unscaled-step, ordered-step, post-step, pre-step, unsigned-step, indexed-step, literal-step}
 use Rattle.arm.proofs.Families.{vector-unscaled-step, vector-post-step, vector-pre-step, vector-unsigned-step, vector-indexed-step, vector-literal-step}
 use Rattle.arm.proofs.Pairs.{pair-step, vector-pair-step}
@@ -78,12 +78,7 @@ module _ (w : Window) (m : Machine) (r : Ready w m) (word : ℕ) where
   -- by bit 26
   kind-step : (vector : Bool) → eqb (field 26 26 word) 1 ≡ vector → (l : Row) → Rows vector l
   kind-step true e l = vector-step (eqb-true (field 26 26 word) 1 e) l
-  kind-step false e l =
-      let n = eqb-false (field 26 26 word) 1 e in
-      row-step (zero-bit (field 26 26 word) (part-lt 26 1 word) n) l
-    where
-      zero-bit : (b : ℕ) → b < 2 → ¬ (b ≡ 1) → b ≡ 0
-      zero-bit b h n = two (λ b. ¬ (b ≡ 1) → b ≡ 0) (λ n. refl) (λ n. absurd (n refl)) b h n
+  kind-step false e l = row-step (general word e) l
 
   page-step : inSet word ≡ true → undefined word ≡ false → unpredictable word ≡ false
       → let page = pageOf (eqb (field 26 26 word) 1) (rowOf word) word in Steps w m page word (page .operation word (armOf w m))
@@ -113,13 +108,19 @@ top-is w m h = ltb-false (2 ^ 64) (w .origin + length (m .memory)) (first _ _ _ 
 
 -- ---- answers 2 to 4
 
-after-class : (x y : Step Machine) (member wrong loose : Bool) → (member ≡ true → wrong ≡ false → loose ≡ false → x ≡ y)
+-- by the table's conditions and by the page's
+after-class : (x y : Step Machine) (member : Bool) {wrong loose undefined unpredictable : Bool}
+    → (member ≡ true → (wrong ≡ undefined) × (loose ≡ unpredictable)) → (member ≡ true → wrong ≡ false → loose ≡ false → x ≡ y)
     → pick (not member) (stopped NotInSet 0) (pick wrong (stopped Undefined 0) (pick loose (stopped Unpredictable 0) x))
-    ≡ pick (not member) (stopped NotInSet 0) (pick wrong (stopped Undefined 0) (pick loose (stopped Unpredictable 0) y))
-after-class x y false wrong loose f = refl
-after-class x y true true loose f = refl
-after-class x y true false true f = refl
-after-class x y true false false f = f refl refl refl
+    ≡ pick (not member) (stopped NotInSet 0) (pick undefined (stopped Undefined 0) (pick unpredictable (stopped Unpredictable 0) y))
+after-class x y false e f = refl
+after-class x y true {wrong} {loose} e f = rw (← e refl .0, ← e refl .1) (go wrong loose (f refl))
+  where
+    go : (wrong loose : Bool) → (wrong ≡ false → loose ≡ false → x ≡ y)
+        → pick wrong (stopped Undefined 0) (pick loose (stopped Unpredictable 0) x) ≡ pick wrong (stopped Undefined 0) (pick loose (stopped Unpredictable 0) y)
+    go true loose f = refl
+    go false true f = refl
+    go false false f = f refl refl
 
 -- ---- the step
 
@@ -134,7 +135,9 @@ step-in-as-arm w reach word m r =
     step-in w reach word m
     ∙ ap (λ (b : Bool). pick b (stopped BadWindow 0) (wordStep (w .origin) (admitIn w reach (length (m .memory))) word m)) (bad-is w m)
     ∙ after-bad _ _ (badStart w m)
-    (λ e. after-class _ _ (inSet word) (undefined word) (unpredictable word) (λ t u v. page-step w m (record { real = r; top = top-is w m e }) word t u v reach))
+    (λ e.
+    let ready : Ready w m = record { real = r; top = top-is w m e } in
+    after-class _ _ (inSet word) (page-conditions word) (λ t u v. page-step w m ready word t u v reach))
 
 pub step-as-arm : (w : Window) (word : ℕ) (m : Machine) → Real m → stepOf w word m ≡ armStep w word m
 step-as-arm w = step-in-as-arm w Alone

@@ -49,6 +49,7 @@ use Rattle.arm.specs.VectorLiteral.{vectorLiteralSize, vectorLiteral}
 use Rattle.arm.specs.Marks.{anyMarked}
 use Rattle.arm.specs.Pages.{Page, opcExtent, pageOf}
 use Rattle.arm.specs.Choices.{marked, misplaced, armOf}
+use Rattle.arm.proofs.Conditions.{by-codes, by-literal}
 use Rattle.arm.proofs.Bits.{add-is, imm9-is, imm12-is, imm19-is, index-is, extended-is}
 use Rattle.arm.proofs.Places.{slot, setR, base-is, x-is}
 use Rattle.arm.proofs.Marks.{marks-at, base-marked, index-marked}
@@ -218,8 +219,7 @@ module _ (w : Window) (m : Machine) (r : Ready w m) (word : ℕ) where
     code-is = ap (λ (b : ℕ). b * 16 + size * 4 + opc) kind
 
     known : undefinedSize word ≡ false → any (eqb (v * 16 + size * 4 + opc)) undefinedCodes ≡ false
-    unfolding undefinedSize
-    known u = ap (λ (k : ℕ). any (eqb k) undefinedCodes) (sym code-is) ∙ u
+    known u = sym (by-codes word v kind) ∙ u
 
     sized-by : (ordered : Bool) (a : Addressing) → wordAccess word ≡ sizedAccess (sizedIn word) t ordered a
         → wordAccess word ≡ sizedAccess (sizedAt (v * 16 + size * 4 + opc)) t ordered a
@@ -520,11 +520,7 @@ module _ (w : Window) (m : Machine) (r : Ready w m) (word : ℕ) where
   unfolding literal Add part
   literal-step b e = literal-at _ (omega arith) (literal-by 0 b e)
 
-  known-literal : field 26 26 word ≡ 1 → undefinedLiteral word ≡ false → eqb (1 * 4 + field 31 30 word) 0b1_11 ≡ false
-  unfolding undefinedLiteral
-  known-literal b u = ap (λ (v : ℕ). eqb (v * 4 + field 31 30 word) 0b1_11) (sym b) ∙ u
-
   pub vector-literal-step : field 26 26 word ≡ 1 → undefinedLiteral word ≡ false → wordAccess word ≡ familyAccess (columnsOf LiteralRow .family word)
       → Steps w m (pageOf true LiteralRow word) word (vectorLiteral word (armOf w m))
   unfolding vectorLiteral Add part
-  vector-literal-step b u e = vector-literal-at _ (omega arith) (known-literal b u) (literal-by 1 b e)
+  vector-literal-step b u e = vector-literal-at _ (omega arith) (sym (by-literal word 1 b) ∙ u) (literal-by 1 b e)

@@ -1,4 +1,5 @@
 pub mod Bits
+pub mod Conditions
 pub mod Places
 pub mod Marks
 pub mod Steps

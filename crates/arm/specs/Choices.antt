@@ -1,5 +1,6 @@
 -- A step by Arm's pages, with what 01 decides where Arm leaves a choice: "Answer numbers", 1 to 8 in their order and in
--- 01's words, with 02's CR 1, CR 3 and CR 11. Where Arm says undefined or unpredictable, 01's tables of words (instruction/specs) decide before the page.
+-- 01's words, with 02's CR 1, CR 3 and CR 11. Where a page says UNDEFINED, 3 is given, and where it says CONSTRAINED UNPREDICTABLE, which leaves
+-- a choice to a processor, 4. Which words there are pages for is 01's table (instruction/specs/Table).
 use Prim.Native.Nat.{ℕ, _+_, _-_, _/_, _%_, _^_}
 use mathlib.Core.Bool.{Bool, false, _&&_, _||_, not}
 use lib.Dec.{eqb, ltb, leb}
@@ -7,7 +8,7 @@ use lib.ListN.{length, getD}
 use Rattle.bits.specs.Choice.{pick}
 use Rattle.bits.specs.Fields.{field}
 use Rattle.instruction.specs.declared.answer.Answer.the-variants.{BadWindow, NotInSet, Undefined, Unpredictable, TaintedAddress, Misaligned, OutOfWindow, ReadOnly, NotAllowed}
-use Rattle.instruction.specs.Table.{inSet, rowOf, undefined, unpredictable}
+use Rattle.instruction.specs.Table.{inSet, rowOf}
 use Rattle.plan.specs.declared.window.Window.{Window}
 use Rattle.plan.specs.declared.ranges.Range.{Range}
 use Rattle.plan.specs.declared.ranges.Ranges.{Ranges}
@@ -101,8 +102,8 @@ armStepIn w reach word m =
     let page = pageOf (eqb (field 26 26 word) 1) (rowOf word) word in
     pick (badStart w m) (stopped BadWindow 0)
     (pick (not (inSet word)) (stopped NotInSet 0)
-    (pick (undefined word) (stopped Undefined 0)
-    (pick (unpredictable word) (stopped Unpredictable 0)
+    (pick (page .undefined) (stopped Undefined 0)
+    (pick (page .unpredictable) (stopped Unpredictable 0)
     (chosen w reach word m page (page .operation word (armOf w m))))))
 
 -- of a plugin alone

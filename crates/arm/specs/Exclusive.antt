@@ -2,10 +2,24 @@
 -- processors, is not part of this machine: bit 15 changes nothing.
 --     size 001000 0 L 0 Rs o0 11111 Rn Rt
 use Prim.Native.Nat.{ℕ, _*_, _/_, _^_}
+use mathlib.Core.Bool.{Bool, not, _&&_, _||_}
 use lib.Dec.{eqb}
 use Rattle.bits.specs.Choice.{pick}
 use Rattle.bits.specs.Fields.{field}
 use Rattle.arm.specs.Pseudocode.{Arm, ZeroExtend, X, setX, base, Mem, setMem, Operation, SetExclusiveMonitors, ClearExclusiveLocal, ExclusiveMonitorsPass, ExclusiveMonitorsStatus, CheckSPAlignment, loads, storesExclusive}
+
+-- a register field that the encoding draws as (1)(1)(1)(1)(1). Arm leaves a choice where it is anything else, and 02's CR 3 decides:
+-- "unused register fields not all ones are 3"
+abbrev pub notOnes : ℕ → Bool
+notOnes r = not (eqb r 0b11111)
+
+-- a load uses neither Rs nor Rt2, and nor do LDAR and STLR
+abbrev pub unusedUndefined : ℕ → ℕ → Bool
+unusedUndefined rs t2 = notOnes rs || notOnes t2
+
+-- what is CONSTRAINED UNPREDICTABLE of a store-exclusive: "if s == t" and "if s == n && n != 31"
+abbrev pub statusOverlaps : ℕ → ℕ → ℕ → Bool
+statusOverlaps rs n t = eqb rs t || (eqb rs n && not (eqb n 31))
 
 -- L = 1
 unfoldable pub loadExclusive : ℕ → Arm → Operation

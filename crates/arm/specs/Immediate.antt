@@ -3,11 +3,29 @@
 --     size 111 0 00 opc 0 imm9 11 Rn Rt     pre-index
 --     size 111 0 01 opc imm12 Rn Rt         unsigned offset
 use Prim.Native.Nat.{ℕ, _*_, _/_, _^_}
-use mathlib.Core.Bool.{Bool, true, false}
+use mathlib.Core.Bool.{Bool, true, false, not, _&&_}
 use lib.Dec.{eqb}
 use Rattle.bits.specs.Choice.{pick}
 use Rattle.bits.specs.Fields.{field}
 use Rattle.arm.specs.Pseudocode.{Arm, MemOp, LOAD, STORE, PREFETCH, SignExtend, ZeroExtend, Extend, LSL, Add, X, setX, base, setBase, Mem, setMem, Operation, hint, CheckSPAlignment, stores, loads, case}
+
+-- where the shared decode says UNDEFINED
+abbrev pub indexUndefined : ℕ → ℕ → Bool
+indexUndefined size opc =
+    pick (eqb (field 1 1 opc) 0) false
+    (pick (eqb size 0b11) true
+    (eqb size 0b10 && eqb (field 0 0 opc) 1))
+
+-- and where it does with an unsigned offset, which alone PRFM has
+abbrev pub unsignedUndefined : ℕ → ℕ → Bool
+unsignedUndefined size opc =
+    pick (eqb (field 1 1 opc) 0) false
+    (pick (eqb size 0b11) (eqb (field 0 0 opc) 1)
+    (eqb size 0b10 && eqb (field 0 0 opc) 1))
+
+-- what is CONSTRAINED UNPREDICTABLE, of a load and of a store: "if wback && n == t && n != 31"
+abbrev pub overlaps : Bool → ℕ → ℕ → Bool
+overlaps wback n t = wback && eqb n t && not (eqb n 31)
 
 -- what the three encodings share
 unfoldable pub immediate : Bool → Bool → ℕ → ℕ → ℕ → Arm → Operation

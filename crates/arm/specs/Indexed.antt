@@ -1,10 +1,19 @@
 -- STRB to LDR and PRFM, register: source 003, which is of bytes, with a shift of 0; the other sizes by DDI 0602.
 --     size 111 0 00 opc 1 Rm option S 10 Rn Rt
 use Prim.Native.Nat.{ℕ, _*_, _/_, _^_}
+use mathlib.Core.Bool.{Bool, false, _&&_, _||_}
 use lib.Dec.{eqb}
 use Rattle.bits.specs.Choice.{pick}
 use Rattle.bits.specs.Fields.{field}
 use Rattle.arm.specs.Pseudocode.{Arm, MemOp, LOAD, STORE, PREFETCH, Extend, ExtendReg, Add, X, setX, base, Mem, setMem, Operation, hint, CheckSPAlignment, stores, loads, case}
+
+-- "if option<1> == '0' then UNDEFINED; // sub-word index", and where the shared decode says it
+abbrev pub indexedUndefined : ℕ → ℕ → ℕ → Bool
+indexedUndefined option size opc =
+    eqb (field 1 1 option) 0
+    || pick (eqb (field 1 1 opc) 0) false
+    (pick (eqb size 0b11) (eqb (field 0 0 opc) 1)
+    (eqb size 0b10 && eqb (field 0 0 opc) 1))
 
 unfoldable pub indexed : ℕ → Arm → Operation
 indexed word s =

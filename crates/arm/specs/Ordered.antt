@@ -2,10 +2,18 @@
 -- part of this machine.
 --     size 011 0 01 opc 0 imm9 00 Rn Rt
 use Prim.Native.Nat.{ℕ, _*_, _/_, _^_}
+use mathlib.Core.Bool.{Bool, true, false, _&&_}
 use lib.Dec.{eqb}
 use Rattle.bits.specs.Choice.{pick}
 use Rattle.bits.specs.Fields.{field}
 use Rattle.arm.specs.Pseudocode.{Arm, MemOp, LOAD, STORE, PREFETCH, SignExtend, Extend, Add, X, setX, base, Mem, setMem, Operation, hint, CheckSPAlignment, stores, loads, case}
+
+-- where DDI 0602 has no page, and no prefetch: a signed doubleword, and a word signed to 32 bits
+abbrev pub orderedUndefined : ℕ → ℕ → Bool
+orderedUndefined size opc =
+    pick (eqb (field 1 1 opc) 0) false
+    (pick (eqb size 0b11) true
+    (eqb size 0b10 && eqb (field 0 0 opc) 1))
 
 unfoldable pub ordered : ℕ → Arm → Operation
 ordered word s =

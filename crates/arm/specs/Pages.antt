@@ -1,4 +1,5 @@
--- The page of each row of the table, and what 01's and 02's rules ask of its registers and its address.
+-- The page of each row of the table: what it does, of which words it says UNDEFINED and UNPREDICTABLE, and what 01's and 02's
+-- rules ask of its registers and its address.
 use Prim.Native.Nat.{ℕ, _*_, _^_}
 use mathlib.Core.Bool.{Bool, true, false}
 use lib.Dec.{eqb}
@@ -7,18 +8,18 @@ use Rattle.bits.specs.Fields.{field}
 use Rattle.instruction.specs.declared.row.Row.{Row}
 use Rattle.instruction.specs.declared.row.Row.the-variants.{NoRow, LiteralRow, PairRow, OrderedRow, UnscaledRow, PostRow, PreRow, RegisterRow, UnsignedRow, LoadExclusiveRow, StoreExclusiveRow, AcquireReleaseRow}
 use Rattle.arm.specs.Pseudocode.{Arm, Operation, hint}
-use Rattle.arm.specs.Unscaled.{unscaled}
-use Rattle.arm.specs.Ordered.{ordered}
-use Rattle.arm.specs.Immediate.{postIndex, preIndex, unsigned}
-use Rattle.arm.specs.Indexed.{indexed}
+use Rattle.arm.specs.Unscaled.{unscaledUndefined, unscaled}
+use Rattle.arm.specs.Ordered.{orderedUndefined, ordered}
+use Rattle.arm.specs.Immediate.{indexUndefined, unsignedUndefined, overlaps, postIndex, preIndex, unsigned}
+use Rattle.arm.specs.Indexed.{indexedUndefined, indexed}
 use Rattle.arm.specs.Literal.{literal}
-use Rattle.arm.specs.Pair.{pair}
-use Rattle.arm.specs.VectorImmediate.{vectorScale, vectorPostIndex, vectorPreIndex, vectorUnsigned}
+use Rattle.arm.specs.Pair.{pairUndefined, pairWback, pairOverlaps, pair}
+use Rattle.arm.specs.VectorImmediate.{vectorScale, scaleUndefined, vectorPostIndex, vectorPreIndex, vectorUnsigned}
 use Rattle.arm.specs.VectorUnscaled.{vectorUnscaled}
-use Rattle.arm.specs.VectorIndexed.{vectorIndexed}
-use Rattle.arm.specs.VectorLiteral.{vectorLiteral}
-use Rattle.arm.specs.VectorPair.{vectorPair}
-use Rattle.arm.specs.Exclusive.{loadExclusive, storeExclusive}
+use Rattle.arm.specs.VectorIndexed.{vectorIndexedUndefined, vectorIndexed}
+use Rattle.arm.specs.VectorLiteral.{vectorLiteralUndefined, vectorLiteral}
+use Rattle.arm.specs.VectorPair.{vectorPairUndefined, vectorPairOverlaps, vectorPair}
+use Rattle.arm.specs.Exclusive.{notOnes, unusedUndefined, statusOverlaps, loadExclusive, storeExclusive}
 use Rattle.arm.specs.AcquireRelease.{acquireRelease}
 
 -- what 6 asks of an access: nothing, that it lies in one block of 16 bytes, or that its address is a multiple of its bytes
@@ -28,7 +29,8 @@ pub data Alignment : Type 0 where
   multiple : Alignment
 
 -- whether Rt and Rt2 are vector registers; whether Rn is a base, Rm an index and Rt2 a second register; whether the base is written
--- back; whether Rs gets a status; to how many bytes what is loaded is extended with its sign
+-- back; whether Rs gets a status; to how many bytes what is loaded is extended with its sign; whether the page says UNDEFINED of the
+-- word, and whether CONSTRAINED UNPREDICTABLE
 pub record Page : Type 0 where
   pub operation : ℕ → Arm → Operation
   pub vector : Bool
@@ -39,9 +41,11 @@ pub record Page : Type 0 where
   pub status : Bool
   pub alignment : Alignment
   pub extent : ℕ
+  pub undefined : Bool
+  pub unpredictable : Bool
 
-abbrev page : Bool → (ℕ → Arm → Operation) → Bool → Bool → Bool → Bool → Bool → Alignment → ℕ → Page
-page vector operation based indexed paired wback status alignment extent =
+abbrev page : Bool → (ℕ → Arm → Operation) → Bool → Bool → Bool → Bool → Bool → Alignment → ℕ → Bool → Bool → Page
+page vector operation based indexed paired wback status alignment extent undefined unpredictable =
     record {
       operation = operation;
       vector = vector;
@@ -52,6 +56,8 @@ page vector operation based indexed paired wback status alignment extent =
       status = status;
       alignment = alignment;
       extent = extent;
+      undefined = undefined;
+      unpredictable = unpredictable;
     }
 
 -- size and opc, "opc 01 loads with zeros above, 10 loads signed to 64 bits, 11 loads signed to 32 bits", and of literals and pairs,
@@ -62,17 +68,56 @@ sizedExtent vector size opc = pick vector (2 ^ vectorScale size opc) (pick (eqb 
 abbrev pub opcExtent : Bool → ℕ → ℕ
 opcExtent vector opc = pick vector (4 * 2 ^ opc) (pick (eqb opc 0b00) 4 8)
 
--- by bit 26. The two modes of a pair that write back have bit 23 in common
+-- by bit 26
 abbrev pub pageOf : Bool → Row → ℕ → Page
-pageOf vector NoRow word = page vector (λ word s. hint) false false false false false anywhere 0
-pageOf vector LiteralRow word = page vector (pick vector vectorLiteral literal) false false false false false anywhere (opcExtent vector (field 31 30 word))
-pageOf vector PairRow word = page vector (pick vector vectorPair pair) true false true (eqb (field 23 23 word) 1) false anywhere (opcExtent vector (field 31 30 word))
-pageOf vector OrderedRow word = page false ordered true false false false false oneBlock (sizedExtent false (field 31 30 word) (field 23 22 word))
-pageOf vector UnscaledRow word = page vector (pick vector vectorUnscaled unscaled) true false false false false anywhere (sizedExtent vector (field 31 30 word) (field 23 22 word))
-pageOf vector PostRow word = page vector (pick vector vectorPostIndex postIndex) true false false true false anywhere (sizedExtent vector (field 31 30 word) (field 23 22 word))
-pageOf vector PreRow word = page vector (pick vector vectorPreIndex preIndex) true false false true false anywhere (sizedExtent vector (field 31 30 word) (field 23 22 word))
-pageOf vector RegisterRow word = page vector (pick vector vectorIndexed indexed) true true false false false anywhere (sizedExtent vector (field 31 30 word) (field 23 22 word))
-pageOf vector UnsignedRow word = page vector (pick vector vectorUnsigned unsigned) true false false false false anywhere (sizedExtent vector (field 31 30 word) (field 23 22 word))
-pageOf vector LoadExclusiveRow word = page false loadExclusive true false false false false multiple (2 ^ field 31 30 word)
-pageOf vector StoreExclusiveRow word = page false storeExclusive true false false false true multiple (2 ^ field 31 30 word)
-pageOf vector AcquireReleaseRow word = page false acquireRelease true false false false false oneBlock (2 ^ field 31 30 word)
+pageOf vector NoRow word = page vector (λ word s. hint) false false false false false anywhere 0 false false
+pageOf vector LiteralRow word =
+    let opc = field 31 30 word in
+    page vector (pick vector vectorLiteral literal) false false false false false anywhere (opcExtent vector opc)
+    (pick vector (vectorLiteralUndefined opc) false) false
+pageOf vector PairRow word =
+    let opc = field 31 30 word in
+    let L = field 22 22 word in
+    let t2 = field 14 10 word in
+    let n = field 9 5 word in
+    let t = field 4 0 word in
+    page vector (pick vector vectorPair pair) true false true (pairWback word) false anywhere (opcExtent vector opc)
+    (pick vector (vectorPairUndefined opc) (pairUndefined (field 24 23 word) opc L))
+    (pick vector (vectorPairOverlaps L t t2) (pairOverlaps (pairWback word) L n t t2))
+pageOf vector OrderedRow word =
+    let size = field 31 30 word in
+    let opc = field 23 22 word in
+    page false ordered true false false false false oneBlock (sizedExtent false size opc) (orderedUndefined size opc) false
+pageOf vector UnscaledRow word =
+    let size = field 31 30 word in
+    let opc = field 23 22 word in
+    page vector (pick vector vectorUnscaled unscaled) true false false false false anywhere (sizedExtent vector size opc)
+    (pick vector (scaleUndefined size opc) (unscaledUndefined size opc)) false
+pageOf vector PostRow word =
+    let size = field 31 30 word in
+    let opc = field 23 22 word in
+    page vector (pick vector vectorPostIndex postIndex) true false false true false anywhere (sizedExtent vector size opc)
+    (pick vector (scaleUndefined size opc) (indexUndefined size opc)) (pick vector false (overlaps true (field 9 5 word) (field 4 0 word)))
+pageOf vector PreRow word =
+    let size = field 31 30 word in
+    let opc = field 23 22 word in
+    page vector (pick vector vectorPreIndex preIndex) true false false true false anywhere (sizedExtent vector size opc)
+    (pick vector (scaleUndefined size opc) (indexUndefined size opc)) (pick vector false (overlaps true (field 9 5 word) (field 4 0 word)))
+pageOf vector RegisterRow word =
+    let size = field 31 30 word in
+    let opc = field 23 22 word in
+    let option = field 15 13 word in
+    page vector (pick vector vectorIndexed indexed) true true false false false anywhere (sizedExtent vector size opc)
+    (pick vector (vectorIndexedUndefined option size opc) (indexedUndefined option size opc)) false
+pageOf vector UnsignedRow word =
+    let size = field 31 30 word in
+    let opc = field 23 22 word in
+    page vector (pick vector vectorUnsigned unsigned) true false false false false anywhere (sizedExtent vector size opc)
+    (pick vector (scaleUndefined size opc) (unsignedUndefined size opc)) false
+pageOf vector LoadExclusiveRow word =
+    page false loadExclusive true false false false false multiple (2 ^ field 31 30 word) (unusedUndefined (field 20 16 word) (field 14 10 word)) false
+pageOf vector StoreExclusiveRow word =
+    page false storeExclusive true false false false true multiple (2 ^ field 31 30 word) (notOnes (field 14 10 word))
+    (statusOverlaps (field 20 16 word) (field 9 5 word) (field 4 0 word))
+pageOf vector AcquireReleaseRow word =
+    page false acquireRelease true false false false false oneBlock (2 ^ field 31 30 word) (unusedUndefined (field 20 16 word) (field 14 10 word)) false

@@ -1,11 +1,24 @@
 -- STP, LDP and LDPSW, and STNP and LDNP, which allocate nothing: DDI 0602.
 --     opc 101 0 0 mode L imm7 Rt2 Rn Rt
 use Prim.Native.Nat.{ℕ, _+_, _*_, _/_, _^_}
-use mathlib.Core.Bool.{Bool, true, false, not}
+use mathlib.Core.Bool.{Bool, true, false, not, _&&_, _||_}
 use lib.Dec.{eqb}
 use Rattle.bits.specs.Choice.{pick}
 use Rattle.bits.specs.Fields.{field}
-use Rattle.arm.specs.Pseudocode.{Arm, MemOp, LOAD, STORE, SignExtend, LSL, Add, X, setX, base, setBase, Mem, setMem, Operation, hint, CheckSPAlignment, stores, loads, case}
+use Rattle.arm.specs.Pseudocode.{Arm, MemOp, LOAD, STORE, Concat, SignExtend, LSL, Add, X, setX, base, setBase, Mem, setMem, Operation, hint, CheckSPAlignment, stores, loads, case}
+
+-- STNP and LDNP: "if opc<0> == '1' then UNDEFINED"; STP, LDP and LDPSW: "if L:opc<0> == '01' || opc == '11' then UNDEFINED". With
+-- memory tagging, which 01 leaves out, Arm has STGP at L:opc 0:01
+abbrev pub pairUndefined : ℕ → ℕ → ℕ → Bool
+pairUndefined mode opc L = pick (eqb mode 0b00) (eqb (field 0 0 opc) 1) (eqb (Concat L 1 (field 0 0 opc)) 0b01 || eqb opc 0b11)
+
+-- the two modes that write back have bit 23 in common
+abbrev pub pairWback : ℕ → Bool
+pairWback word = eqb (field 23 23 word) 1
+
+-- what is CONSTRAINED UNPREDICTABLE: "wback && (t == n || t2 == n) && n != 31", of a load and of a store, and "t == t2" of a load
+abbrev pub pairOverlaps : Bool → ℕ → ℕ → ℕ → ℕ → Bool
+pairOverlaps wback L n t t2 = (wback && (eqb t n || eqb t2 n) && not (eqb n 31)) || (eqb L 1 && eqb t t2)
 
 -- what the four encodings share
 unfoldable pub paired : Bool → Bool → ℕ → Arm → Operation

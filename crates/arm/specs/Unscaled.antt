@@ -1,10 +1,18 @@
 -- STURB to LDUR and PRFUM: sources 000 (without its capability lines) and 004.
 --     size 111 0 00 opc 0 imm9 00 Rn Rt
 use Prim.Native.Nat.{ℕ, _*_, _/_, _^_}
+use mathlib.Core.Bool.{Bool, false, _&&_}
 use lib.Dec.{eqb}
 use Rattle.bits.specs.Choice.{pick}
 use Rattle.bits.specs.Fields.{field}
 use Rattle.arm.specs.Pseudocode.{Arm, MemOp, LOAD, STORE, PREFETCH, SignExtend, Extend, Add, X, setX, base, Mem, setMem, Operation, hint, CheckSPAlignment, stores, loads, case}
+
+-- where the shared decode says UNDEFINED
+abbrev pub unscaledUndefined : ℕ → ℕ → Bool
+unscaledUndefined size opc =
+    pick (eqb (field 1 1 opc) 0) false
+    (pick (eqb size 0b11) (eqb (field 0 0 opc) 1)
+    (eqb size 0b10 && eqb (field 0 0 opc) 1))
 
 unfoldable pub unscaled : ℕ → Arm → Operation
 unscaled word s =

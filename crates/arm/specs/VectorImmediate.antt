@@ -4,7 +4,7 @@
 --     size 111 1 01 opc imm12 Rn Rt         unsigned offset
 use Prim.Native.Nat.{ℕ, _*_, _/_, _^_}
 use mathlib.Core.Bool.{Bool, true, false}
-use lib.Dec.{eqb}
+use lib.Dec.{eqb, ltb}
 use Rattle.bits.specs.Choice.{pick}
 use Rattle.bits.specs.Fields.{field}
 use Rattle.arm.specs.Pseudocode.{Arm, MemOp, LOAD, STORE, Concat, SignExtend, ZeroExtend, LSL, Add, Vec, setVec, base, setBase, Mem, setMem, Operation, hint, CheckSPAlignment, stores, loads, case}
@@ -29,6 +29,10 @@ vectorImmediate wback postindex scale offset word s =
 -- opc<1>:size
 abbrev pub vectorScale : ℕ → ℕ → ℕ
 vectorScale size opc = Concat (field 1 1 opc) 2 size
+
+-- "if scale > 4 then UNDEFINED", of every page with this scale
+abbrev pub scaleUndefined : ℕ → ℕ → Bool
+scaleUndefined size opc = ltb 4 (vectorScale size opc)
 
 abbrev pub vectorPostIndex : ℕ → Arm → Operation
 vectorPostIndex word s =

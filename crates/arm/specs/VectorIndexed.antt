@@ -1,11 +1,16 @@
 -- STR and LDR of a vector register, register: DDI 0602, "LDR (register, SIMD&FP)".
 --     size 111 1 00 opc 1 Rm option S 10 Rn Rt
 use Prim.Native.Nat.{ℕ, _*_, _/_, _^_}
+use mathlib.Core.Bool.{Bool, _||_}
 use lib.Dec.{eqb}
 use Rattle.bits.specs.Choice.{pick}
 use Rattle.bits.specs.Fields.{field}
 use Rattle.arm.specs.Pseudocode.{Arm, MemOp, LOAD, STORE, ExtendReg, Add, Vec, setVec, base, Mem, setMem, Operation, hint, CheckSPAlignment, stores, loads, case}
-use Rattle.arm.specs.VectorImmediate.{vectorScale}
+use Rattle.arm.specs.VectorImmediate.{vectorScale, scaleUndefined}
+
+-- "if option<1> == '0' then UNDEFINED; // sub-word index", and by its scale
+abbrev pub vectorIndexedUndefined : ℕ → ℕ → ℕ → Bool
+vectorIndexedUndefined option size opc = scaleUndefined size opc || eqb (field 1 1 option) 0
 
 unfoldable pub vectorIndexed : ℕ → Arm → Operation
 vectorIndexed word s =

@@ -1,10 +1,15 @@
 -- LDR of a vector register, literal: DDI 0602, "LDR (literal, SIMD&FP)".
 --     opc 011 1 00 imm19 Rt
 use Prim.Native.Nat.{ℕ, _*_}
+use mathlib.Core.Bool.{Bool}
 use lib.Dec.{eqb}
 use Rattle.bits.specs.Choice.{pick}
 use Rattle.bits.specs.Fields.{field}
 use Rattle.arm.specs.Pseudocode.{Arm, Concat, SignExtend, Add, setVec, Mem, Operation, loads}
+
+-- "when '11' UNDEFINED"
+abbrev pub vectorLiteralUndefined : ℕ → Bool
+vectorLiteralUndefined opc = eqb opc 0b11
 
 -- the bytes of opc 00, 01 and 10
 abbrev pub vectorLiteralSize : ℕ → ℕ

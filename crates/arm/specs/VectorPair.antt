@@ -1,11 +1,19 @@
 -- STP and LDP of vector registers, and STNP and LDNP, which allocate nothing: DDI 0602, "LDP (SIMD&FP)" and "LDNP (SIMD&FP)".
 --     opc 101 1 0 mode L imm7 Rt2 Rn Rt
 use Prim.Native.Nat.{ℕ, _+_, _*_, _/_, _^_}
-use mathlib.Core.Bool.{Bool, true, false}
+use mathlib.Core.Bool.{Bool, true, false, _&&_}
 use lib.Dec.{eqb}
 use Rattle.bits.specs.Choice.{pick}
 use Rattle.bits.specs.Fields.{field}
 use Rattle.arm.specs.Pseudocode.{Arm, MemOp, LOAD, STORE, SignExtend, LSL, Add, Vec, setVec, base, setBase, Mem, setMem, Operation, hint, CheckSPAlignment, stores, loads, case}
+
+-- "if opc == '11' then UNDEFINED"
+abbrev pub vectorPairUndefined : ℕ → Bool
+vectorPairUndefined opc = eqb opc 0b11
+
+-- what is CONSTRAINED UNPREDICTABLE: "t == t2" of a load. A base is no vector register
+abbrev pub vectorPairOverlaps : ℕ → ℕ → ℕ → Bool
+vectorPairOverlaps L t t2 = eqb L 1 && eqb t t2
 
 -- what the four encodings share
 unfoldable pub vectorPaired : Bool → Bool → ℕ → Arm → Operation
