@@ -1,4 +1,6 @@
--- STRB to LDR, immediate: source 002, its new text; PRFM, immediate, by DDI 0602.
+-- STRB to LDR, immediate: source 002; PRFM, immediate, by DDI 0602. Of 002's two texts this is the older, whose shared decode has
+-- every opc. The newer one is of LDR alone, and says of it what the older does: opc is 01 there, so that memop is LOAD and signed
+-- FALSE.
 --     size 111 0 00 opc 0 imm9 01 Rn Rt     post-index
 --     size 111 0 00 opc 0 imm9 11 Rn Rt     pre-index
 --     size 111 0 01 opc imm12 Rn Rt         unsigned offset
