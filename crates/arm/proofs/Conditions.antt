@@ -49,10 +49,10 @@ agree-all a b c f g h x y z p q r = agree b c (f x) (g x) (tested a (λ x. upTo 
 
 -- ---- what the table says, by size and opc
 
-abbrev coded : ℕ → ℕ → ℕ → Bool
+abbrev pub coded : ℕ → ℕ → ℕ → Bool
 coded v size opc = any (eqb (v * 16 + size * 4 + opc)) undefinedCodes
 
-abbrev codedPrefetch : ℕ → ℕ → ℕ → Bool
+abbrev pub codedPrefetch : ℕ → ℕ → ℕ → Bool
 codedPrefetch v size opc = coded v size opc || eqb (v * 16 + size * 4 + opc) 0b0_11_10
 
 abbrev codedPair : ℕ → ℕ → ℕ → ℕ → Bool
@@ -96,6 +96,12 @@ pair-is = agree-all 4 4 2 (codedPair 0) pairUndefined refl
 
 vector-pair-is : (mode opc L : ℕ) → mode < 4 → opc < 4 → L < 2 → codedPair 1 mode opc L ≡ vectorPairUndefined opc
 vector-pair-is = agree-all 4 4 2 (codedPair 1) (λ mode opc L. vectorPairUndefined opc) refl
+
+-- of the words that are ordered, a doubleword is never signed
+pub signed-double : (size opc : ℕ) → size < 4 → opc < 4 → codedPrefetch 0 size opc ≡ false → (eqb (field 1 1 opc) 1 && eqb size 0b11) ≡ false
+unfolding part
+signed-double size opc p q u =
+    rw u at (agree 4 4 (λ size opc. not (codedPrefetch 0 size opc) && (eqb (field 1 1 opc) 1 && eqb size 0b11)) (λ size opc. false) refl size opc p q)
 
 -- ---- conditions of registers
 
@@ -180,7 +186,7 @@ module _ (word : ℕ) where
     unfolding undefinedSize
     by-codes = ap (λ (b : ℕ). coded b size opc) kind
 
-    by-codes-prefetch : undefinedPrefetch word ≡ codedPrefetch v size opc
+    pub by-codes-prefetch : undefinedPrefetch word ≡ codedPrefetch v size opc
     unfolding undefinedPrefetch undefinedSize
     by-codes-prefetch = ap (λ (b : ℕ). codedPrefetch b size opc) kind
 

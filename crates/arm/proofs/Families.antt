@@ -36,7 +36,7 @@ use Rattle.plan.specs.Address.{sumOf, indexOf, shiftedOf}
 use Rattle.plan.specs.Admission.{misaligned, unaligned}
 use Rattle.plan.specs.Plans.{misalignedStack}
 use Rattle.machine.specs.Machine.{Machine, operandsOf}
-use Rattle.arm.specs.Pseudocode.{Arm, LOAD, PREFETCH, Concat, SignExtend, ZeroExtend, LSL, Add, X, setX, setVec, base, Mem, ExtendReg, Align, Operation, hint, loads, case}
+use Rattle.arm.specs.Pseudocode.{Arm, MemOp, LOAD, STORE, PREFETCH, Concat, SignExtend, ZeroExtend, LSL, Add, X, setX, setVec, base, Mem, ExtendReg, Align, Operation, hint, loads, case}
 use Rattle.arm.specs.Unscaled.{unscaled}
 use Rattle.arm.specs.Ordered.{ordered}
 use Rattle.arm.specs.Immediate.{immediate, postIndex, preIndex, unsigned}
@@ -49,7 +49,7 @@ use Rattle.arm.specs.VectorLiteral.{vectorLiteralSize, vectorLiteral}
 use Rattle.arm.specs.Marks.{anyMarked}
 use Rattle.arm.specs.Pages.{Page, opcExtent, pageOf}
 use Rattle.arm.specs.Choices.{marked, misplaced, armOf}
-use Rattle.arm.proofs.Conditions.{by-codes, by-literal}
+use Rattle.arm.proofs.Conditions.{signed-double, by-codes, by-codes-prefetch, by-literal}
 use Rattle.arm.proofs.Bits.{add-is, imm9-is, imm12-is, imm19-is, index-is, extended-is}
 use Rattle.arm.proofs.Places.{slot, setR, base-is, x-is}
 use Rattle.arm.proofs.Marks.{marks-at, base-marked, index-marked}
@@ -246,12 +246,20 @@ module _ (w : Window) (m : Machine) (r : Ready w m) (word : ℕ) where
       let form = based-form w m r (pageOf true UnscaledRow word) word offset9 false false false refl refl refl (λ h. absurd (never h)) (λ k x p q. refl) in
       all-vectors w m r (pageOf true UnscaledRow word) word _ false false _ _ _ form refl (behind t t-lt) size opc size-lt opc-lt refl (known 1 b u) (sized-by 1 b _ _ (rw offset9-is e))
 
+  -- what has no prefetch, where a doubleword is never signed
+  no-hint : (signed double : Bool) (other : MemOp) → (signed && double) ≡ false → pick signed LOAD other ≡ pick signed (pick double PREFETCH LOAD) other
+  no-hint true true other h = absurd (never (sym h))
+  no-hint true false other h = refl
+  no-hint false double other h = refl
+
   pub ordered-step : field 26 26 word ≡ 0 → undefinedPrefetch word ≡ false → wordAccess word ≡ familyAccess (columnsOf OrderedRow .family word)
       → (vector : Bool) → Steps w m (pageOf vector OrderedRow word) word (ordered word (armOf w m))
   unfolding ordered misaligned unaligned signedIn
   ordered-step b u e vector =
       let form = based-form w m r (pageOf vector OrderedRow word) word offset9 false false true refl refl refl (λ h. absurd (never h)) (λ k x p q. rw or-false (same-block x k p q)) in
-      all-sizes w m r (pageOf vector OrderedRow word) word _ true false _ _ _ form refl refl size opc size-lt opc-lt refl (known 0 b (prefetch-no word u .0)) (sized-by 0 b _ _ (rw offset9-is e))
+      let other : MemOp = pick (eqb (field 0 0 opc) 1) LOAD STORE in
+      rw (no-hint (eqb (field 1 1 opc) 1) (eqb size 0b11) other (signed-double size opc size-lt opc-lt (sym (by-codes-prefetch word 0 b) ∙ u)))
+      (all-sizes w m r (pageOf vector OrderedRow word) word _ true false _ _ _ form refl refl size opc size-lt opc-lt refl (known 0 b (prefetch-no word u .0)) (sized-by 0 b _ _ (rw offset9-is e)))
 
   -- with writeback
   base-apart : field 26 26 word ≡ 0 → overBase t word ≡ false → ¬ (field 9 5 word ≡ zeroSlot t)
