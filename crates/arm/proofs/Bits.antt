@@ -14,6 +14,7 @@ use Rattle.bits.specs.Choice.{pick}
 use Rattle.bits.specs.Fields.{part, field}
 use Rattle.bits.specs.Signed.{signedOf, twosComplement}
 use Rattle.bits.proofs.Offsets.{mul-pos}
+use Rattle.bits.proofs.Parts.{part-lt}
 use Rattle.bits.specs.Extension.{largest, extendedOf}
 use Rattle.plan.specs.Address.{indexOf, shiftedOf}
 use Rattle.bits.proofs.Extensions.{two-256}
@@ -27,12 +28,20 @@ low-bits width v h =
     let e : width - 1 + 1 - 0 ≡ width = omega arith in
     rw (e, div-one)
 
+-- a number of so many bits is all of them
+pub within : (width v : ℕ) → 0 < width → v < 2 ^ width → field (width - 1) 0 v ≡ v
+within width v p h = low-bits width v p ∙ mod-eq-of-lt h
+
 pub full : (v : ℕ) → v < 2 ^ 64 → field 63 0 v ≡ v
-full v h = low-bits 64 v (omega arith) ∙ mod-eq-of-lt h
+full v h = within 64 v (omega arith) h
 
 pub add-is : (x y : ℕ) → Add x y ≡ (x + y) % 2 ^ 64
 unfolding Add
 add-is x y = low-bits 64 (x + y) (omega arith)
+
+pub add-lt : (x y : ℕ) → Add x y < 2 ^ 64
+unfolding Add
+add-lt x y = part-lt 0 64 (x + y)
 
 pub add-small : (x y : ℕ) → x + y < 2 ^ 64 → Add x y ≡ x + y
 add-small x y h = add-is x y ∙ mod-eq-of-lt h
@@ -51,9 +60,9 @@ ones : (n : ℕ) → Replicate 1 n + 1 ≡ 2 ^ n
 ones zero = refl
 ones (suc n) = rw (pow-suc 2 n) (omega (arith, ones n))
 
-pub zero-extend : (from to x : ℕ) → ZeroExtend from to x ≡ x
+pub zero-extend : (from to x : ℕ) → 0 < from → x < 2 ^ from → ZeroExtend from to x ≡ x
 unfolding ZeroExtend
-zero-extend from to x = rw (zeros (to - from), zero-mul, zero-add)
+zero-extend from to x p h = rw (within from x p h, zeros (to - from), zero-mul, zero-add)
 
 -- the top bit of k + 1 bits
 top-is : (k x : ℕ) → x < 2 ^ suc k → (t : Bool) → ltb x (2 ^ k) ≡ t → x / 2 ^ k % 2 ^ 1 ≡ pick t 0 1
@@ -65,6 +74,13 @@ top-is k x h false e =
     let q : x / 2 ^ k ≡ 1 = rw d at (high 1 k {lo = x - 2 ^ k} (omega arith)) in
     rw q
 
+top-bit : (k x : ℕ) → x < 2 ^ suc k → field (suc k - 1) (suc k - 1) x ≡ pick (ltb x (2 ^ k)) 0 1
+unfolding part
+top-bit k x h =
+    let a : suc k - 1 ≡ k = omega arith in
+    let b : k + 1 - k ≡ 1 = omega arith in
+    rw (a, b) (top-is k x h (ltb x (2 ^ k)) refl)
+
 -- copies of the top bit, above x
 copies : (k to x : ℕ) → suc k ≤ to → (t : Bool) → Concat (Replicate (pick t 0 1) (to - suc k)) (suc k) x ≡ pick t x (x + (2 ^ to - 2 ^ suc k))
 copies k to x l true = rw (zeros (to - suc k), zero-mul, zero-add)
@@ -74,17 +90,14 @@ copies k to x l false =
     rw (r, ← high-ones (to - suc k) (suc k), e) (add-comm _ _)
 
 pub sign-extend : (k to x : ℕ) → suc k ≤ to → x < 2 ^ suc k → SignExtend (suc k) to x ≡ pick (ltb x (2 ^ k)) x (x + (2 ^ to - 2 ^ suc k))
-unfolding SignExtend part
-sign-extend k to x l h =
-    let a : suc k - 1 ≡ k = omega arith in
-    let b : k + 1 - k ≡ 1 = omega arith in
-    rw (a, b, top-is k x h (ltb x (2 ^ k)) refl) (copies k to x l (ltb x (2 ^ k)))
-
-sign-none : (n x : ℕ) → SignExtend n n x ≡ x
 unfolding SignExtend
-sign-none n x =
+sign-extend k to x l h = rw (top-bit k x h, within (suc k) x (omega arith) h) (copies k to x l (ltb x (2 ^ k)))
+
+sign-none : (n x : ℕ) → 0 < n → x < 2 ^ n → SignExtend n n x ≡ x
+unfolding SignExtend
+sign-none n x p h =
     let e : n - n ≡ 0 = omega arith in
-    rw (e, zero-mul, zero-add)
+    rw (within n x p h, e, zero-mul, zero-add)
 
 -- the machine tests the sign by the half of the values
 pub extended-is : (n to v : ℕ) → suc n ≤ to → v < 256 ^ suc n → extendedOf (suc n) to v ≡ SignExtend (8 * suc n) (8 * to) v
@@ -171,7 +184,7 @@ pub imm19-is : (imm19 : ℕ) → imm19 < 2 ^ 19 → SignExtend 21 64 (Concat imm
 imm19-is b h = extend-shifted 18 2 b (omega arith) h ∙ offset-is 18 2 b (omega arith) h
 
 pub imm12-is : (imm12 scale : ℕ) → imm12 < 2 ^ 12 → scale < 5 → LSL (ZeroExtend 12 64 imm12) scale ≡ imm12 * 2 ^ scale
-imm12-is b scale h l = lsl-is (ZeroExtend 12 64 b) scale ∙ rw (zero-extend 12 64 b) (shl-exact 12 scale 64 h (omega arith))
+imm12-is b scale h l = lsl-is (ZeroExtend 12 64 b) scale ∙ rw (zero-extend 12 64 b (omega arith) h) (shl-exact 12 scale 64 h (omega arith))
 
 -- ---- indexes
 
@@ -197,8 +210,9 @@ module _ (m : ℕ) (s : Arm) (shift : ℕ) (h : shift < 5) where
   unfolding ExtendReg shiftedOf indexOf part
   uxtw =
       let u : ℕ = X m 64 s % 2 ^ 32 in
-      let fits : u * 2 ^ shift % 2 ^ 64 ≡ u * 2 ^ shift = shl-exact 32 shift 64 (mod-lt (X m 64 s) (pow-pos 32)) (omega arith) in
-      rw (word-room, same-shift, zero-extend, low-bits 32 (X m 64 s) (omega arith), add-zero) (sym fits)
+      let l : u < 2 ^ 32 = mod-lt (X m 64 s) (pow-pos 32) in
+      rw (word-room, same-shift, low-bits 32 (X m 64 s) (omega arith), add-zero, zero-extend (32 + shift) 64 (u * 2 ^ shift) (omega arith) (shl-lt 32 shift l))
+      (sym (shl-exact 32 shift 64 l (omega arith)))
 
   sxtw : Agree 0b110
   unfolding ExtendReg shiftedOf indexOf part
@@ -218,13 +232,16 @@ module _ (m : ℕ) (s : Arm) (shift : ℕ) (h : shift < 5) where
   filled : 64 - shift + shift ≡ 64
   filled = omega arith
 
+  low-fits : X m 64 s % 2 ^ (64 - shift) * 2 ^ shift < 2 ^ 64
+  low-fits = rw filled at (shl-lt (64 - shift) shift (mod-lt (X m 64 s) (pow-pos (64 - shift))))
+
   uxtx : Agree 0b011
   unfolding ExtendReg shiftedOf indexOf part
-  uxtx = rw (double-room, filled, same-shift, zero-extend, low-bits (64 - shift) (X m 64 s) (omega arith), add-zero) (low-scaled shift (X m 64 s) (omega arith))
+  uxtx = rw (double-room, filled, same-shift, low-bits (64 - shift) (X m 64 s) (omega arith), add-zero, zero-extend 64 64 _ (omega arith) low-fits) (low-scaled shift (X m 64 s) (omega arith))
 
   sxtx : Agree 0b111
   unfolding ExtendReg shiftedOf indexOf part
-  sxtx = rw (double-room, filled, same-shift, sign-none 64, low-bits (64 - shift) (X m 64 s) (omega arith), add-zero) (low-scaled shift (X m 64 s) (omega arith))
+  sxtx = rw (double-room, filled, same-shift, low-bits (64 - shift) (X m 64 s) (omega arith), add-zero, sign-none 64 _ (omega arith) low-fits) (low-scaled shift (X m 64 s) (omega arith))
 
 -- option 010, 011, 110 and 111: bit 1 is set
 pub index-is : (m : ℕ) (s : Arm) (option shift : ℕ) → option < 8 → ¬ (field 1 1 option ≡ 0) → shift < 5 → ExtendReg m option shift s ≡ shiftedOf option shift (X m 64 s)

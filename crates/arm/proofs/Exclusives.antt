@@ -28,7 +28,7 @@ use Rattle.machine.specs.Monitor.{matches, statusOf, monitorAfter, writtenBack,
 use Rattle.machine.specs.Rule.{moveRule}
 use Rattle.machine.specs.Machine.{Machine, storedBytes}
 use Rattle.arm.specs.Pseudocode.{Arm, LOAD, STORE, ZeroExtend, Extend, Add, X, setX, base, Mem, setMem, Operation, hint, SetExclusiveMonitors, ClearExclusiveLocal, ExclusiveMonitorsPass, CheckSPAlignment, loads, stores, access, storesExclusive, case}
-use Rattle.arm.specs.Exclusive.{loadExclusive, storeExclusive}
+use Rattle.arm.specs.Exclusive.{regsizeOf, loadExclusive, storeExclusive}
 use Rattle.arm.specs.AcquireRelease.{acquireRelease}
 use Rattle.arm.specs.Marks.{marksOf}
 use Rattle.arm.specs.Pages.{pageOf}
@@ -36,8 +36,8 @@ use Rattle.arm.specs.Choices.{misplaced, armOf}
 use Rattle.arm.proofs.Bits.{add-small, zero-extend}
 use Rattle.arm.proofs.Places.{set-x, set-mem, mem-monitor}
 use Rattle.arm.proofs.Marks.{single, status-marks}
-use Rattle.arm.proofs.Steps.{Ready, Inside, Steps, faulty, same-block, access-step}
-use Rattle.arm.proofs.Singles.{two, four, store-memory, Placed, Form, zeros, one-load, one-store}
+use Rattle.arm.proofs.Steps.{mostBytes, Ready, Inside, Steps, faulty, same-block, access-step}
+use Rattle.arm.proofs.Singles.{two, four, store-memory, Placed, fit, fits, Form, zeros, one-load, one-store}
 use Rattle.arm.proofs.Families.{never, strays, aligned-at, base-register, based-placed, based-form}
 
 -- ---- a store-exclusive
@@ -77,10 +77,18 @@ module _ (w : Window) (m : Machine) (r : Ready w m) (word : ℕ) (stray : Bool) 
     left-registers : (pass : Bool) → set (m .values) (zeroSlot rs) (pick pass 0 1) ≡ left k pass .registers
     left-registers pass =
         let len : length (after k pass .registers) ≡ 64 = after-registers-length pass in
-        rw (zero-extend 1 32 (pick pass 0 1), set-x (after k pass) len rs 32 (pick pass 0 1), after-registers pass)
+        rw (zero-extend 1 32 (pick pass 0 1) (omega arith) (bit pass), set-x (after k pass) len rs 32 (pick pass 0 1) (omega arith) (status pass), after-registers pass)
       where
         after-registers-length : (pass : Bool) → length (after k pass .registers) ≡ 64
         after-registers-length pass = rw (after-registers pass) (r .real .registers)
+
+        bit : (pass : Bool) → pick pass 0 1 < 2 ^ 1
+        bit true = omega arith
+        bit false = omega arith
+
+        status : (pass : Bool) → pick pass 0 1 < 2 ^ 32
+        status true = omega arith
+        status false = omega arith
 
     left-memory : (pass : Bool) → 0 < k
         → storedBytes (madeOf (single false true true false k k t) (pick pass 0 1)) (address - w .origin) (m .values) (m .memory) ≡ left k pass .memory
@@ -101,7 +109,7 @@ module _ (w : Window) (m : Machine) (r : Ready w m) (word : ℕ) (stray : Bool) 
   left-marks k h false = status-marks false false (w .origin) word address (m .taints) (r .real .marks) h k k _ true
 
   -- with what the monitor says
-  made : (k : ℕ) → 0 < k → k ≤ 32 → wordAccess word ≡ Moves (single false true true false k k t) (based (field 9 5 word) 0 false (zeroSlot rs)) → (pass : Bool)
+  made : (k : ℕ) → 0 < k → k ≤ mostBytes → wordAccess word ≡ Moves (single false true true false k k t) (based (field 9 5 word) 0 false (zeroSlot rs)) → (pass : Bool)
       → ExclusiveMonitorsPass address k (armOf w m) ≡ pass → Steps w m (pageOf false StoreExclusiveRow word) word (faulty m stray (access true address k (pick pass 0 1) (left k pass)))
   unfolding based statusOf writtenBack monitorAfter
   made k l q e pass f =
@@ -123,12 +131,12 @@ module _ (w : Window) (m : Machine) (r : Ready w m) (word : ℕ) (stray : Bool) 
       true refl
 
   -- and as the page says it, with either status
-  by : (k : ℕ) → 0 < k → k ≤ 32 → wordAccess word ≡ Moves (single false true true false k k t) (based (field 9 5 word) 0 false (zeroSlot rs)) → (pass : Bool)
+  by : (k : ℕ) → 0 < k → k ≤ mostBytes → wordAccess word ≡ Moves (single false true true false k k t) (based (field 9 5 word) 0 false (zeroSlot rs)) → (pass : Bool)
       → ExclusiveMonitorsPass address k (armOf w m) ≡ pass → Steps w m (pageOf false StoreExclusiveRow word) word (faulty m stray (storesExclusive address k (pick pass 0 1) (left k pass)))
   by k l q e true f = made k l q e true f
   by k l q e false f = made k l q e false f
 
-  pub status-store : (k : ℕ) → 0 < k → k ≤ 32 → wordAccess word ≡ Moves (single false true true false k k t) (based (field 9 5 word) 0 false (zeroSlot rs))
+  pub status-store : (k : ℕ) → 0 < k → k ≤ mostBytes → wordAccess word ≡ Moves (single false true true false k k t) (based (field 9 5 word) 0 false (zeroSlot rs))
       → let pass = ExclusiveMonitorsPass address k (armOf w m) in
       Steps w m (pageOf false StoreExclusiveRow word) word (faulty m stray (storesExclusive address k (pick pass 0 1) (left k pass)))
   status-store k l q e = by k l q e (ExclusiveMonitorsPass address k (armOf w m)) refl
@@ -161,6 +169,7 @@ module _ (w : Window) (m : Machine) (r : Ready w m) (word : ℕ) where
       record {
         placed = rw alone-is at (based-placed w m r (pageOf false LoadExclusiveRow word) word 0 false 64 true false refl (λ k x p q. naturally k x));
         sum = refl;
+        small = omega arith;
         written = refl;
         back = refl;
         status = refl;
@@ -180,7 +189,7 @@ module _ (w : Window) (m : Machine) (r : Ready w m) (word : ℕ) where
   abbrev loadPage : ℕ → Operation
   loadPage size =
       let elsize = 8 * 2 ^ size in
-      let regsize : ℕ = pick (eqb elsize 64) 64 32 in
+      let regsize = regsizeOf elsize in
       let armed = SetExclusiveMonitors (base n s) (elsize / 8) s in
       CheckSPAlignment n s (loads (base n s) (elsize / 8) (setX (field 4 0 word) regsize (ZeroExtend elsize regsize (Mem (base n s) (elsize / 8) armed)) armed))
 
@@ -191,12 +200,13 @@ module _ (w : Window) (m : Machine) (r : Ready w m) (word : ℕ) where
   all-loads : (size : ℕ) → size < 4 → Loads size
   unfolding monitoredTransfer sizeAt
   all-loads =
-      four Loads (λ x e. load 1 32 (omega arith) (omega arith) x e) (λ x e. load 2 32 (omega arith) (omega arith) x e)
-      (λ x e. load 4 32 (omega arith) (omega arith) x e) (λ x e. load 8 64 (omega arith) (omega arith) x e)
+      four Loads (λ x e. load 1 _ refl x e) (λ x e. load 2 _ refl x e) (λ x e. load 4 _ refl x e) (λ x e. load 8 _ refl x e)
     where
-      load : (k width : ℕ) → 0 < k → k ≤ 32 → 2 ^ field 31 30 word ≡ k → wordAccess word ≡ Moves (single false true false false k k (field 4 0 word)) (based n 0 false 64)
+      load : (k width : ℕ) → fit k k width ≡ true → 2 ^ field 31 30 word ≡ k → wordAccess word ≡ Moves (single false true false false k k (field 4 0 word)) (based n 0 false 64)
           → Steps w m (pageOf false LoadExclusiveRow word) word (CheckSPAlignment n s (loads (base n s) k (setX (field 4 0 word) width (ZeroExtend (8 * k) width (Mem (base n s) k (SetExclusiveMonitors (base n s) k s))) (SetExclusiveMonitors (base n s) k s))))
-      load k width p q x e = one-load w m r (pageOf false LoadExclusiveRow word) word _ true false false _ _ _ load-form refl k k width (Extend false (8 * k) width) p q (zeros k width) x e
+      load k width h x e =
+          let f = fits k k width h in
+          one-load w m r (pageOf false LoadExclusiveRow word) word _ true false false _ _ _ load-form refl k k width (Extend false (8 * k) width) f (zeros k width (f .some)) x e
 
   pub load-exclusive-step : Has word (columnsOf LoadExclusiveRow .fixed) → wordAccess word ≡ familyAccess (columnsOf LoadExclusiveRow .family word)
       → Steps w m (pageOf false LoadExclusiveRow word) word (loadExclusive word (armOf w m))
@@ -236,7 +246,7 @@ module _ (w : Window) (m : Machine) (r : Ready w m) (word : ℕ) where
   abbrev otherPage : ℕ → ℕ → Operation
   otherPage L size =
       let elsize = 8 * 2 ^ size in
-      let regsize : ℕ = pick (eqb elsize 64) 64 32 in
+      let regsize = regsizeOf elsize in
       case (pick (eqb L 1) LOAD STORE)
       (CheckSPAlignment n s (stores (base n s) (elsize / 8) (setMem (base n s) (elsize / 8) (X (field 4 0 word) elsize s) s)))
       (CheckSPAlignment n s (loads (base n s) (elsize / 8) (setX (field 4 0 word) regsize (ZeroExtend elsize regsize (Mem (base n s) (elsize / 8) s)) s)))
@@ -260,12 +270,13 @@ module _ (w : Window) (m : Machine) (r : Ready w m) (word : ℕ) where
           (λ x e. one-store w m r (pageOf false AcquireReleaseRow word) word _ true false _ _ _ other-form refl 8 8 (omega arith) (omega arith) e)
 
       acquired : (size : ℕ) → size < 4 → Others 1 size
-      acquired =
-          four (Others 1)
-          (λ x e. one-load w m r (pageOf false AcquireReleaseRow word) word _ false true false _ _ _ other-form refl 1 1 32 (Extend false 8 32) (omega arith) (omega arith) (zeros 1 32) x e)
-          (λ x e. one-load w m r (pageOf false AcquireReleaseRow word) word _ false true false _ _ _ other-form refl 2 2 32 (Extend false 16 32) (omega arith) (omega arith) (zeros 2 32) x e)
-          (λ x e. one-load w m r (pageOf false AcquireReleaseRow word) word _ false true false _ _ _ other-form refl 4 4 32 (Extend false 32 32) (omega arith) (omega arith) (zeros 4 32) x e)
-          (λ x e. one-load w m r (pageOf false AcquireReleaseRow word) word _ false true false _ _ _ other-form refl 8 8 64 (Extend false 64 64) (omega arith) (omega arith) (zeros 8 64) x e)
+      acquired = four (Others 1) (λ x e. load 1 _ refl x e) (λ x e. load 2 _ refl x e) (λ x e. load 4 _ refl x e) (λ x e. load 8 _ refl x e)
+        where
+          load : (k width : ℕ) → fit k k width ≡ true → 2 ^ field 31 30 word ≡ k → wordAccess word ≡ Moves (single false false false true k k (field 4 0 word)) (based n 0 false 64)
+              → Steps w m (pageOf false AcquireReleaseRow word) word (CheckSPAlignment n s (loads (base n s) k (setX (field 4 0 word) width (ZeroExtend (8 * k) width (Mem (base n s) k s)) s)))
+          load k width h x e =
+              let f = fits k k width h in
+              one-load w m r (pageOf false AcquireReleaseRow word) word _ false true false _ _ _ other-form refl k k width (Extend false (8 * k) width) f (zeros k width (f .some)) x e
 
   pub acquire-release-step : field 23 23 word ≡ 1 → field 15 15 word ≡ 1 → wordAccess word ≡ familyAccess (columnsOf AcquireReleaseRow .family word)
       → Steps w m (pageOf false AcquireReleaseRow word) word (acquireRelease word (armOf w m))

@@ -50,11 +50,11 @@ use Rattle.arm.specs.Marks.{anyMarked}
 use Rattle.arm.specs.Pages.{Page, opcExtent, pageOf}
 use Rattle.arm.specs.Choices.{marked, misplaced, armOf}
 use Rattle.arm.proofs.Conditions.{signed-double, by-codes, by-codes-prefetch, by-literal}
-use Rattle.arm.proofs.Bits.{add-is, imm9-is, imm12-is, imm19-is, index-is, extended-is}
+use Rattle.arm.proofs.Bits.{add-is, add-lt, imm9-is, imm12-is, imm19-is, index-is, extended-is}
 use Rattle.arm.proofs.Places.{slot, setR, base-is, x-is}
 use Rattle.arm.proofs.Marks.{marks-at, base-marked, index-marked}
-use Rattle.arm.proofs.Steps.{Ready, Steps, hints-step, same-block}
-use Rattle.arm.proofs.Singles.{four, Placed, Form, one-load, extended-none, all-sizes, all-vectors}
+use Rattle.arm.proofs.Steps.{mostBytes, Ready, Steps, hints-step, same-block}
+use Rattle.arm.proofs.Singles.{four, Fits, fits, Placed, Form, one-load, extended-none, all-sizes, all-vectors}
 
 -- ---- the stack pointer
 
@@ -131,7 +131,7 @@ module _ (w : Window) (m : Machine) (r : Ready w m) (l : Page) (word : ℕ) wher
         (either (anyMarked 8 (getD (m .taints .registers) n 0)) false)
 
     pub based-placed : (exclusive ordered : Bool) → (anyMarked 8 (getD (m .taints .registers) n 0) || false) ≡ marked l word m
-        → ((k address : ℕ) → 0 < k → k ≤ 32 → (misaligned ordered k address || unaligned exclusive k address) ≡ misplaced (l .alignment) address k)
+        → ((k address : ℕ) → 0 < k → k ≤ mostBytes → (misaligned ordered k address || unaligned exclusive k address) ≡ misplaced (l .alignment) address k)
         → Placed w m l word a exclusive ordered (strays m n) (pick post (base n s) (Add (base n s) offset))
     unfolding based
     based-placed exclusive ordered e q =
@@ -147,13 +147,14 @@ module _ (w : Window) (m : Machine) (r : Ready w m) (l : Page) (word : ℕ) wher
     pub based-form : (ordered : Bool) → l .wback ≡ wback → l .status ≡ false
         → (anyMarked 8 (getD (m .taints .registers) n 0) || false) ≡ marked l word m
         → (wback ≡ true → ¬ (n ≡ slot (l .vector) (field 4 0 word)))
-        → ((k address : ℕ) → 0 < k → k ≤ 32 → (misaligned ordered k address || unaligned false k address) ≡ misplaced (l .alignment) address k)
+        → ((k address : ℕ) → 0 < k → k ≤ mostBytes → (misaligned ordered k address || unaligned false k address) ≡ misplaced (l .alignment) address k)
         → Form w m l word (based n offset post (pick wback n 64)) false ordered wback (strays m n) (pick post (base n s) (Add (base n s) offset)) (Add (base n s) offset)
     unfolding based
     based-form ordered b c e p q =
         record {
           placed = based-placed offset post (pick wback n 64) false ordered e q;
           sum = based-sum offset post (pick wback n 64);
+          small = add-lt (base n s) offset;
           written = refl;
           back = b;
           status = c;
@@ -404,6 +405,7 @@ module _ (w : Window) (m : Machine) (r : Ready w m) (word : ℕ) where
                 block = λ k p q. refl;
               };
           sum = index-sum u;
+          small = add-lt _ _;
           written = refl;
           back = refl;
           status = refl;
@@ -455,6 +457,7 @@ module _ (w : Window) (m : Machine) (r : Ready w m) (word : ℕ) where
               block = λ k p q. refl;
             };
         sum = literal-sum offset;
+        small = add-lt (m .pc) offset;
         written = refl;
         back = refl;
         status = refl;
@@ -474,12 +477,12 @@ module _ (w : Window) (m : Machine) (r : Ready w m) (word : ℕ) where
 
   -- at an address that is the sum of the two
   module _ (address : ℕ) (at : address ≡ Add (m .pc) offset19) where
-    literal-load : (vector : Bool) (target : ℕ) → target ≡ slot vector t → (k extent width : ℕ) (g : ℕ → ℕ) → ((v : ℕ) → v < 256 ^ k → extendedOf k extent v ≡ g v) → 0 < k → k ≤ 32
+    literal-load : (vector : Bool) (target : ℕ) → target ≡ slot vector t → (k extent width : ℕ) (g : ℕ → ℕ) → ((v : ℕ) → v < 256 ^ k → extendedOf k extent v ≡ g v) → Fits k extent width
         → pageOf vector LiteralRow word .extent ≡ extent → wordAccess word ≡ literalAt19 k extent target (twosComplement (signedOf 262144 4 (field 23 5 word)))
         → Steps w m (pageOf vector LiteralRow word) word (loads address k (setR vector t width (g (Mem address k (armOf w m))) (armOf w m)))
-    literal-load vector target s k extent width g x p q filled e =
+    literal-load vector target s k extent width g x fit filled e =
         rw at
-        (one-load w m r (pageOf vector LiteralRow word) word (literalMode offset19) false false false false _ _ (literal-form vector offset19) refl k extent width g p q x filled
+        (one-load w m r (pageOf vector LiteralRow word) word (literalMode offset19) false false false false _ _ (literal-form vector offset19) refl k extent width g fit x filled
         (e ∙ ap (literalAt19 k extent target) (sym (imm19-is (field 23 5 word) (part-lt 5 19 word))) ∙ ap (λ (i : ℕ). literalAt19 k extent i offset19) s))
 
     -- the page, by opc
@@ -496,9 +499,9 @@ module _ (w : Window) (m : Machine) (r : Ready w m) (word : ℕ) where
     unfolding literalAt literalMoves literalTransfer slotOf literalIn
     literal-at e =
         four (λ opc. pageOf false LiteralRow word .extent ≡ opcExtent false opc → wordAccess word ≡ literalAccess (literalAt (0 * 4 + opc)) (literalIn word) → Steps w m (pageOf false LiteralRow word) word (literalPage opc))
-        (λ x e. literal-load false (zeroSlot t) refl 4 4 32 (λ v. v) (λ v h. extended-none 4 v) (omega arith) (omega arith) x e)
-        (λ x e. literal-load false (zeroSlot t) refl 8 8 64 (λ v. v) (λ v h. extended-none 8 v) (omega arith) (omega arith) x e)
-        (λ x e. literal-load false (zeroSlot t) refl 4 8 64 (SignExtend 32 64) (λ v. extended-is 3 8 v (omega arith)) (omega arith) (omega arith) x e)
+        (λ x e. literal-load false (zeroSlot t) refl 4 4 32 (λ v. v) (λ v h. extended-none 4 v) (fits 4 4 32 refl) x e)
+        (λ x e. literal-load false (zeroSlot t) refl 8 8 64 (λ v. v) (λ v h. extended-none 8 v) (fits 8 8 64 refl) x e)
+        (λ x e. literal-load false (zeroSlot t) refl 4 8 64 (SignExtend 32 64) (λ v. extended-is 3 8 v (omega arith)) (fits 4 8 64 refl) x e)
         (λ x e. hints-step w m (pageOf false LiteralRow word) word e)
         (field 31 30 word) size-lt refl e
 
@@ -520,9 +523,9 @@ module _ (w : Window) (m : Machine) (r : Ready w m) (word : ℕ) where
         (λ u x e. absurd (never (sym u)))
         (field 31 30 word) size-lt u refl e
       where
-        take : (k : ℕ) → 0 < k → k ≤ 32 → pageOf true LiteralRow word .extent ≡ k → wordAccess word ≡ literalAt19 k k (32 + t % 32) (twosComplement (signedOf 262144 4 (field 23 5 word)))
+        take : (k : ℕ) → 0 < k → k ≤ mostBytes → pageOf true LiteralRow word .extent ≡ k → wordAccess word ≡ literalAt19 k k (32 + t % 32) (twosComplement (signedOf 262144 4 (field 23 5 word)))
             → Steps w m (pageOf true LiteralRow word) word (loads address k (setVec t (k * 8) (Mem address k (armOf w m)) (armOf w m)))
-        take k p q x e = literal-load true (32 + t % 32) (behind t t-lt) k k (k * 8) (λ v. v) (λ v h. extended-none k v) p q x e
+        take k p q x e = literal-load true (32 + t % 32) (behind t t-lt) k k (k * 8) (λ v. v) (λ v h. extended-none k v) (record { some = p; most = q; longer = omega arith; room = omega arith }) x e
 
   pub literal-step : field 26 26 word ≡ 0 → wordAccess word ≡ familyAccess (columnsOf LiteralRow .family word) → Steps w m (pageOf false LiteralRow word) word (literal word (armOf w m))
   unfolding literal Add part

@@ -43,7 +43,7 @@ use Rattle.arm.proofs.Bits.{add-small, offset-is, extended-is}
 use Rattle.arm.proofs.Places.{slot, R, setR, r-is, set-r, r-memory, r-monitor, set-base, mem-is, withMemory, set-mem, mem-monitor, low-bytes}
 use Rattle.arm.proofs.Marks.{double, two-marks}
 use Rattle.arm.proofs.Steps.{Ready, Inside, Steps, faulty, access-step}
-use Rattle.arm.proofs.Singles.{two, four, back, back-registers, back-memory, back-monitor, Form, extended-none}
+use Rattle.arm.proofs.Singles.{two, four, back, back-registers, back-memory, back-monitor, Fits, fits, filling, extended-fits, Form, extended-none}
 use Rattle.arm.specs.Pages.{opcExtent, pageOf}
 use Rattle.arm.proofs.Families.{never, apart, strays, based-form, behind, no-base}
 
@@ -58,17 +58,17 @@ module _ (vector : Bool) (s : Arm) (len : length (s .registers) ≡ 64) where
   abbrev written : ℕ → ℕ → ℕ → ℕ → List ℕ
   written t t2 x y = set (set (s .registers) (slot vector t) x) (slot vector t2) y
 
-  two-registers : (wback : Bool) (n t t2 next width x y : ℕ) → (wback ≡ true → ¬ (n ≡ slot vector t)) → (wback ≡ true → ¬ (n ≡ slot vector t2))
+  two-registers : (wback : Bool) (n t t2 next width x y : ℕ) → next < 2 ^ 64 → 0 < width → x < 2 ^ width → y < 2 ^ width → (wback ≡ true → ¬ (n ≡ slot vector t)) → (wback ≡ true → ¬ (n ≡ slot vector t2))
       → set (set (set (s .registers) (pick wback n 64) next) (slot vector t) x) (slot vector t2) y ≡ back wback n next (setR vector t2 width y (setR vector t width x s)) .registers
-  two-registers wback n t t2 next width x y h k =
+  two-registers wback n t t2 next width x y small p f g h k =
       let l : length (set (s .registers) (slot vector t) x) ≡ 64 = simp length-set len in
       let o : length (written t t2 x y) ≡ 64 = simp length-set len in
-      rw (set-r s len vector t width x, set-r (withRegisters (set (s .registers) (slot vector t) x) s) l vector t2 width y) (go wback h k o)
+      rw (set-r s len vector t width x p f, set-r (withRegisters (set (s .registers) (slot vector t) x) s) l vector t2 width y p g) (go wback h k o)
     where
       go : (wback : Bool) → (wback ≡ true → ¬ (n ≡ slot vector t)) → (wback ≡ true → ¬ (n ≡ slot vector t2)) → length (written t t2 x y) ≡ 64
           → set (set (set (s .registers) (pick wback n 64) next) (slot vector t) x) (slot vector t2) y ≡ back wback n next (withRegisters (written t t2 x y) s) .registers
       go true h k o =
-          rw (set-base (withRegisters (written t t2 x y) s) o n next, set-comm (s .registers) n (slot vector t) next x (h refl))
+          rw (set-base (withRegisters (written t t2 x y) s) o n next small, set-comm (s .registers) n (slot vector t) next x (h refl))
           (set-comm (set (s .registers) (slot vector t) x) n (slot vector t2) next y (k refl))
       go false h k o = rw (set-out (s .registers) 64 next (omega (arith, len)))
 
@@ -109,10 +109,10 @@ module _ (vector : Bool) (w : Window) (m : Machine) (r : Ready w m) (word : ℕ)
   abbrev stored : ℕ → Arm
   stored k = back wback n next (setMem (Add address k) k (R vector t2 (8 * k) s) (setMem address k (R vector t (8 * k) s) s))
 
-  two-loads : (k extent width : ℕ) (g : ℕ → ℕ) → 0 < k → k ≤ 16 → ((v : ℕ) → v < 256 ^ k → extendedOf k extent v ≡ g v)
+  two-loads : (k extent width : ℕ) (g : ℕ → ℕ) → k ≤ 16 → Fits k extent width → ((v : ℕ) → v < 256 ^ k → extendedOf k extent v ≡ g v)
       → pageOf vector PairRow word .extent ≡ extent → wordAccess word ≡ Moves (double vector false k extent t t2) a → Steps w m (pageOf vector PairRow word) word (faulty m stray (loads address (2 * k) (loaded k width g)))
   unfolding statusOf fails writtenBack monitorAfter
-  two-loads k extent width g p q ext filled e =
+  two-loads k extent width g q fit ext filled e =
       access-step w m (r .top) (pageOf vector PairRow word) word (double vector false k extent t t2) a stray address (2 * k) 0 (loaded k width g)
       (record {
         access = e;
@@ -121,7 +121,7 @@ module _ (vector : Bool) (w : Window) (m : Machine) (r : Ready w m) (word : ℕ)
         stack = f .placed .stack;
         pointer = f .placed .pointer;
         first = f .placed .first;
-        block = f .placed .block (2 * k) (omega arith) (omega arith);
+        block = f .placed .block (2 * k) (omega (arith, fit .some)) (omega arith);
         told = refl;
         registers =
             λ h.
@@ -131,11 +131,14 @@ module _ (vector : Bool) (w : Window) (m : Machine) (r : Ready w m) (word : ℕ)
             let i : address + k - w .origin ≡ at + k = omega arith in
             let one : Mem address k s ≡ joined (spanOf (m .memory) at k) = mem-is s k address from (omega arith) in
             let two : Mem (Add address k) k s ≡ joined (spanOf (m .memory) (at + k) k) =
-            ap (λ (x : ℕ). Mem x k s) (second-is address k p h) ∙ rw i at (mem-is s k (address + k) (omega arith) (omega arith)) in
-            let x = ext _ (span-fits (m .memory) (r .real .bytes) at k) ∙ ap g (sym one) in
-            let y = ext _ (span-fits (m .memory) (r .real .bytes) (at + k) k) ∙ ap g (sym two) in
+            ap (λ (x : ℕ). Mem x k s) (second-is address k (fit .some) h) ∙ rw i at (mem-is s k (address + k) (omega arith) (omega arith)) in
+            let p = span-fits (m .memory) (r .real .bytes) at k in
+            let q = span-fits (m .memory) (r .real .bytes) (at + k) k in
+            let x = ext _ p ∙ ap g (sym one) in
+            let y = ext _ q ∙ ap g (sym two) in
+            let z : 0 < width = omega (arith, fit .some, fit .longer, fit .room) in
             rw (f .sum, f .written, x, y)
-            (two-registers vector s (r .real .registers) wback n t t2 next width (g (Mem address k s)) (g (Mem (Add address k) k s)) (f .apart) other);
+            (two-registers vector s (r .real .registers) wback n t t2 next width (g (Mem address k s)) (g (Mem (Add address k) k s)) (f .small) z (rw x at (extended-fits fit _ p)) (rw y at (extended-fits fit _ q)) (f .apart) other);
         marks = λ h. rw (f .back, f .status) (two-marks vector wback (w .origin) word address (m .taints) (r .real .marks) (h .from) false k extent (pageOf vector PairRow word .extent) (a .written) (λ z. filled) (f .written));
         memory = λ h. sym (back-memory wback n next _ ∙ r-memory vector t2 width _ _ ∙ r-memory vector t width _ s);
         monitor = sym (back-monitor wback n next _ ∙ r-monitor vector t2 width _ _ ∙ r-monitor vector t width _ s);
@@ -159,7 +162,7 @@ module _ (vector : Bool) (w : Window) (m : Machine) (r : Ready w m) (word : ℕ)
         first = f .placed .first;
         block = f .placed .block (2 * k) (omega arith) (omega arith);
         told = refl;
-        registers = λ h. rw (f .sum, f .written, places h) (sym (back-registers after len wback n next));
+        registers = λ h. rw (f .sum, f .written, places h) (sym (back-registers after len wback n next (f .small)));
         marks = λ h. rw (f .back, f .status) (two-marks vector wback (w .origin) word address (m .taints) (r .real .marks) (h .from) true k extent (pageOf vector PairRow word .extent) (a .written) (λ z. absurd (never (sym z))) (f .written));
         memory = λ h. sym (back-memory wback n next _ ∙ ap (λ (x : Arm). x .memory) (places h));
         monitor = sym (back-monitor wback n next _ ∙ mem-monitor k (Add address k) _ _ ∙ mem-monitor k address _ s);
@@ -293,7 +296,7 @@ module _ (w : Window) (m : Machine) (r : Ready w m) (word : ℕ) where
         → wordAccess word ≡ moves false k (32 + rt % 32) (32 + rt2 % 32) (twosComplement (signedOf 64 k (field 21 15 word)))
         → Steps w m (pageOf true PairRow word) word (faulty m (strays m (field 9 5 word)) (loads (address scale) (2 * k) (loaded true w m r word _ wback _ (address scale) (next scale) (vector-form scale) (λ h. no-base w m r word rt2) k (8 * k) (λ v. v))))
     take k scale x l p q filled e =
-        two-loads true w m r word _ wback _ _ _ (vector-form scale) (λ h. no-base w m r word rt2) k k (8 * k) (λ v. v) p q (λ v h. extended-none k v) filled (aims false k scale x l e)
+        two-loads true w m r word _ wback _ _ _ (vector-form scale) (λ h. no-base w m r word rt2) k k (8 * k) (λ v. v) q (filling k p (omega arith)) (λ v h. extended-none k v) filled (aims false k scale x l e)
 
     all-vectors : (opc L : ℕ) → opc < 4 → L < 2 → ¬ (opc ≡ 0b11) → VectorPaged w m word wback postindex opc L
     unfolding pairAt pairTransfer slotOf
@@ -316,13 +319,13 @@ module _ (w : Window) (m : Machine) (r : Ready w m) (word : ℕ) where
     load-words : Paged w m word wback postindex 0 1
     unfolding pairAt pairTransfer slotOf part
     load-words x e =
-        two-loads false w m r word _ wback _ _ _ (form wback postindex writing false (scaled 2) one) other 4 4 32 (λ v. v) (omega arith) (omega arith) (λ v h. extended-none 4 v) x
+        two-loads false w m r word _ wback _ _ _ (form wback postindex writing false (scaled 2) one) other 4 4 32 (λ v. v) (omega arith) (fits 4 4 32 refl) (λ v h. extended-none 4 v) x
         (e ∙ ap (accessBy w m word wback postindex 0 0 1) (scaled-is 2 (omega arith)))
 
     load-signed : Paged w m word wback postindex 1 1
     unfolding pairAt pairTransfer slotOf part
     load-signed x e =
-        two-loads false w m r word _ wback _ _ _ (form wback postindex writing false (scaled 2) one) other 4 8 64 (SignExtend 32 64) (omega arith) (omega arith) (λ v. extended-is 3 8 v (omega arith)) x
+        two-loads false w m r word _ wback _ _ _ (form wback postindex writing false (scaled 2) one) other 4 8 64 (SignExtend 32 64) (omega arith) (fits 4 8 64 refl) (λ v. extended-is 3 8 v (omega arith)) x
         (e ∙ ap (accessBy w m word wback postindex 0 1 1) (scaled-is 2 (omega arith)))
 
     store-doubles : Paged w m word wback postindex 2 0
@@ -334,7 +337,7 @@ module _ (w : Window) (m : Machine) (r : Ready w m) (word : ℕ) where
     load-doubles : Paged w m word wback postindex 2 1
     unfolding pairAt pairTransfer slotOf part
     load-doubles x e =
-        two-loads false w m r word _ wback _ _ _ (form wback postindex writing false (scaled 3) one) other 8 8 64 (λ v. v) (omega arith) (omega arith) (λ v h. extended-none 8 v) x
+        two-loads false w m r word _ wback _ _ _ (form wback postindex writing false (scaled 3) one) other 8 8 64 (λ v. v) (omega arith) (fits 8 8 64 refl) (λ v h. extended-none 8 v) x
         (e ∙ ap (accessBy w m word wback postindex 0 2 1) (scaled-is 3 (omega arith)))
 
     all : (opc L : ℕ) → opc < 4 → L < 2 → ¬ (opc ≡ 0b11) → (opc ≡ 0b01 → L ≡ 1) → Paged w m word wback postindex opc L

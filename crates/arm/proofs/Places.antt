@@ -30,17 +30,17 @@ module _ (s : Arm) (l : length (s .registers) ≡ 64) where
       go true = rw (List·getD-eq-default (s .registers) 0 {n = 64} (omega arith), zero-mod)
       go false = refl
 
-  pub set-x : (n width v : ℕ) → setX n width v s ≡ withRegisters (set (s .registers) (zeroSlot n) v) s
+  pub set-x : (n width v : ℕ) → 0 < width → v < 2 ^ width → setX n width v s ≡ withRegisters (set (s .registers) (zeroSlot n) v) s
   unfolding setX
-  set-x n width v = rw (zero-extend width 64 v) (ap (λ (r : List ℕ). withRegisters r s) (go (eqb n 31)))
+  set-x n width v p h = rw (zero-extend width 64 v p h) (ap (λ (r : List ℕ). withRegisters r s) (go (eqb n 31)))
     where
       go : (t : Bool) → pick t (s .registers) (set (s .registers) n v) ≡ set (s .registers) (pick t 64 n) v
       go true = sym (set-out (s .registers) 64 v (omega arith))
       go false = refl
 
-  pub set-base : (n v : ℕ) → setBase n v s ≡ withRegisters (set (s .registers) n v) s
+  pub set-base : (n v : ℕ) → v < 2 ^ 64 → setBase n v s ≡ withRegisters (set (s .registers) n v) s
   unfolding setBase setX
-  set-base n v = rw (zero-extend 64 64 v) (go (eqb n 31) refl)
+  set-base n v h = rw (zero-extend 64 64 v (omega arith) h) (go (eqb n 31) refl)
     where
       go : (t : Bool) → eqb n 31 ≡ t
           → pick t (setSP v s) (withRegisters (pick t (s .registers) (set (s .registers) n v)) s) ≡ withRegisters (set (s .registers) n v) s
@@ -72,10 +72,10 @@ module _ (s : Arm) (l : length (s .registers) ≡ 64) where
   r-is true n width h = low-bits width (getD (s .registers) (32 + n) 0) h
   r-is false n width h = x-is s l n width h
 
-  pub set-r : (vector : Bool) (n width v : ℕ) → setR vector n width v s ≡ withRegisters (set (s .registers) (slot vector n) v) s
+  pub set-r : (vector : Bool) (n width v : ℕ) → 0 < width → v < 2 ^ width → setR vector n width v s ≡ withRegisters (set (s .registers) (slot vector n) v) s
   unfolding setVec
-  set-r true n width v = ap (λ (x : ℕ). withRegisters (set (s .registers) (32 + n) x) s) (omega (arith, zero-extend width 128 v))
-  set-r false n width v = set-x s l n width v
+  set-r true n width v p h = ap (λ (x : ℕ). withRegisters (set (s .registers) (32 + n) x) s) (zero-extend width 128 v p h)
+  set-r false n width v p h = set-x s l n width v p h
 
 pub r-memory : (vector : Bool) (n width v : ℕ) (s : Arm) → setR vector n width v s .memory ≡ s .memory
 unfolding setVec setX

@@ -2,11 +2,13 @@
 -- size and opc, where both decodes compute (`all-sizes`). Assumes nothing.
 use Prim.Native.Nat.{ℕ, zero, suc, _+_, _-_, _*_, _/_, _%_, _^_, _≤_, _<_}
 use mathlib.Core.Path.{_≡_, refl, sym, ap, _∙_}
-use mathlib.Core.Bool.{Bool, true, false, _||_}
+use mathlib.Core.Bool.{Bool, true, false, _&&_, _||_}
 use mathlib.Core.List.{List}
 use native.Mathlib.Nat.{sub-self, add-zero}
 use native.Mathlib.Omega.{arith}
-use lib.Dec.{ltb, eqb}
+use lib.Dec.{ltb, leb, eqb}
+use lib.Pow.{pow-mono}
+use borrow.Author.Tests.{ltb-true, leb-true}
 use lib.ListN.{length, getD, set, length-set}
 use lib.Seq.{sets, set-out, set-comm}
 use Rattle.bits.specs.Choice.{pick, any}
@@ -15,6 +17,8 @@ use Rattle.bits.specs.Bytes.{bytesOf, joined, spanOf}
 use Rattle.memory.proofs.Sources.{span-fits}
 use Rattle.registers.specs.File.{zeroSlot}
 use Rattle.bits.specs.Extension.{largest, extendedOf}
+use Rattle.bits.proofs.Choices.{pick-by, both}
+use Rattle.bits.proofs.Extensions.{two-256}
 use Rattle.instruction.specs.Operations.{sizedAt}
 use Rattle.instruction.specs.Undefined.{undefinedCodes}
 use Rattle.access.specs.declared.transfer.Transfer.{Transfer}
@@ -35,7 +39,7 @@ use Rattle.arm.specs.Choices.{marked, misplaced, armOf}
 use Rattle.arm.proofs.Bits.{zero-extend, extended-is}
 use Rattle.arm.proofs.Places.{slot, R, setR, r-is, set-r, r-memory, r-monitor, set-base, mem-is, withMemory, set-mem, mem-monitor, low-bytes}
 use Rattle.arm.proofs.Marks.{single, one-marks}
-use Rattle.arm.proofs.Steps.{Ready, Steps, hints-step, faulty, access-step}
+use Rattle.arm.proofs.Steps.{mostBytes, Ready, Steps, hints-step, faulty, access-step}
 
 -- a fact of each number of two bits
 pub four : (P : ℕ → Type 0) → P 0 → P 1 → P 2 → P 3 → (k : ℕ) → k < 4 → P k
@@ -56,9 +60,9 @@ two P a b (suc (suc k)) h = absurd (omega arith)
 abbrev pub back : Bool → ℕ → ℕ → Arm → Arm
 back wback n next after = pick wback (setBase n next after) after
 
-pub back-registers : (s : Arm) → length (s .registers) ≡ 64 → (wback : Bool) (n next : ℕ) → back wback n next s .registers ≡ set (s .registers) (pick wback n 64) next
-back-registers s len true n next = rw (set-base s len n next)
-back-registers s len false n next = sym (set-out (s .registers) 64 next (omega arith))
+pub back-registers : (s : Arm) → length (s .registers) ≡ 64 → (wback : Bool) (n next : ℕ) → next < 2 ^ 64 → back wback n next s .registers ≡ set (s .registers) (pick wback n 64) next
+back-registers s len true n next h = rw (set-base s len n next h)
+back-registers s len false n next h = sym (set-out (s .registers) 64 next (omega arith))
 
 pub back-memory : (wback : Bool) (n next : ℕ) (s : Arm) → back wback n next s .memory ≡ s .memory
 unfolding setBase setX
@@ -81,33 +85,33 @@ back-monitor true n next s = go (eqb n 31)
 -- ---- registers and memory after an access
 
 module _ (vector : Bool) (s : Arm) (len : length (s .registers) ≡ 64) where
-  load-registers : (wback : Bool) (n t next width loaded : ℕ) → (wback ≡ true → ¬ (n ≡ slot vector t))
+  load-registers : (wback : Bool) (n t next width loaded : ℕ) → next < 2 ^ 64 → 0 < width → loaded < 2 ^ width → (wback ≡ true → ¬ (n ≡ slot vector t))
       → set (set (s .registers) (pick wback n 64) next) (slot vector t) loaded ≡ back wback n next (setR vector t width loaded s) .registers
-  load-registers true n t next width loaded h =
+  load-registers true n t next width loaded small p b h =
       let r : List ℕ = set (s .registers) (slot vector t) loaded in
       let l : length r ≡ 64 = simp length-set len in
-      rw (set-r s len vector t width loaded, set-base (withRegisters r s) l n next) (set-comm (s .registers) n (slot vector t) next loaded (h refl))
-  load-registers false n t next width loaded h = rw (set-r s len vector t width loaded, set-out (s .registers) 64 next (omega arith))
+      rw (set-r s len vector t width loaded p b, set-base (withRegisters r s) l n next small) (set-comm (s .registers) n (slot vector t) next loaded (h refl))
+  load-registers false n t next width loaded small p b h = rw (set-r s len vector t width loaded p b, set-out (s .registers) 64 next (omega arith))
 
   -- with the machine's own numbers, and its second register, which is none
   load-all : (wback : Bool) (n t next width : ℕ) {written sum loaded extended : ℕ} (more : ℕ) → written ≡ pick wback n 64 → sum ≡ next → extended ≡ loaded
-      → (wback ≡ true → ¬ (n ≡ slot vector t))
+      → next < 2 ^ 64 → 0 < width → loaded < 2 ^ width → (wback ≡ true → ¬ (n ≡ slot vector t))
       → set (set (set (s .registers) written sum) (slot vector t) extended) 64 more ≡ back wback n next (setR vector t width loaded s) .registers
-  load-all wback n t next width {written} {sum} {loaded} {extended} more p q e h =
+  load-all wback n t next width {written} {sum} {loaded} {extended} more p q e small z b h =
       let all : List ℕ = set (set (s .registers) written sum) (slot vector t) extended in
       let l : length all ≡ 64 = simp length-set len in
       let o : length all ≤ 64 = omega arith in
-      set-out all 64 more o ∙ rw (p, q, e) (load-registers wback n t next width loaded h)
+      set-out all 64 more o ∙ rw (p, q, e) (load-registers wback n t next width loaded small z b h)
 
   module _ (k address : ℕ) (h : s .origin ≤ address) (u : address + k ≤ 2 ^ 64) where
     pub store-memory : (t : ℕ) → 0 < k → sets (s .memory) (address - s .origin) (bytesOf k (getD (s .registers) (slot vector t) 0)) ≡ setMem address k (R vector t (8 * k) s) s .memory
     store-memory t p = rw (set-mem s k address (R vector t (8 * k) s) h u, r-is s len vector t (8 * k) (omega arith), low-bytes k)
 
-    store-registers : (wback : Bool) (n next v : ℕ) {written sum : ℕ} → written ≡ pick wback n 64 → sum ≡ next
+    store-registers : (wback : Bool) (n next v : ℕ) {written sum : ℕ} → written ≡ pick wback n 64 → sum ≡ next → next < 2 ^ 64
         → set (s .registers) written sum ≡ back wback n next (setMem address k v s) .registers
-    store-registers wback n next v p q =
+    store-registers wback n next v p q small =
         let b : List ℕ = sets (s .memory) (address - s .origin) (bytesOf k v) in
-        rw (p, q, set-mem s k address v h u) (sym (back-registers (withMemory b s) len wback n next))
+        rw (p, q, set-mem s k address v h u) (sym (back-registers (withMemory b s) len wback n next small))
 
 -- what needs no extension
 pub extended-none : (k v : ℕ) → extendedOf k k v ≡ v
@@ -118,8 +122,43 @@ extended-none k v = rw (sub-self (largest k), add-zero v) (go (ltb (largest k / 
     go true = refl
     go false = refl
 
-pub zeros : (k width v : ℕ) → v < 256 ^ k → extendedOf k k v ≡ Extend false (8 * k) width v
-zeros k width v h = rw (zero-extend (8 * k) width v) (extended-none k v)
+pub zeros : (k width : ℕ) → 0 < k → (v : ℕ) → v < 256 ^ k → extendedOf k k v ≡ Extend false (8 * k) width v
+zeros k width p v h =
+    let b : v < 2 ^ (8 * k) = rw two-256 h in
+    rw (zero-extend (8 * k) width v (omega arith) b) (extended-none k v)
+
+-- ---- widths
+
+-- the bytes of a load, those that they are extended to, and the bits of a register that are written: all have room
+pub record Fits (k extent width : ℕ) : Type 0 where
+  pub some : 0 < k
+  pub most : k ≤ mostBytes
+  pub longer : k ≤ extent
+  pub room : 8 * extent ≤ width
+
+-- as a test that is computed
+abbrev pub fit : ℕ → ℕ → ℕ → Bool
+fit k extent width = (ltb 0 k && leb k mostBytes) && (leb k extent && leb (8 * extent) width)
+
+pub fits : (k extent width : ℕ) → fit k extent width ≡ true → Fits k extent width
+fits k extent width h =
+    let p = both (ltb 0 k && leb k mostBytes) (leb k extent && leb (8 * extent) width) h in
+    let q = both (ltb 0 k) (leb k mostBytes) (p .0) in
+    let r = both (leb k extent) (leb (8 * extent) width) (p .1) in
+    record { some = ltb-true 0 k (q .0); most = leb-true k mostBytes (q .1); longer = leb-true k extent (r .0); room = leb-true (8 * extent) width (r .1) }
+
+-- what a load to a vector register fills is all that is written
+pub filling : (k : ℕ) → 0 < k → k ≤ mostBytes → Fits k k (8 * k)
+filling k p q = record { some = p; most = q; longer = omega arith; room = omega arith }
+
+pub extended-fits : {k extent width : ℕ} → Fits k extent width → (v : ℕ) → v < 256 ^ k → extendedOf k extent v < 2 ^ width
+unfolding extendedOf largest
+extended-fits {k} {extent} {width} f v h =
+    let up : 2 ^ (8 * k) ≤ 2 ^ (8 * extent) = pow-mono (let q : 8 * k ≤ 8 * extent = omega (arith, f .longer) in q) in
+    let wide : 2 ^ (8 * extent) ≤ 2 ^ width = pow-mono (f .room) in
+    let less = two-256 k in
+    let more = two-256 extent in
+    pick-by (λ (x : ℕ). x < 2 ^ width) (ltb (largest k / 2) v) (λ t. omega arith) (λ t. omega arith)
 
 -- ---- one access
 
@@ -129,12 +168,13 @@ pub record Placed (w : Window) (m : Machine) (l : Page) (word : ℕ) (a : Addres
   pub stack : misalignedStack (a .base) (operandsOf a m .base) ≡ stray
   pub pointer : stray ≡ true → operandsOf a m .base ≡ getD (m .values) 31 0
   pub first : addressOf a (operandsOf a m) ≡ address
-  pub block : (k : ℕ) → 0 < k → k ≤ 32 → (misaligned ordered k address || unaligned exclusive k address) ≡ misplaced (l .alignment) address k
+  pub block : (k : ℕ) → 0 < k → k ≤ mostBytes → (misaligned ordered k address || unaligned exclusive k address) ≡ misplaced (l .alignment) address k
 
 -- and on the number to write back, which an exclusive access has none of; the page has no status
 pub record Form (w : Window) (m : Machine) (l : Page) (word : ℕ) (a : Addressing) (exclusive ordered wback stray : Bool) (address next : ℕ) : Type 0 where
   pub placed : Placed w m l word a exclusive ordered stray address
   pub sum : pick exclusive 0 (sumOf a (operandsOf a m)) ≡ next
+  pub small : next < 2 ^ 64
   pub written : a .written ≡ pick wback (field 9 5 word) 64
   pub back : l .wback ≡ wback
   pub status : l .status ≡ false
@@ -157,11 +197,11 @@ module _ (w : Window) (m : Machine) (r : Ready w m) (l : Page) (word : ℕ) (a :
   abbrev loaded : ℕ → ℕ → (ℕ → ℕ) → Arm
   loaded k width g = back wback (field 9 5 word) next (setR (l .vector) (field 4 0 word) width (g (Mem address k (armed k))) (armed k))
 
-  pub one-load : (k extent width : ℕ) (g : ℕ → ℕ) → 0 < k → k ≤ 32 → ((v : ℕ) → v < 256 ^ k → extendedOf k extent v ≡ g v)
+  pub one-load : (k extent width : ℕ) (g : ℕ → ℕ) → Fits k extent width → ((v : ℕ) → v < 256 ^ k → extendedOf k extent v ≡ g v)
       → l .extent ≡ extent → wordAccess word ≡ Moves (single (l .vector) exclusive false ordered k extent (field 4 0 word)) a
       → Steps w m l word (faulty m stray (loads address k (loaded k width g)))
   unfolding statusOf fails writtenBack monitorAfter
-  one-load k extent width g p q ext filled e =
+  one-load k extent width g fit ext filled e =
       let n = field 9 5 word in
       let t = field 4 0 word in
       access-step w m (r .top) l word (single (l .vector) exclusive false ordered k extent t) a stray address k 0 (loaded k width g)
@@ -172,7 +212,7 @@ module _ (w : Window) (m : Machine) (r : Ready w m) (l : Page) (word : ℕ) (a :
         stack = f .placed .stack;
         pointer = f .placed .pointer;
         first = f .placed .first;
-        block = f .placed .block k p q;
+        block = f .placed .block k (fit .some) (fit .most);
         told = rw (no-store exclusive);
         registers =
             λ h.
@@ -180,7 +220,9 @@ module _ (w : Window) (m : Machine) (r : Ready w m) (l : Page) (word : ℕ) (a :
             let v : ℕ = joined (spanOf (m .memory) at k) in
             let x : extendedOf k extent v ≡ g (Mem address k (armed k)) =
             ext v (span-fits (m .memory) (r .real .bytes) at k) ∙ ap g (sym (mem-is (armed k) k address (h .from) (h .upto))) in
-            rw (no-store exclusive) (load-all (l .vector) (armed k) (r .real .registers) wback n t next width _ (f .written) (f .sum) x (f .apart));
+            let b : g (Mem address k (armed k)) < 2 ^ width = rw x at (extended-fits fit v (span-fits (m .memory) (r .real .bytes) at k)) in
+            let z : 0 < width = omega (arith, fit .some, fit .longer, fit .room) in
+            rw (no-store exclusive) (load-all (l .vector) (armed k) (r .real .registers) wback n t next width _ (f .written) (f .sum) x (f .small) z b (f .apart));
         marks =
             λ h.
             rw (no-store exclusive, alone, f .back, f .status)
@@ -204,7 +246,7 @@ module _ (w : Window) (m : Machine) (r : Ready w m) (l : Page) (word : ℕ) (a :
   abbrev stored : ℕ → Arm
   stored k = back wback n next (setMem address k (R (l .vector) t (8 * k) s) s)
 
-  pub one-store : (k extent : ℕ) → 0 < k → k ≤ 32 → wordAccess word ≡ Moves (single (l .vector) false true ordered k extent t) a
+  pub one-store : (k extent : ℕ) → 0 < k → k ≤ mostBytes → wordAccess word ≡ Moves (single (l .vector) false true ordered k extent t) a
       → Steps w m l word (faulty m stray (stores address k (stored k)))
   unfolding bytesOf statusOf fails writtenBack monitorAfter
   one-store k extent p q e =
@@ -218,7 +260,7 @@ module _ (w : Window) (m : Machine) (r : Ready w m) (l : Page) (word : ℕ) (a :
         first = f .placed .first;
         block = f .placed .block k p q;
         told = refl;
-        registers = λ h. store-registers (l .vector) s (r .real .registers) k address (h .from) (h .upto) wback n next _ (f .written) (f .sum);
+        registers = λ h. store-registers (l .vector) s (r .real .registers) k address (h .from) (h .upto) wback n next _ (f .written) (f .sum) (f .small);
         marks =
             λ h.
             rw (alone, f .back, f .status)
@@ -236,14 +278,14 @@ module _ (w : Window) (m : Machine) (r : Ready w m) (l : Page) (word : ℕ) (a :
       record { store = store; ordered = ordered; bytes = k; more = 0; extent = extent; target = target; second = 64; exclusive = false }
 
   module _ (target : ℕ) (at : target ≡ slot (l .vector) t) where
-    pub load : (k extent width : ℕ) (g : ℕ → ℕ) → 0 < k → k ≤ 32 → ((v : ℕ) → v < 256 ^ k → extendedOf k extent v ≡ g v)
+    pub load : (k extent width : ℕ) (g : ℕ → ℕ) → Fits k extent width → ((v : ℕ) → v < 256 ^ k → extendedOf k extent v ≡ g v)
         → l .extent ≡ extent → wordAccess word ≡ Moves (aimed false k extent target) a
         → Steps w m l word (faulty m stray (loads address k (back wback n next (setR (l .vector) t width (g (Mem address k s)) s))))
-    load k extent width g p q x filled e =
-        one-load w m r l word a false ordered wback stray address next f alone k extent width g p q x filled
+    load k extent width g fit x filled e =
+        one-load w m r l word a false ordered wback stray address next f alone k extent width g fit x filled
         (e ∙ ap (λ (i : ℕ). Moves (aimed false k extent i) a) at)
 
-    store : (k extent : ℕ) → 0 < k → k ≤ 32 → wordAccess word ≡ Moves (aimed true k extent target) a → Steps w m l word (faulty m stray (stores address k (stored k)))
+    store : (k extent : ℕ) → 0 < k → k ≤ mostBytes → wordAccess word ≡ Moves (aimed true k extent target) a → Steps w m l word (faulty m stray (stores address k (stored k)))
     store k extent p q e = one-store k extent p q (e ∙ ap (λ (i : ℕ). Moves (aimed true k extent i) a) at)
 
   -- the page, by size and opc
@@ -271,31 +313,31 @@ module _ (w : Window) (m : Machine) (r : Ready w m) (l : Page) (word : ℕ) (a :
       bytes =
           four (Paged 0)
           (λ x u e. store (zeroSlot t) at 1 1 (omega arith) (omega arith) e)
-          (λ x u e. load (zeroSlot t) at 1 1 32 (Extend false 8 32) (omega arith) (omega arith) (zeros 1 32) x e)
-          (λ x u e. load (zeroSlot t) at 1 8 64 (Extend true 8 64) (omega arith) (omega arith) (λ v. extended-is 0 8 v (omega arith)) x e)
-          (λ x u e. load (zeroSlot t) at 1 4 32 (Extend true 8 32) (omega arith) (omega arith) (λ v. extended-is 0 4 v (omega arith)) x e)
+          (λ x u e. load (zeroSlot t) at 1 1 32 (Extend false 8 32) (fits 1 1 32 refl) (zeros 1 32 (omega arith)) x e)
+          (λ x u e. load (zeroSlot t) at 1 8 64 (Extend true 8 64) (fits 1 8 64 refl) (λ v. extended-is 0 8 v (omega arith)) x e)
+          (λ x u e. load (zeroSlot t) at 1 4 32 (Extend true 8 32) (fits 1 4 32 refl) (λ v. extended-is 0 4 v (omega arith)) x e)
 
       halves : (opc : ℕ) → opc < 4 → Paged 1 opc
       halves =
           four (Paged 1)
           (λ x u e. store (zeroSlot t) at 2 2 (omega arith) (omega arith) e)
-          (λ x u e. load (zeroSlot t) at 2 2 32 (Extend false 16 32) (omega arith) (omega arith) (zeros 2 32) x e)
-          (λ x u e. load (zeroSlot t) at 2 8 64 (Extend true 16 64) (omega arith) (omega arith) (λ v. extended-is 1 8 v (omega arith)) x e)
-          (λ x u e. load (zeroSlot t) at 2 4 32 (Extend true 16 32) (omega arith) (omega arith) (λ v. extended-is 1 4 v (omega arith)) x e)
+          (λ x u e. load (zeroSlot t) at 2 2 32 (Extend false 16 32) (fits 2 2 32 refl) (zeros 2 32 (omega arith)) x e)
+          (λ x u e. load (zeroSlot t) at 2 8 64 (Extend true 16 64) (fits 2 8 64 refl) (λ v. extended-is 1 8 v (omega arith)) x e)
+          (λ x u e. load (zeroSlot t) at 2 4 32 (Extend true 16 32) (fits 2 4 32 refl) (λ v. extended-is 1 4 v (omega arith)) x e)
 
       words : (opc : ℕ) → opc < 4 → Paged 2 opc
       words =
           four (Paged 2)
           (λ x u e. store (zeroSlot t) at 4 4 (omega arith) (omega arith) e)
-          (λ x u e. load (zeroSlot t) at 4 4 32 (Extend false 32 32) (omega arith) (omega arith) (zeros 4 32) x e)
-          (λ x u e. load (zeroSlot t) at 4 8 64 (Extend true 32 64) (omega arith) (omega arith) (λ v. extended-is 3 8 v (omega arith)) x e)
+          (λ x u e. load (zeroSlot t) at 4 4 32 (Extend false 32 32) (fits 4 4 32 refl) (zeros 4 32 (omega arith)) x e)
+          (λ x u e. load (zeroSlot t) at 4 8 64 (Extend true 32 64) (fits 4 8 64 refl) (λ v. extended-is 3 8 v (omega arith)) x e)
           (λ x u e. absurd (no-load u))
 
       doubles : (opc : ℕ) → opc < 4 → Paged 3 opc
       doubles =
           four (Paged 3)
           (λ x u e. store (zeroSlot t) at 8 8 (omega arith) (omega arith) e)
-          (λ x u e. load (zeroSlot t) at 8 8 64 (Extend false 64 64) (omega arith) (omega arith) (zeros 8 64) x e)
+          (λ x u e. load (zeroSlot t) at 8 8 64 (Extend false 64 64) (fits 8 8 64 refl) (zeros 8 64 (omega arith)) x e)
           (λ x u e. hints-step w m l word e)
           (λ x u e. absurd (no-load u))
 
@@ -319,12 +361,12 @@ module _ (w : Window) (m : Machine) (r : Ready w m) (l : Page) (word : ℕ) (a :
   unfolding sizedAccess sizedTransfer slotOf sizedAt isPrefetch part
   all-vectors at size opc h k = four (λ s. VectorPaged s opc) (bytes opc k) (halves opc k) (words opc k) (doubles opc k) size h
     where
-      put : (k : ℕ) → 0 < k → k ≤ 32 → wordAccess word ≡ Moves (aimed true k k (32 + t % 32)) a → Steps w m l word (faulty m stray (stores address k (stored k)))
+      put : (k : ℕ) → 0 < k → k ≤ mostBytes → wordAccess word ≡ Moves (aimed true k k (32 + t % 32)) a → Steps w m l word (faulty m stray (stores address k (stored k)))
       put k p q e = store (32 + t % 32) at k k p q e
 
-      take : (k : ℕ) → 0 < k → k ≤ 32 → l .extent ≡ k → wordAccess word ≡ Moves (aimed false k k (32 + t % 32)) a
+      take : (k : ℕ) → 0 < k → k ≤ mostBytes → l .extent ≡ k → wordAccess word ≡ Moves (aimed false k k (32 + t % 32)) a
           → Steps w m l word (faulty m stray (loads address k (back wback n next (setR (l .vector) t (8 * k) (Mem address k s) s))))
-      take k p q x e = load (32 + t % 32) at k k (8 * k) (λ v. v) p q (λ v h. extended-none k v) x e
+      take k p q x e = load (32 + t % 32) at k k (8 * k) (λ v. v) (filling k p q) (λ v h. extended-none k v) x e
 
       bytes : (opc : ℕ) → opc < 4 → VectorPaged 0 opc
       bytes =

@@ -10,14 +10,13 @@ use lib.ListN.{length, getD}
 use borrow.Author.Tests.{ltb-true, ltb-false, lt-ltb, le-ltb, leb-true, leb-false, eqb-true, eqb-false, not-false}
 use Rattle.bits.specs.Choice.{pick}
 use Rattle.bits.proofs.Choices.{both}
-use Rattle.instruction.specs.declared.answer.Answer.the-variants.{TaintedAddress, Misaligned, OutOfWindow, ReadOnly}
+use Rattle.instruction.specs.declared.answer.Answer.the-variants.{TaintedAddress, Misaligned, OutOfWindow}
 use Rattle.access.specs.declared.transfer.Transfer.{Transfer}
 use Rattle.access.specs.declared.addressing.Addressing.{Addressing}
 use Rattle.access.specs.declared.Access.the-variants.{Nothing, Moves}
 use Rattle.plan.specs.declared.window.Window.{Window}
 use Rattle.plan.specs.Address.{sumOf, addressOf}
 use Rattle.plan.specs.declared.ranges.Range.{Range}
-use Rattle.plan.specs.declared.ranges.Ranges.{Ranges}
 use Rattle.plan.specs.declared.ranges.Reach.{Reach}
 use Rattle.plan.specs.declared.ranges.Reach.the-variants.{Alone, Ranged}
 use Rattle.plan.specs.Refusals.{Refusal, firstOf}
@@ -42,6 +41,10 @@ use Rattle.machine.specs.Real.{Real}
 pub record Ready (w : Window) (m : Machine) : Type 0 where
   pub real : Real m
   pub top : w .origin + length (m .memory) ≤ 2 ^ 64
+
+-- the most bytes that an access touches: a pair of vector registers
+abbrev pub mostBytes : ℕ
+mostBytes = 32
 
 -- an access in a window, none of whose addresses wraps
 pub record Inside (w : Window) (address size : ℕ) : Type 0 where
@@ -109,7 +112,7 @@ barred-is w Alone store address size h s = rw (guard-is w store address h)
 barred-is w (Ranged r) store address size h s =
     rw (lies-is (r .own) address size, lies-is (r .shared) address size, stray-is store (liesIn (r .own) address size) (liesIn (r .shared) address size), common-is store (share (range address size) (r .shared)))
 
-pub same-block : (a n : ℕ) → 0 < n → n ≤ 32 → ltb 16 (a % 16 + n) ≡ not (eqb (a / 16) ((a + n - 1) / 16))
+pub same-block : (a n : ℕ) → 0 < n → n ≤ mostBytes → ltb 16 (a % 16 + n) ≡ not (eqb (a / 16) ((a + n - 1) / 16))
 same-block a n h k = go (ltb 16 (a % 16 + n)) refl (eqb (a / 16) ((a + n - 1) / 16)) refl
   where
     go : (t : Bool) → ltb 16 (a % 16 + n) ≡ t → (b : Bool) → eqb (a / 16) ((a + n - 1) / 16) ≡ b → t ≡ not b

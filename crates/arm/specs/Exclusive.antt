@@ -21,6 +21,10 @@ unusedUndefined rs t2 = notOnes rs || notOnes t2
 abbrev pub statusOverlaps : ℕ → ℕ → ℕ → Bool
 statusOverlaps rs n t = eqb rs t || (eqb rs n && not (eqb n 31))
 
+-- the bits of the register that a load of so many writes
+abbrev pub regsizeOf : ℕ → ℕ
+regsizeOf elsize = pick (eqb elsize 64) 64 32
+
 -- L = 1
 unfoldable pub loadExclusive : ℕ → Arm → Operation
 loadExclusive word s =
@@ -29,7 +33,7 @@ loadExclusive word s =
     let n = field 9 5 word in
     let t = field 4 0 word in
     let elsize = 8 * 2 ^ size in
-    let regsize : ℕ = pick (eqb elsize 64) 64 32 in
+    let regsize = regsizeOf elsize in
     -- operation
     let dbytes = elsize / 8 in
     let address = base n s in

@@ -20,12 +20,12 @@ Replicate bit (suc n) = bit + Replicate bit n * 2
 abbrev pub Concat : ℕ → ℕ → ℕ → ℕ
 Concat x n y = x * 2 ^ n + y
 
--- x, of `from` bits, with `to` bits: above it stand copies of its top bit, or zeros
+-- the low `from` bits of x, with `to` bits: above them stand copies of their top bit, or zeros
 unfoldable pub SignExtend : ℕ → ℕ → ℕ → ℕ
-SignExtend from to x = Concat (Replicate (field (from - 1) (from - 1) x) (to - from)) from x
+SignExtend from to x = Concat (Replicate (field (from - 1) (from - 1) x) (to - from)) from (field (from - 1) 0 x)
 
 unfoldable pub ZeroExtend : ℕ → ℕ → ℕ → ℕ
-ZeroExtend from to x = Concat (Replicate 0 (to - from)) from x
+ZeroExtend from to x = Concat (Replicate 0 (to - from)) from (field (from - 1) 0 x)
 
 abbrev pub Extend : Bool → ℕ → ℕ → ℕ → ℕ
 Extend signed from to x = pick signed (SignExtend from to x) (ZeroExtend from to x)
@@ -55,7 +55,7 @@ withRegisters r s = record { registers = r; pc = s .pc; origin = s .origin; memo
 unfoldable pub X : ℕ → ℕ → Arm → ℕ
 X n width s = pick (eqb n 31) 0 (field (width - 1) 0 (getD (s .registers) n 0))
 
--- writing fewer than 64 bits clears those above; what is written to 31 is dropped
+-- the low bits of what is written, with zeros above them; what is written to 31 is dropped
 unfoldable pub setX : ℕ → ℕ → ℕ → Arm → Arm
 setX n width v s = withRegisters (pick (eqb n 31) (s .registers) (set (s .registers) n (ZeroExtend width 64 v))) s
 
@@ -63,7 +63,7 @@ setX n width v s = withRegisters (pick (eqb n 31) (s .registers) (set (s .regist
 unfoldable pub Vec : ℕ → ℕ → Arm → ℕ
 Vec n width s = field (width - 1) 0 (getD (s .registers) (32 + n) 0)
 
--- writing fewer than 128 bits clears those above
+-- likewise, with zeros up to 128 bits
 unfoldable pub setVec : ℕ → ℕ → ℕ → Arm → Arm
 setVec n width v s = withRegisters (set (s .registers) (32 + n) (ZeroExtend width 128 v)) s
 
