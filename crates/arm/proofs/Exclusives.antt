@@ -103,10 +103,10 @@ module _ (w : Window) (m : Machine) (r : Ready w m) (word : ℕ) (stray : Bool) 
 
   left-marks : (k : ℕ) → w .origin ≤ address → (pass : Bool)
       → moveRule (madeOf (single false true true false k k t) (pick pass 0 1)) (zeroSlot rs) (address - w .origin) (m .taints)
-      ≡ marksOf false false false true true (pick pass 0 1) (pageOf false StoreExclusiveRow word .extent) (w .origin) word address k (m .taints)
+      ≡ marksOf (pageOf false StoreExclusiveRow word) true (pick pass 0 1) (w .origin) word address k (m .taints)
   unfolding fails
-  left-marks k h true = status-marks false false (w .origin) word address (m .taints) (r .real .marks) h k k _ false
-  left-marks k h false = status-marks false false (w .origin) word address (m .taints) (r .real .marks) h k k _ true
+  left-marks k h true = status-marks (pageOf false StoreExclusiveRow word) (w .origin) word address (m .taints) (r .real .marks) h refl refl refl k k false
+  left-marks k h false = status-marks (pageOf false StoreExclusiveRow word) (w .origin) word address (m .taints) (r .real .marks) h refl refl refl k k true
 
   -- with what the monitor says
   made : (k : ℕ) → 0 < k → k ≤ mostBytes → wordAccess word ≡ Moves (single false true true false k k t) (based (field 9 5 word) 0 false (zeroSlot rs)) → (pass : Bool)

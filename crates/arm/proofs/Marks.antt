@@ -20,6 +20,7 @@ use Rattle.access.specs.declared.transfer.Transfer.{Transfer}
 use Rattle.plan.specs.Operands.{usedOf}
 use Rattle.machine.specs.Rule.{Taints, moveRule}
 use Rattle.arm.specs.Marks.{marks, anyMarked, copied, marksAt, setMarks, movedMarks, setMoved, usedBytes, repeated, loadMarks, storeMarks, marksOf}
+use Rattle.arm.specs.Pages.{Page}
 use Rattle.arm.proofs.Places.{slot, next}
 
 -- ---- a mark
@@ -149,7 +150,7 @@ taints r b = record { registers = r; bytes = b }
 same : {a b c d : List ℕ} → a ≡ b → c ≡ d → taints a c ≡ taints b d
 same e f = rw (e, f)
 
-module _ (vector wback : Bool) (origin word address : ℕ) (p : Taints) (len : length (p .registers) ≡ 64) (h : origin ≤ address) where
+module _ (l : Page) (origin word address : ℕ) (p : Taints) (len : length (p .registers) ≡ 64) (h : origin ≤ address) where
   abbrev t : ℕ
   t = field 4 0 word
 
@@ -157,50 +158,50 @@ module _ (vector wback : Bool) (origin word address : ℕ) (p : Taints) (len : l
   t2 = field 14 10 word
 
   abbrev based : List ℕ
-  based = pick wback (set (p .registers) (field 9 5 word) 0) (p .registers)
+  based = pick (l .wback) (set (p .registers) (field 9 5 word) 0) (p .registers)
 
-  based-is : set (p .registers) (pick wback (field 9 5 word) 64) 0 ≡ based
-  based-is = base-mark (p .registers) len wback (field 9 5 word)
+  based-is : set (p .registers) (pick (l .wback) (field 9 5 word) 64) 0 ≡ based
+  based-is = base-mark (p .registers) len (l .wback) (field 9 5 word)
 
   based-length : length based ≡ 64
   based-length = rw (← based-is) (simp length-set len)
 
   -- the bytes of one register
   stored : (n k a : ℕ) (bytes : List ℕ) → origin ≤ a
-      → sets bytes (a - origin) (map normal (bytesOf k (getD (p .registers) (slot vector n) 0))) ≡ storeMarks origin a k (movedMarks vector n (p .registers)) bytes
-  stored n k a bytes l = rw (moved-at (p .registers) len vector n) (store-is origin a k (movedMarks vector n (p .registers)) bytes l)
+      → sets bytes (a - origin) (map normal (bytesOf k (getD (p .registers) (slot (l .vector) n) 0))) ≡ storeMarks origin a k (movedMarks (l .vector) n (p .registers)) bytes
+  stored n k a bytes o = rw (moved-at (p .registers) len (l .vector) n) (store-is origin a k (movedMarks (l .vector) n (p .registers)) bytes o)
 
-  pub one-marks : (exclusive store ordered : Bool) (k extent filled written : ℕ) → (store ≡ false → filled ≡ extent) → written ≡ pick wback (field 9 5 word) 64
-      → moveRule (single vector exclusive store ordered k extent t) written (address - origin) p ≡ marksOf vector false wback false store 0 filled origin word address k p
+  pub one-marks : l .paired ≡ false → l .status ≡ false → (exclusive store ordered : Bool) (k extent written : ℕ) → (store ≡ false → l .extent ≡ extent) → written ≡ pick (l .wback) (field 9 5 word) 64
+      → moveRule (single (l .vector) exclusive store ordered k extent t) written (address - origin) p ≡ marksOf l store 0 origin word address k p
   unfolding moveRule marksOf bytesOf
-  one-marks exclusive true ordered k extent filled written f e = rw e (same based-is (stored t k address (p .bytes) h))
-  one-marks exclusive false ordered k extent filled written f e =
+  one-marks alone plain exclusive true ordered k extent written f e = rw (alone, plain, e) (same based-is (stored t k address (p .bytes) h))
+  one-marks alone plain exclusive false ordered k extent written f e =
       let x : ℕ = loadedTaint (address - origin) k extent (p .bytes) in
-      let l : length (set based (slot vector t) x) ≤ 64 = simp length-set (omega (arith, based-length)) in
-      rw (f refl, e, based-is, set-out (set based (slot vector t) x) 64 _ l)
-      (same (ap (λ (y : ℕ). set based (slot vector t) y) (load-is origin address k extent (p .bytes) h) ∙ set-moved based based-length vector t (loadMarks origin address k (extent - k) 0 (p .bytes))) refl)
+      let n : length (set based (slot (l .vector) t) x) ≤ 64 = simp length-set (omega (arith, based-length)) in
+      rw (alone, plain, f refl, e, based-is, set-out (set based (slot (l .vector) t) x) 64 _ n)
+      (same (ap (λ (y : ℕ). set based (slot (l .vector) t) y) (load-is origin address k extent (p .bytes) h) ∙ set-moved based based-length (l .vector) t (loadMarks origin address k (extent - k) 0 (p .bytes))) refl)
 
   -- a store-exclusive, by its status: the bytes that are made are all or none
-  pub status-marks : (k extent filled : ℕ) (failed : Bool)
-      → moveRule (single vector true true false (pick failed 0 k) extent t) (zeroSlot (field 20 16 word)) (address - origin) p
-      ≡ marksOf vector false false true true (pick failed 1 0) filled origin word address k p
+  pub status-marks : l .paired ≡ false → l .wback ≡ false → l .status ≡ true → (k extent : ℕ) (failed : Bool)
+      → moveRule (single (l .vector) true true false (pick failed 0 k) extent t) (zeroSlot (field 20 16 word)) (address - origin) p
+      ≡ marksOf l true (pick failed 1 0) origin word address k p
   unfolding moveRule marksOf bytesOf
-  status-marks k extent filled true = same (set-marks (p .registers) len (field 20 16 word) 0) refl
-  status-marks k extent filled false = same (set-marks (p .registers) len (field 20 16 word) 0) (stored t k address (p .bytes) h)
+  status-marks alone back status k extent true = rw (back, status) (same (set-marks (p .registers) len (field 20 16 word) 0) refl)
+  status-marks alone back status k extent false = rw (alone, back, status) (same (set-marks (p .registers) len (field 20 16 word) 0) (stored t k address (p .bytes) h))
 
-  pub two-marks : (store : Bool) (k extent filled written : ℕ) → (store ≡ false → filled ≡ extent) → written ≡ pick wback (field 9 5 word) 64
-      → moveRule (double vector store k extent t t2) written (address - origin) p ≡ marksOf vector true wback false store 0 filled origin word address (2 * k) p
+  pub two-marks : l .paired ≡ true → l .status ≡ false → (store : Bool) (k extent written : ℕ) → (store ≡ false → l .extent ≡ extent) → written ≡ pick (l .wback) (field 9 5 word) 64
+      → moveRule (double (l .vector) store k extent t t2) written (address - origin) p ≡ marksOf l store 0 origin word address (2 * k) p
   unfolding moveRule marksOf
-  two-marks true k extent filled written f e =
+  two-marks two plain true k extent written f e =
       let half : 2 * k / 2 ≡ k = omega arith in
       let far : address - origin + k ≡ address + k - origin = omega arith in
-      rw (e, half, far, stored t k address (p .bytes) h) (same based-is (stored t2 k (address + k) _ (omega arith)))
-  two-marks false k extent filled written f e =
+      rw (two, plain, e, half, far, stored t k address (p .bytes) h) (same based-is (stored t2 k (address + k) _ (omega arith)))
+  two-marks two plain false k extent written f e =
       let half : 2 * k / 2 ≡ k = omega arith in
       let far : address - origin + k ≡ address + k - origin = omega arith in
       let x : ℕ = loadMarks origin address k (extent - k) 0 (p .bytes) in
       let y : ℕ = loadMarks origin (address + k) k (extent - k) 0 (p .bytes) in
-      let one : set based (slot vector t) x ≡ setMoved vector t x based = set-moved based based-length vector t x in
-      let l : length (setMoved vector t x based) ≡ 64 = rw (← one) (simp length-set based-length) in
-      rw (f refl, e, half, based-is, far, load-is origin address k extent (p .bytes) h, load-is origin (address + k) k extent (p .bytes) (omega arith))
-      (same (ap (λ (v : List ℕ). set v (slot vector t2) y) one ∙ set-moved (setMoved vector t x based) l vector t2 y) refl)
+      let one : set based (slot (l .vector) t) x ≡ setMoved (l .vector) t x based = set-moved based based-length (l .vector) t x in
+      let n : length (setMoved (l .vector) t x based) ≡ 64 = rw (← one) (simp length-set based-length) in
+      rw (two, plain, f refl, e, half, based-is, far, load-is origin address k extent (p .bytes) h, load-is origin (address + k) k extent (p .bytes) (omega arith))
+      (same (ap (λ (v : List ℕ). set v (slot (l .vector) t2) y) one ∙ set-moved (setMoved (l .vector) t x based) n (l .vector) t2 y) refl)

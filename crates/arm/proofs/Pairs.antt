@@ -139,7 +139,7 @@ module _ (vector : Bool) (w : Window) (m : Machine) (r : Ready w m) (word : ℕ)
             let z : 0 < width = omega (arith, fit .some, fit .longer, fit .room) in
             rw (f .sum, f .written, x, y)
             (two-registers vector s (r .real .registers) wback n t t2 next width (g (Mem address k s)) (g (Mem (Add address k) k s)) (f .small) z (rw x at (extended-fits fit _ p)) (rw y at (extended-fits fit _ q)) (f .apart) other);
-        marks = λ h. rw (f .back, f .status) (two-marks vector wback (w .origin) word address (m .taints) (r .real .marks) (h .from) false k extent (pageOf vector PairRow word .extent) (a .written) (λ z. filled) (f .written));
+        marks = λ h. two-marks (pageOf vector PairRow word) (w .origin) word address (m .taints) (r .real .marks) (h .from) refl refl false k extent (a .written) (λ z. filled) (rw (f .back) (f .written));
         memory = λ h. sym (back-memory wback n next _ ∙ r-memory vector t2 width _ _ ∙ r-memory vector t width _ s);
         monitor = sym (back-monitor wback n next _ ∙ r-monitor vector t2 width _ _ ∙ r-monitor vector t width _ s);
       })
@@ -163,7 +163,7 @@ module _ (vector : Bool) (w : Window) (m : Machine) (r : Ready w m) (word : ℕ)
         block = f .placed .block (2 * k) (omega arith) (omega arith);
         told = refl;
         registers = λ h. rw (f .sum, f .written, places h) (sym (back-registers after len wback n next (f .small)));
-        marks = λ h. rw (f .back, f .status) (two-marks vector wback (w .origin) word address (m .taints) (r .real .marks) (h .from) true k extent (pageOf vector PairRow word .extent) (a .written) (λ z. absurd (never (sym z))) (f .written));
+        marks = λ h. two-marks (pageOf vector PairRow word) (w .origin) word address (m .taints) (r .real .marks) (h .from) refl refl true k extent (a .written) (λ z. absurd (never (sym z))) (rw (f .back) (f .written));
         memory = λ h. sym (back-memory wback n next _ ∙ ap (λ (x : Arm). x .memory) (places h));
         monitor = sym (back-monitor wback n next _ ∙ mem-monitor k (Add address k) _ _ ∙ mem-monitor k address _ s);
       })

@@ -225,8 +225,8 @@ module _ (w : Window) (m : Machine) (r : Ready w m) (l : Page) (word : ℕ) (a :
             rw (no-store exclusive) (load-all (l .vector) (armed k) (r .real .registers) wback n t next width _ (f .written) (f .sum) x (f .small) z b (f .apart));
         marks =
             λ h.
-            rw (no-store exclusive, alone, f .back, f .status)
-            (one-marks (l .vector) wback (w .origin) word address (m .taints) (r .real .marks) (h .from) exclusive false ordered k extent (l .extent) (a .written) (λ z. filled) (f .written));
+            rw (no-store exclusive)
+            (one-marks l (w .origin) word address (m .taints) (r .real .marks) (h .from) alone (f .status) exclusive false ordered k extent (a .written) (λ z. filled) (rw (f .back) (f .written)));
         memory = λ h. sym (back-memory wback n next _ ∙ r-memory (l .vector) t width _ (armed k));
         monitor = sym (back-monitor wback n next _ ∙ r-monitor (l .vector) t width _ (armed k));
       })
@@ -263,8 +263,7 @@ module _ (w : Window) (m : Machine) (r : Ready w m) (l : Page) (word : ℕ) (a :
         registers = λ h. store-registers (l .vector) s (r .real .registers) k address (h .from) (h .upto) wback n next _ (f .written) (f .sum) (f .small);
         marks =
             λ h.
-            rw (alone, f .back, f .status)
-            (one-marks (l .vector) wback (w .origin) word address (m .taints) (r .real .marks) (h .from) false true ordered k extent (l .extent) (a .written) (λ z. absurd (no-load z)) (f .written));
+            one-marks l (w .origin) word address (m .taints) (r .real .marks) (h .from) alone (f .status) false true ordered k extent (a .written) (λ z. absurd (no-load z)) (rw (f .back) (f .written));
         memory = λ h. store-memory (l .vector) s (r .real .registers) k address (h .from) (h .upto) t p ∙ sym (back-memory wback n next _);
         monitor = sym (back-monitor wback n next _ ∙ mem-monitor k address _ s);
       })

@@ -176,7 +176,7 @@ pub record Agreed (w : Window) (m : Machine) (l : Page) (word : ℕ) (t : Transf
       pick (t .store) based (loadedValues (madeOf t status) (address - w .origin) based (m .memory)) ≡ after .registers
   pub marks : Inside w address size
       → moveRule (madeOf t status) (a .written) (address - w .origin) (m .taints)
-      ≡ marksOf (l .vector) (l .paired) (l .wback) (l .status) (t .store) status (l .extent) (w .origin) word address size (m .taints)
+      ≡ marksOf l (t .store) status (w .origin) word address size (m .taints)
   pub memory : Inside w address size → pick (t .store) (storedBytes (madeOf t status) (address - w .origin) (m .values) (m .memory)) (m .memory) ≡ after .memory
   pub monitor : monitorAfter t address (m .monitor) ≡ after .monitor
 

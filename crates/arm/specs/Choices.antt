@@ -75,7 +75,7 @@ afterPage w word m page store address size status s =
       values = s .registers;
       pc = after (m .pc);
       memory = s .memory;
-      taints = marksOf (page .vector) (page .paired) (page .wback) (page .status) store status (page .extent) (w .origin) word address size (m .taints);
+      taints = marksOf page store status (w .origin) word address size (m .taints);
       monitor = s .monitor;
     }
 

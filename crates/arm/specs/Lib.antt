@@ -12,6 +12,6 @@ pub mod VectorLiteral
 pub mod VectorPair
 pub mod Exclusive
 pub mod AcquireRelease
-pub mod Marks
 pub mod Pages
+pub mod Marks
 pub mod Choices

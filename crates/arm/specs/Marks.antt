@@ -8,6 +8,7 @@ use lib.ListN.{getD, set}
 use Rattle.bits.specs.Choice.{pick}
 use Rattle.bits.specs.Fields.{field}
 use Rattle.machine.specs.Rule.{Taints}
+use Rattle.arm.specs.Pages.{Page}
 
 abbrev pub marks : ℕ → Bool
 marks b = not (eqb b 0)
@@ -58,16 +59,17 @@ storeMarks origin address (suc n) x k = storeMarks origin (address + 1) n (x / 2
 
 -- writeback leaves the base unmarked. A pair has half the bytes for each register, Rt first; what is loaded is extended with its
 -- sign to so many bytes. A store-exclusive unmarks Rs, and a status of 1 "changes no byte's mark"
-unfoldable pub marksOf : Bool → Bool → Bool → Bool → Bool → ℕ → ℕ → ℕ → ℕ → ℕ → ℕ → Taints → Taints
-marksOf vector paired wback hasStatus store status extent origin word address size p =
+unfoldable pub marksOf : Page → Bool → ℕ → ℕ → ℕ → ℕ → ℕ → Taints → Taints
+marksOf page store status origin word address size p =
     let t = field 4 0 word in
     let t2 = field 14 10 word in
-    let each = pick paired (size / 2) size in
-    let based = pick wback (set (p .registers) (field 9 5 word) 0) (p .registers) in
-    let u = pick hasStatus (setMarks (field 20 16 word) 0 based) based in
-    let loaded = setMoved vector t (loadMarks origin address each (extent - each) 0 (p .bytes)) u in
-    let stored = storeMarks origin address each (movedMarks vector t (p .registers)) (p .bytes) in
+    let each = pick (page .paired) (size / 2) size in
+    let based = pick (page .wback) (set (p .registers) (field 9 5 word) 0) (p .registers) in
+    let u = pick (page .status) (setMarks (field 20 16 word) 0 based) based in
+    let copies = page .extent - each in
+    let loaded = setMoved (page .vector) t (loadMarks origin address each copies 0 (p .bytes)) u in
+    let stored = storeMarks origin address each (movedMarks (page .vector) t (p .registers)) (p .bytes) in
     record {
-      registers = pick store u (pick paired (setMoved vector t2 (loadMarks origin (address + each) each (extent - each) 0 (p .bytes)) loaded) loaded);
-      bytes = pick (store && eqb status 0) (pick paired (storeMarks origin (address + each) each (movedMarks vector t2 (p .registers)) stored) stored) (p .bytes);
+      registers = pick store u (pick (page .paired) (setMoved (page .vector) t2 (loadMarks origin (address + each) each copies 0 (p .bytes)) loaded) loaded);
+      bytes = pick (store && eqb status 0) (pick (page .paired) (storeMarks origin (address + each) each (movedMarks (page .vector) t2 (p .registers)) stored) stored) (p .bytes);
     }
