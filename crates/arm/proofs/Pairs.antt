@@ -35,12 +35,12 @@ use Rattle.plan.specs.declared.window.Window.{Window}
 use Rattle.plan.specs.Admission.{misaligned, unaligned}
 use Rattle.machine.specs.Monitor.{statusOf, monitorAfter, writtenBack, fails}
 use Rattle.machine.specs.Machine.{Machine}
-use Rattle.arm.specs.Pseudocode.{Arm, LOAD, STORE, SignExtend, LSL, Add, X, setX, Vec, setVec, base, Mem, setMem, withRegisters, Operation, hint, CheckSPAlignment, loads, stores, case}
+use Rattle.arm.specs.Pseudocode.{Arm, LOAD, STORE, SignExtend, LSL, Add, X, setX, Vec, setVec, base, Mem, setMem, withRegisters, withMemory, Operation, hint, CheckSPAlignment, loads, stores, case}
 use Rattle.arm.specs.Pair.{paired, pair}
 use Rattle.arm.specs.VectorPair.{vectorPaired, vectorPair}
 use Rattle.arm.specs.Choices.{armOf}
 use Rattle.arm.proofs.Bits.{add-small, offset-is, extended-is}
-use Rattle.arm.proofs.Places.{slot, R, setR, r-is, set-r, r-memory, r-monitor, set-base, mem-is, withMemory, set-mem, mem-monitor, low-bytes}
+use Rattle.arm.proofs.Places.{slot, R, setR, r-is, set-r, r-memory, r-monitor, set-base, mem-is, set-mem, mem-monitor, low-bytes}
 use Rattle.arm.proofs.Marks.{double, two-marks}
 use Rattle.arm.proofs.Steps.{Ready, Inside, Steps, faulty, access-step}
 use Rattle.arm.proofs.Singles.{two, four, back, back-registers, back-memory, back-monitor, Fits, fits, filling, extended-fits, Form, extended-none}

@@ -16,7 +16,7 @@ use Rattle.bits.specs.Bytes.{bytesOf, joined, spanOf}
 use Rattle.bits.proofs.Bytes.{bytes-low}
 use Rattle.registers.specs.File.{zeroSlot}
 use Rattle.bits.proofs.Extensions.{two-256}
-use Rattle.arm.specs.Pseudocode.{Arm, Add, X, setX, Vec, setVec, SP, setSP, base, setBase, Mem, setMem, withRegisters, setByte}
+use Rattle.arm.specs.Pseudocode.{Arm, Add, X, setX, Vec, setVec, SP, setSP, base, setBase, Mem, setMem, withRegisters, withMemory, setByte}
 use Rattle.arm.proofs.Bits.{low-bits, full, add-small, zero-extend}
 
 -- ---- registers
@@ -102,9 +102,6 @@ unfolding Mem joined spanOf
 mem-is s zero a h l = refl
 mem-is s (suc n) a h l =
     rw (further (λ x k. Mem x k s) a (λ x y. refl) n l, mem-is s n (a + 1) (omega arith) (omega arith), next h) (add-comm _ _)
-
-abbrev pub withMemory : List ℕ → Arm → Arm
-withMemory b s = record { registers = s .registers; pc = s .pc; origin = s .origin; memory = b; monitor = s .monitor }
 
 pub set-mem : (s : Arm) (n a v : ℕ) → s .origin ≤ a → a + n ≤ 2 ^ 64 → setMem a n v s ≡ withMemory (sets (s .memory) (a - s .origin) (bytesOf n v)) s
 unfolding setMem bytesOf part

@@ -32,12 +32,12 @@ use Rattle.plan.specs.Admission.{misaligned, unaligned}
 use Rattle.plan.specs.Plans.{misalignedStack}
 use Rattle.machine.specs.Monitor.{statusOf, monitorAfter, writtenBack, fails}
 use Rattle.machine.specs.Machine.{Machine, operandsOf}
-use Rattle.arm.specs.Pseudocode.{Arm, MemOp, LOAD, STORE, PREFETCH, Extend, setX, setSP, setBase, Mem, setMem, withRegisters, withMonitor, Operation, hint, loads, stores, case}
+use Rattle.arm.specs.Pseudocode.{Arm, MemOp, LOAD, STORE, PREFETCH, Extend, setX, setSP, setBase, Mem, setMem, withRegisters, withMemory, withMonitor, Operation, hint, loads, stores, case}
 use Rattle.arm.specs.VectorImmediate.{vectorScale}
 use Rattle.arm.specs.Pages.{Page, sizedExtent}
 use Rattle.arm.specs.Choices.{marked, misplaced, armOf}
 use Rattle.arm.proofs.Bits.{zero-extend, extended-is}
-use Rattle.arm.proofs.Places.{slot, R, setR, r-is, set-r, r-memory, r-monitor, set-base, mem-is, withMemory, set-mem, mem-monitor, low-bytes}
+use Rattle.arm.proofs.Places.{slot, R, setR, r-is, set-r, r-memory, r-monitor, set-base, mem-is, set-mem, mem-monitor, low-bytes}
 use Rattle.arm.proofs.Marks.{single, one-marks}
 use Rattle.arm.proofs.Steps.{mostBytes, Ready, Steps, hints-step, faulty, access-step}
 

@@ -48,8 +48,15 @@ pub record Arm : Type 0 where
   pub memory : List ℕ
   pub monitor : Monitor
 
+-- a state with another of what pages change
 abbrev pub withRegisters : List ℕ → Arm → Arm
 withRegisters r s = record { registers = r; pc = s .pc; origin = s .origin; memory = s .memory; monitor = s .monitor }
+
+abbrev pub withMemory : List ℕ → Arm → Arm
+withMemory b s = record { registers = s .registers; pc = s .pc; origin = s .origin; memory = b; monitor = s .monitor }
+
+abbrev pub withMonitor : Monitor → Arm → Arm
+withMonitor r s = record { registers = s .registers; pc = s .pc; origin = s .origin; memory = s .memory; monitor = r }
 
 -- the low bits of X0 to X30, and zeros for 31
 unfoldable pub X : ℕ → ℕ → Arm → ℕ
@@ -86,8 +93,7 @@ Mem address zero s = 0
 Mem address (suc n) s = Concat (Mem (Add address 1) n s) 8 (getD (s .memory) (address - s .origin) 0)
 
 abbrev pub setByte : ℕ → ℕ → Arm → Arm
-setByte address b s =
-    record { registers = s .registers; pc = s .pc; origin = s .origin; memory = set (s .memory) (address - s .origin) b; monitor = s .monitor }
+setByte address b s = withMemory (set (s .memory) (address - s .origin) b) s
 
 unfoldable pub setMem : ℕ → ℕ → ℕ → Arm → Arm
 setMem address zero v s = s
@@ -103,9 +109,6 @@ ExtendReg m option shift s =
 
 -- ---- the exclusives monitor. Arm leaves to an implementation which bytes around an address it covers, and what else clears it.
 -- 02's CR 3 takes "an address and a size", no bytes where it is open, and only exclusive accesses touch it
-
-abbrev pub withMonitor : Monitor → Arm → Arm
-withMonitor r s = record { registers = s .registers; pc = s .pc; origin = s .origin; memory = s .memory; monitor = r }
 
 abbrev pub SetExclusiveMonitors : ℕ → ℕ → Arm → Arm
 SetExclusiveMonitors address size s = withMonitor (record { address = address; size = size }) s
