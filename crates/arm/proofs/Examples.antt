@@ -11,7 +11,7 @@ use Rattle.plan.specs.declared.window.Window.{Window}
 use Rattle.machine.specs.Monitor.{openMonitor}
 use Rattle.machine.specs.Machine.{Machine}
 use Rattle.machine.specs.Step.{performed}
-use Rattle.arm.specs.Pseudocode.{ExtendReg, SignExtend, ZeroExtend, Add, X, setX, setVec, base, setBase, Mem, setMem}
+use Rattle.arm.specs.Pseudocode.{firstVector, ExtendReg, SignExtend, ZeroExtend, Add, X, setX, setVec, base, setBase, Mem, setMem}
 use Rattle.arm.specs.VectorImmediate.{vectorImmediate}
 use Rattle.arm.specs.VectorUnscaled.{vectorUnscaled}
 use Rattle.arm.specs.Unscaled.{unscaled}
@@ -58,10 +58,10 @@ loads = refl
 
 -- with V0 all ones
 abbrev full : Machine
-full = record { values = set (start .values) 32 (2 ^ 128 - 1); pc = 8; memory = start .memory; taints = start .taints; monitor = openMonitor }
+full = record { values = set (start .values) firstVector (2 ^ 128 - 1); pc = 8; memory = start .memory; taints = start .taints; monitor = openMonitor }
 
 abbrev filled : ℕ → ℕ
-filled word = getD (performed full (armStep window word full) .machine .values) 32 0
+filled word = getD (performed full (armStep window word full) .machine .values) firstVector 0
 
 -- ldur b0, h0, s0 and d0 at 4100, and q0 at 4096: zeros above
 vectors : map filled (0x3c5ff020 ∷ 0x7c5ff020 ∷ 0xbc5ff020 ∷ 0xfc5ff020 ∷ 0x3cdfb020 ∷ []) ≡ (128 ∷ 128 ∷ 128 ∷ 128 ∷ 2 ^ 39 ∷ [])

@@ -51,7 +51,7 @@ use Rattle.arm.specs.Pages.{Page, opcExtent, pageOf}
 use Rattle.arm.specs.Choices.{marked, misplaced, armOf}
 use Rattle.arm.proofs.Conditions.{signed-double, by-codes, by-codes-prefetch, by-literal}
 use Rattle.arm.proofs.Bits.{add-is, add-lt, imm9-is, imm12-is, imm19-is, index-is, extended-is}
-use Rattle.arm.proofs.Places.{slot, setR, base-is, x-is}
+use Rattle.arm.proofs.Places.{slot, numbers, vectorSlot, setR, base-is, x-is}
 use Rattle.arm.proofs.Marks.{marks-at, base-marked, index-marked}
 use Rattle.arm.proofs.Steps.{mostBytes, Ready, Steps, hints-step, same-block}
 use Rattle.arm.proofs.Singles.{four, Fits, fits, Placed, Form, one-load, extended-none, all-sizes, all-vectors}
@@ -89,7 +89,7 @@ pub never : _≡_ {A = Bool} false true → ⊥
 never e = let z : _≡_ {A = ℕ} 0 1 = cc in omega arith
 
 -- a base that is not the register t: its slot is another
-pub apart : (n t : ℕ) → n < 32 → (not (eqb n 31) && eqb n t) ≡ false → ¬ (n ≡ zeroSlot t)
+pub apart : (n t : ℕ) → n < numbers → (not (eqb n 31) && eqb n t) ≡ false → ¬ (n ≡ zeroSlot t)
 apart n t l h e = go (eqb t 31) refl e
   where
     go : (b : Bool) → eqb t 31 ≡ b → n ≡ pick b 64 t → ⊥
@@ -195,7 +195,7 @@ module _ (w : Window) (m : Machine) (r : Ready w m) (word : ℕ) where
   opc-lt : field 23 22 word < 4
   opc-lt = part-lt 22 2 word
 
-  t-lt : field 4 0 word < 32
+  t-lt : field 4 0 word < numbers
   t-lt = part-lt 0 5 word
 
   abbrev size : ℕ
@@ -208,7 +208,7 @@ module _ (w : Window) (m : Machine) (r : Ready w m) (word : ℕ) where
   t = field 4 0 word
 
   -- the slot of a vector register, and that it is no base
-  pub behind : (n : ℕ) → n < 32 → 32 + n % 32 ≡ slot true n
+  pub behind : (n : ℕ) → n < numbers → vectorSlot n ≡ slot true n
   behind n h = omega arith
 
   pub no-base : (n : ℕ) → ¬ (field 9 5 word ≡ slot true n)
@@ -523,9 +523,9 @@ module _ (w : Window) (m : Machine) (r : Ready w m) (word : ℕ) where
         (λ u x e. absurd (never (sym u)))
         (field 31 30 word) size-lt u refl e
       where
-        take : (k : ℕ) → 0 < k → k ≤ mostBytes → pageOf true LiteralRow word .extent ≡ k → wordAccess word ≡ literalAt19 k k (32 + t % 32) (twosComplement (signedOf 262144 4 (field 23 5 word)))
+        take : (k : ℕ) → 0 < k → k ≤ mostBytes → pageOf true LiteralRow word .extent ≡ k → wordAccess word ≡ literalAt19 k k (vectorSlot t) (twosComplement (signedOf 262144 4 (field 23 5 word)))
             → Steps w m (pageOf true LiteralRow word) word (loads address k (setVec t (k * 8) (Mem address k (armOf w m)) (armOf w m)))
-        take k p q x e = literal-load true (32 + t % 32) (behind t t-lt) k k (k * 8) (λ v. v) (λ v h. extended-none k v) (record { some = p; most = q; longer = omega arith; room = omega arith }) x e
+        take k p q x e = literal-load true (vectorSlot t) (behind t t-lt) k k (k * 8) (λ v. v) (λ v h. extended-none k v) (record { some = p; most = q; longer = omega arith; room = omega arith }) x e
 
   pub literal-step : field 26 26 word ≡ 0 → wordAccess word ≡ familyAccess (columnsOf LiteralRow .family word) → Steps w m (pageOf false LiteralRow word) word (literal word (armOf w m))
   unfolding literal Add part

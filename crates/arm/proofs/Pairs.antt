@@ -40,7 +40,7 @@ use Rattle.arm.specs.Pair.{paired, pair}
 use Rattle.arm.specs.VectorPair.{vectorPaired, vectorPair}
 use Rattle.arm.specs.Choices.{armOf}
 use Rattle.arm.proofs.Bits.{add-small, offset-is, extended-is}
-use Rattle.arm.proofs.Places.{slot, R, setR, r-is, set-r, r-memory, r-monitor, set-base, mem-is, set-mem, mem-monitor, low-bytes}
+use Rattle.arm.proofs.Places.{slot, vectorSlot, R, setR, r-is, set-r, r-memory, r-monitor, set-base, mem-is, set-mem, mem-monitor, low-bytes}
 use Rattle.arm.proofs.Marks.{double, two-marks}
 use Rattle.arm.proofs.Steps.{Ready, Inside, Steps, faulty, access-step}
 use Rattle.arm.proofs.Singles.{two, four, back, back-registers, back-memory, back-monitor, Fits, fits, filling, extended-fits, Form, extended-none}
@@ -259,10 +259,10 @@ module _ (w : Window) (m : Machine) (r : Ready w m) (word : ℕ) where
     abbrev moves : Bool → ℕ → ℕ → ℕ → ℕ → Access
     moves store k target second offset = Moves (aimed store k target second) (based (field 9 5 word) offset postindex (pick wback (field 9 5 word) 64))
 
-    behind-t : 32 + rt % 32 ≡ slot true rt
+    behind-t : vectorSlot rt ≡ slot true rt
     behind-t = behind w m r word rt (part-lt 0 5 word)
 
-    behind-t2 : 32 + rt2 % 32 ≡ slot true rt2
+    behind-t2 : vectorSlot rt2 ≡ slot true rt2
     behind-t2 = behind w m r word rt2 (part-lt 10 5 word)
 
     abbrev next : ℕ → ℕ
@@ -278,22 +278,22 @@ module _ (w : Window) (m : Machine) (r : Ready w m) (word : ℕ) where
 
     -- the slots and the offset of the access are the page's
     aims : (store : Bool) (k scale : ℕ) → 2 ^ scale ≡ k → scale < 5
-        → wordAccess word ≡ moves store k (32 + rt % 32) (32 + rt2 % 32) (twosComplement (signedOf 64 k (field 21 15 word)))
+        → wordAccess word ≡ moves store k (vectorSlot rt) (vectorSlot rt2) (twosComplement (signedOf 64 k (field 21 15 word)))
         → wordAccess word ≡ moves store k (slot true rt) (slot true rt2) (scaled scale)
     aims store k scale x l e =
-        e ∙ ap (λ (i : ℕ). moves store k i (32 + rt2 % 32) (twosComplement (signedOf 64 k (field 21 15 word)))) behind-t
+        e ∙ ap (λ (i : ℕ). moves store k i (vectorSlot rt2) (twosComplement (signedOf 64 k (field 21 15 word)))) behind-t
         ∙ ap (λ (i : ℕ). moves store k (slot true rt) i (twosComplement (signedOf 64 k (field 21 15 word)))) behind-t2
         ∙ ap (λ (i : ℕ). moves store k (slot true rt) (slot true rt2) (twosComplement (signedOf 64 i (field 21 15 word)))) (sym x)
         ∙ ap (moves store k (slot true rt) (slot true rt2)) (scaled-is scale l)
 
     put : (k scale : ℕ) → 2 ^ scale ≡ k → scale < 5 → 0 < k → k ≤ 16
-        → wordAccess word ≡ moves true k (32 + rt % 32) (32 + rt2 % 32) (twosComplement (signedOf 64 k (field 21 15 word)))
+        → wordAccess word ≡ moves true k (vectorSlot rt) (vectorSlot rt2) (twosComplement (signedOf 64 k (field 21 15 word)))
         → Steps w m (pageOf true PairRow word) word (faulty m (strays m (field 9 5 word)) (stores (address scale) (2 * k) (stored true w m r word _ wback _ (address scale) (next scale) (vector-form scale) (λ h. no-base w m r word rt2) k)))
     put k scale x l p q e =
         two-stores true w m r word _ wback _ _ _ (vector-form scale) (λ h. no-base w m r word rt2) k k p q (aims true k scale x l e)
 
     take : (k scale : ℕ) → 2 ^ scale ≡ k → scale < 5 → 0 < k → k ≤ 16 → pageOf true PairRow word .extent ≡ k
-        → wordAccess word ≡ moves false k (32 + rt % 32) (32 + rt2 % 32) (twosComplement (signedOf 64 k (field 21 15 word)))
+        → wordAccess word ≡ moves false k (vectorSlot rt) (vectorSlot rt2) (twosComplement (signedOf 64 k (field 21 15 word)))
         → Steps w m (pageOf true PairRow word) word (faulty m (strays m (field 9 5 word)) (loads (address scale) (2 * k) (loaded true w m r word _ wback _ (address scale) (next scale) (vector-form scale) (λ h. no-base w m r word rt2) k (8 * k) (λ v. v))))
     take k scale x l p q filled e =
         two-loads true w m r word _ wback _ _ _ (vector-form scale) (λ h. no-base w m r word rt2) k k (8 * k) (λ v. v) q (filling k p (omega arith)) (λ v h. extended-none k v) filled (aims false k scale x l e)

@@ -16,7 +16,7 @@ use Rattle.bits.specs.Bytes.{bytesOf, joined, spanOf}
 use Rattle.bits.proofs.Bytes.{bytes-low}
 use Rattle.registers.specs.File.{zeroSlot}
 use Rattle.bits.proofs.Extensions.{two-256}
-use Rattle.arm.specs.Pseudocode.{Arm, Add, X, setX, Vec, setVec, SP, setSP, base, setBase, Mem, setMem, withRegisters, withMemory, setByte}
+use Rattle.arm.specs.Pseudocode.{Arm, Add, X, setX, firstVector, Vec, setVec, SP, setSP, base, setBase, Mem, setMem, withRegisters, withMemory, setByte}
 use Rattle.arm.proofs.Bits.{low-bits, full, add-small, zero-extend}
 
 -- ---- registers
@@ -58,7 +58,14 @@ module _ (s : Arm) (l : length (s .registers) ≡ 64) where
 -- ---- a register that is moved, of either kind
 
 abbrev pub slot : Bool → ℕ → ℕ
-slot vector n = pick vector (32 + n) (zeroSlot n)
+slot vector n = pick vector (firstVector + n) (zeroSlot n)
+
+-- the numbers that a register field can hold, and the slot that the machine gives one of a vector register
+abbrev pub numbers : ℕ
+numbers = 32
+
+abbrev pub vectorSlot : ℕ → ℕ
+vectorSlot n = firstVector + n % numbers
 
 abbrev pub R : Bool → ℕ → ℕ → Arm → ℕ
 R vector n width s = pick vector (Vec n width s) (X n width s)
@@ -69,12 +76,12 @@ setR vector n width v s = pick vector (setVec n width v s) (setX n width v s)
 module _ (s : Arm) (l : length (s .registers) ≡ 64) where
   pub r-is : (vector : Bool) (n width : ℕ) → 0 < width → R vector n width s ≡ getD (s .registers) (slot vector n) 0 % 2 ^ width
   unfolding Vec
-  r-is true n width h = low-bits width (getD (s .registers) (32 + n) 0) h
+  r-is true n width h = low-bits width (getD (s .registers) (firstVector + n) 0) h
   r-is false n width h = x-is s l n width h
 
   pub set-r : (vector : Bool) (n width v : ℕ) → 0 < width → v < 2 ^ width → setR vector n width v s ≡ withRegisters (set (s .registers) (slot vector n) v) s
   unfolding setVec
-  set-r true n width v p h = ap (λ (x : ℕ). withRegisters (set (s .registers) (32 + n) x) s) (zero-extend width 128 v p h)
+  set-r true n width v p h = ap (λ (x : ℕ). withRegisters (set (s .registers) (firstVector + n) x) s) (zero-extend width 128 v p h)
   set-r false n width v p h = set-x s l n width v p h
 
 pub r-memory : (vector : Bool) (n width v : ℕ) (s : Arm) → setR vector n width v s .memory ≡ s .memory

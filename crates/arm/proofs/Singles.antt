@@ -37,7 +37,7 @@ use Rattle.arm.specs.VectorImmediate.{vectorScale}
 use Rattle.arm.specs.Pages.{Page, sizedExtent}
 use Rattle.arm.specs.Choices.{marked, misplaced, armOf}
 use Rattle.arm.proofs.Bits.{zero-extend, extended-is}
-use Rattle.arm.proofs.Places.{slot, R, setR, r-is, set-r, r-memory, r-monitor, set-base, mem-is, set-mem, mem-monitor, low-bytes}
+use Rattle.arm.proofs.Places.{slot, vectorSlot, R, setR, r-is, set-r, r-memory, r-monitor, set-base, mem-is, set-mem, mem-monitor, low-bytes}
 use Rattle.arm.proofs.Marks.{single, one-marks}
 use Rattle.arm.proofs.Steps.{mostBytes, Ready, Steps, hints-step, faulty, access-step}
 
@@ -356,16 +356,16 @@ module _ (w : Window) (m : Machine) (r : Ready w m) (l : Page) (word : ℕ) (a :
       l .extent ≡ sizedExtent true size opc → any (eqb (1 * 16 + size * 4 + opc)) undefinedCodes ≡ false
       → wordAccess word ≡ sizedAccess (sizedAt (1 * 16 + size * 4 + opc)) t ordered a → Steps w m l word (vectorPage size opc)
 
-  pub all-vectors : 32 + t % 32 ≡ slot (l .vector) t → (size opc : ℕ) → size < 4 → opc < 4 → VectorPaged size opc
+  pub all-vectors : vectorSlot t ≡ slot (l .vector) t → (size opc : ℕ) → size < 4 → opc < 4 → VectorPaged size opc
   unfolding sizedAccess sizedTransfer slotOf sizedAt isPrefetch part
   all-vectors at size opc h k = four (λ s. VectorPaged s opc) (bytes opc k) (halves opc k) (words opc k) (doubles opc k) size h
     where
-      put : (k : ℕ) → 0 < k → k ≤ mostBytes → wordAccess word ≡ Moves (aimed true k k (32 + t % 32)) a → Steps w m l word (faulty m stray (stores address k (stored k)))
-      put k p q e = store (32 + t % 32) at k k p q e
+      put : (k : ℕ) → 0 < k → k ≤ mostBytes → wordAccess word ≡ Moves (aimed true k k (vectorSlot t)) a → Steps w m l word (faulty m stray (stores address k (stored k)))
+      put k p q e = store (vectorSlot t) at k k p q e
 
-      take : (k : ℕ) → 0 < k → k ≤ mostBytes → l .extent ≡ k → wordAccess word ≡ Moves (aimed false k k (32 + t % 32)) a
+      take : (k : ℕ) → 0 < k → k ≤ mostBytes → l .extent ≡ k → wordAccess word ≡ Moves (aimed false k k (vectorSlot t)) a
           → Steps w m l word (faulty m stray (loads address k (back wback n next (setR (l .vector) t (8 * k) (Mem address k s) s))))
-      take k p q x e = load (32 + t % 32) at k k (8 * k) (λ v. v) (filling k p q) (λ v h. extended-none k v) x e
+      take k p q x e = load (vectorSlot t) at k k (8 * k) (λ v. v) (filling k p q) (λ v h. extended-none k v) x e
 
       bytes : (opc : ℕ) → opc < 4 → VectorPaged 0 opc
       bytes =

@@ -8,6 +8,7 @@ use lib.ListN.{getD, set}
 use Rattle.bits.specs.Choice.{pick}
 use Rattle.bits.specs.Fields.{field}
 use Rattle.machine.specs.Rule.{Taints}
+use Rattle.arm.specs.Pseudocode.{firstVector}
 use Rattle.arm.specs.Pages.{Page}
 
 abbrev pub marks : ℕ → Bool
@@ -31,10 +32,10 @@ setMarks n x u = pick (eqb n 31) u (set u n x)
 
 -- those of Rt and Rt2 of a page that moves vector registers: V0 to V31 stand behind SP, and each has marks
 abbrev pub movedMarks : Bool → ℕ → List ℕ → ℕ
-movedMarks vector n u = pick vector (getD u (32 + n) 0) (marksAt n u)
+movedMarks vector n u = pick vector (getD u (firstVector + n) 0) (marksAt n u)
 
 abbrev pub setMoved : Bool → ℕ → ℕ → List ℕ → List ℕ
-setMoved vector n x u = pick vector (set u (32 + n) x) (setMarks n x u)
+setMoved vector n x u = pick vector (set u (firstVector + n) x) (setMarks n x u)
 
 -- the bytes in "the used part of the index (its low four for uxtw and sxtw)": options 010 and 110
 abbrev pub usedBytes : ℕ → ℕ

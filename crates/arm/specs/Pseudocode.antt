@@ -66,13 +66,17 @@ X n width s = pick (eqb n 31) 0 (field (width - 1) 0 (getD (s .registers) n 0))
 unfoldable pub setX : ℕ → ℕ → ℕ → Arm → Arm
 setX n width v s = withRegisters (pick (eqb n 31) (s .registers) (set (s .registers) n (ZeroExtend width 64 v))) s
 
--- V[n] of Arm: the low bits of V0 to V31, which stand behind SP
+-- V0 stands behind SP
+abbrev pub firstVector : ℕ
+firstVector = 32
+
+-- V[n] of Arm: the low bits of V0 to V31
 unfoldable pub Vec : ℕ → ℕ → Arm → ℕ
-Vec n width s = field (width - 1) 0 (getD (s .registers) (32 + n) 0)
+Vec n width s = field (width - 1) 0 (getD (s .registers) (firstVector + n) 0)
 
 -- likewise, with zeros up to 128 bits
 unfoldable pub setVec : ℕ → ℕ → ℕ → Arm → Arm
-setVec n width v s = withRegisters (set (s .registers) (32 + n) (ZeroExtend width 128 v)) s
+setVec n width v s = withRegisters (set (s .registers) (firstVector + n) (ZeroExtend width 128 v)) s
 
 abbrev pub SP : Arm → ℕ
 SP s = getD (s .registers) 31 0
