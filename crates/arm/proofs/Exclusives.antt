@@ -28,7 +28,7 @@ use Rattle.machine.specs.Monitor.{matches, statusOf, monitorAfter, writtenBack,
 use Rattle.machine.specs.Rule.{moveRule}
 use Rattle.machine.specs.Machine.{Machine, storedBytes}
 use Rattle.arm.specs.Pseudocode.{Arm, LOAD, STORE, ZeroExtend, Extend, Add, X, setX, base, Mem, setMem, Operation, hint, SetExclusiveMonitors, ClearExclusiveLocal, ExclusiveMonitorsPass, CheckSPAlignment, loads, stores, access, storesExclusive, case}
-use Rattle.arm.specs.Exclusive.{regsizeOf, loadExclusive, storeExclusive}
+use Rattle.arm.specs.Exclusive.{elementRegsize, loadExclusive, storeExclusive}
 use Rattle.arm.specs.AcquireRelease.{acquireRelease}
 use Rattle.arm.specs.Marks.{marksOf}
 use Rattle.arm.specs.Pages.{pageOf}
@@ -189,7 +189,7 @@ module _ (w : Window) (m : Machine) (r : Ready w m) (word : ℕ) where
   abbrev loadPage : ℕ → Operation
   loadPage size =
       let elsize = 8 * 2 ^ size in
-      let regsize = regsizeOf elsize in
+      let regsize = elementRegsize elsize in
       let armed = SetExclusiveMonitors (base n s) (elsize / 8) s in
       CheckSPAlignment n s (loads (base n s) (elsize / 8) (setX (field 4 0 word) regsize (ZeroExtend elsize regsize (Mem (base n s) (elsize / 8) armed)) armed))
 
@@ -246,7 +246,7 @@ module _ (w : Window) (m : Machine) (r : Ready w m) (word : ℕ) where
   abbrev otherPage : ℕ → ℕ → Operation
   otherPage L size =
       let elsize = 8 * 2 ^ size in
-      let regsize = regsizeOf elsize in
+      let regsize = elementRegsize elsize in
       case (pick (eqb L 1) LOAD STORE)
       (CheckSPAlignment n s (stores (base n s) (elsize / 8) (setMem (base n s) (elsize / 8) (X (field 4 0 word) elsize s) s)))
       (CheckSPAlignment n s (loads (base n s) (elsize / 8) (setX (field 4 0 word) regsize (ZeroExtend elsize regsize (Mem (base n s) (elsize / 8) s)) s)))

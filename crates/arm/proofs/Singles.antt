@@ -1,6 +1,6 @@
 -- The pages of one register: what a load and a store leave, once over the width (`one-load`, `one-store`), and then every
 -- size and opc, where both decodes compute (`all-sizes`). Assumes nothing.
-use Prim.Native.Nat.{ℕ, zero, suc, _+_, _-_, _*_, _/_, _%_, _^_, _≤_, _<_}
+use Prim.Native.Nat.{ℕ, zero, suc, _+_, _-_, _*_, _/_, _^_, _≤_, _<_}
 use mathlib.Core.Path.{_≡_, refl, sym, ap, _∙_}
 use mathlib.Core.Bool.{Bool, true, false, _&&_, _||_}
 use mathlib.Core.List.{List}
@@ -32,7 +32,7 @@ use Rattle.plan.specs.Admission.{misaligned, unaligned}
 use Rattle.plan.specs.Plans.{misalignedStack}
 use Rattle.machine.specs.Monitor.{statusOf, monitorAfter, writtenBack, fails}
 use Rattle.machine.specs.Machine.{Machine, operandsOf}
-use Rattle.arm.specs.Pseudocode.{Arm, MemOp, LOAD, STORE, PREFETCH, Extend, setX, setSP, setBase, Mem, setMem, withRegisters, withMemory, withMonitor, Operation, hint, loads, stores, case}
+use Rattle.arm.specs.Pseudocode.{Arm, MemOp, LOAD, STORE, PREFETCH, Extend, setX, setSP, setBase, Mem, setMem, withRegisters, withMemory, withMonitor, Operation, hint, loads, stores, case, regsizeOf}
 use Rattle.arm.specs.VectorImmediate.{vectorScale}
 use Rattle.arm.specs.Pages.{Page, sizedExtent}
 use Rattle.arm.specs.Choices.{marked, misplaced, armOf}
@@ -292,7 +292,7 @@ module _ (w : Window) (m : Machine) (r : Ready w m) (l : Page) (word : ℕ) (a :
   page size opc =
       let signed = eqb (field 1 1 opc) 1 in
       let memop : MemOp = pick signed (pick (eqb size 0b11) PREFETCH LOAD) (pick (eqb (field 0 0 opc) 1) LOAD STORE) in
-      let regsize : ℕ = pick signed (pick (eqb (field 0 0 opc) 1) 32 64) (pick (eqb size 0b11) 64 32) in
+      let regsize = regsizeOf size opc in
       let datasize = 8 * 2 ^ size in
       case memop
       (faulty m stray (stores address (datasize / 8) (back wback n next (setMem address (datasize / 8) (R (l .vector) t datasize s) s))))
@@ -308,35 +308,47 @@ module _ (w : Window) (m : Machine) (r : Ready w m) (l : Page) (word : ℕ) (a :
   unfolding sizedAccess sizedTransfer slotOf extentOf sizedAt isPrefetch part
   all-sizes at size opc h k = four (λ s. Paged s opc) (bytes opc k) (halves opc k) (words opc k) (doubles opc k) size h
     where
+      with-zeros : (k width : ℕ) → fit k k width ≡ true → l .extent ≡ k → wordAccess word ≡ Moves (aimed false k k (zeroSlot t)) a
+          → Steps w m l word (faulty m stray (loads address k (back wback n next (setR (l .vector) t width (Extend false (8 * k) width (Mem address k s)) s))))
+      with-zeros k width h x e =
+          let f = fits k k width h in
+          load (zeroSlot t) at k k width (Extend false (8 * k) width) f (zeros k width (f .some)) x e
+
+      with-sign : (j extent : ℕ) → fit (suc j) extent (8 * extent) ≡ true → l .extent ≡ extent → wordAccess word ≡ Moves (aimed false (suc j) extent (zeroSlot t)) a
+          → Steps w m l word (faulty m stray (loads address (suc j) (back wback n next (setR (l .vector) t (8 * extent) (Extend true (8 * suc j) (8 * extent) (Mem address (suc j) s)) s))))
+      with-sign j extent h x e =
+          let f = fits (suc j) extent (8 * extent) h in
+          load (zeroSlot t) at (suc j) extent (8 * extent) (Extend true (8 * suc j) (8 * extent)) f (λ v. extended-is j extent v (f .longer)) x e
+
       bytes : (opc : ℕ) → opc < 4 → Paged 0 opc
       bytes =
           four (Paged 0)
           (λ x u e. store (zeroSlot t) at 1 1 (omega arith) (omega arith) e)
-          (λ x u e. load (zeroSlot t) at 1 1 32 (Extend false 8 32) (fits 1 1 32 refl) (zeros 1 32 (omega arith)) x e)
-          (λ x u e. load (zeroSlot t) at 1 8 64 (Extend true 8 64) (fits 1 8 64 refl) (λ v. extended-is 0 8 v (omega arith)) x e)
-          (λ x u e. load (zeroSlot t) at 1 4 32 (Extend true 8 32) (fits 1 4 32 refl) (λ v. extended-is 0 4 v (omega arith)) x e)
+          (λ x u e. with-zeros 1 _ refl x e)
+          (λ x u e. with-sign 0 8 refl x e)
+          (λ x u e. with-sign 0 4 refl x e)
 
       halves : (opc : ℕ) → opc < 4 → Paged 1 opc
       halves =
           four (Paged 1)
           (λ x u e. store (zeroSlot t) at 2 2 (omega arith) (omega arith) e)
-          (λ x u e. load (zeroSlot t) at 2 2 32 (Extend false 16 32) (fits 2 2 32 refl) (zeros 2 32 (omega arith)) x e)
-          (λ x u e. load (zeroSlot t) at 2 8 64 (Extend true 16 64) (fits 2 8 64 refl) (λ v. extended-is 1 8 v (omega arith)) x e)
-          (λ x u e. load (zeroSlot t) at 2 4 32 (Extend true 16 32) (fits 2 4 32 refl) (λ v. extended-is 1 4 v (omega arith)) x e)
+          (λ x u e. with-zeros 2 _ refl x e)
+          (λ x u e. with-sign 1 8 refl x e)
+          (λ x u e. with-sign 1 4 refl x e)
 
       words : (opc : ℕ) → opc < 4 → Paged 2 opc
       words =
           four (Paged 2)
           (λ x u e. store (zeroSlot t) at 4 4 (omega arith) (omega arith) e)
-          (λ x u e. load (zeroSlot t) at 4 4 32 (Extend false 32 32) (fits 4 4 32 refl) (zeros 4 32 (omega arith)) x e)
-          (λ x u e. load (zeroSlot t) at 4 8 64 (Extend true 32 64) (fits 4 8 64 refl) (λ v. extended-is 3 8 v (omega arith)) x e)
+          (λ x u e. with-zeros 4 _ refl x e)
+          (λ x u e. with-sign 3 8 refl x e)
           (λ x u e. absurd (no-load u))
 
       doubles : (opc : ℕ) → opc < 4 → Paged 3 opc
       doubles =
           four (Paged 3)
           (λ x u e. store (zeroSlot t) at 8 8 (omega arith) (omega arith) e)
-          (λ x u e. load (zeroSlot t) at 8 8 64 (Extend false 64 64) (fits 8 8 64 refl) (zeros 8 64 (omega arith)) x e)
+          (λ x u e. with-zeros 8 _ refl x e)
           (λ x u e. hints-step w m l word e)
           (λ x u e. absurd (no-load u))
 

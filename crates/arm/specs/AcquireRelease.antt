@@ -6,7 +6,7 @@ use lib.Dec.{eqb}
 use Rattle.bits.specs.Choice.{pick}
 use Rattle.bits.specs.Fields.{field}
 use Rattle.arm.specs.Pseudocode.{Arm, MemOp, LOAD, STORE, ZeroExtend, X, setX, base, Mem, setMem, Operation, hint, CheckSPAlignment, stores, loads, case}
-use Rattle.arm.specs.Exclusive.{regsizeOf}
+use Rattle.arm.specs.Exclusive.{elementRegsize}
 
 unfoldable pub acquireRelease : ℕ → Arm → Operation
 acquireRelease word s =
@@ -16,7 +16,7 @@ acquireRelease word s =
     let t = field 4 0 word in
     let memop : MemOp = pick (eqb (field 22 22 word) 1) LOAD STORE in
     let elsize = 8 * 2 ^ size in
-    let regsize = regsizeOf elsize in
+    let regsize = elementRegsize elsize in
     -- operation
     let dbytes = elsize / 8 in
     let address = base n s in

@@ -22,8 +22,8 @@ abbrev pub statusOverlaps : ℕ → ℕ → ℕ → Bool
 statusOverlaps rs n t = eqb rs t || (eqb rs n && not (eqb n 31))
 
 -- the bits of the register that a load of so many writes
-abbrev pub regsizeOf : ℕ → ℕ
-regsizeOf elsize = pick (eqb elsize 64) 64 32
+abbrev pub elementRegsize : ℕ → ℕ
+elementRegsize elsize = pick (eqb elsize 64) 64 32
 
 -- L = 1
 unfoldable pub loadExclusive : ℕ → Arm → Operation
@@ -33,7 +33,7 @@ loadExclusive word s =
     let n = field 9 5 word in
     let t = field 4 0 word in
     let elsize = 8 * 2 ^ size in
-    let regsize = regsizeOf elsize in
+    let regsize = elementRegsize elsize in
     -- operation
     let dbytes = elsize / 8 in
     let address = base n s in

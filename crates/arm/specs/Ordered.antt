@@ -6,7 +6,7 @@ use mathlib.Core.Bool.{Bool, true, false, _&&_}
 use lib.Dec.{eqb}
 use Rattle.bits.specs.Choice.{pick}
 use Rattle.bits.specs.Fields.{field}
-use Rattle.arm.specs.Pseudocode.{Arm, MemOp, LOAD, STORE, SignExtend, Extend, Add, X, setX, base, Mem, setMem, Operation, hint, CheckSPAlignment, stores, loads, case}
+use Rattle.arm.specs.Pseudocode.{Arm, MemOp, LOAD, STORE, SignExtend, Extend, Add, X, setX, base, Mem, setMem, Operation, hint, CheckSPAlignment, stores, loads, case, regsizeOf}
 
 -- where DDI 0602 has no page, and no prefetch: a signed doubleword, and a word signed to 32 bits
 abbrev pub orderedUndefined : ℕ → ℕ → Bool
@@ -27,7 +27,7 @@ ordered word s =
     let t = field 4 0 word in
     let signed = eqb (field 1 1 opc) 1 in
     let memop : MemOp = pick signed LOAD (pick (eqb (field 0 0 opc) 1) LOAD STORE) in
-    let regsize : ℕ = pick signed (pick (eqb (field 0 0 opc) 1) 32 64) (pick (eqb size 0b11) 64 32) in
+    let regsize = regsizeOf size opc in
     let datasize = 8 * 2 ^ scale in
     -- operation
     let address = Add (base n s) offset in

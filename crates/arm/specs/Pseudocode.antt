@@ -135,6 +135,10 @@ pub data MemOp : Type 0 where
   STORE : MemOp
   PREFETCH : MemOp
 
+-- of the shared decode of one general register, by size and opc: the bits of the register that a load writes
+abbrev pub regsizeOf : ℕ → ℕ → ℕ
+regsizeOf size opc = pick (eqb (field 1 1 opc) 1) (pick (eqb (field 0 0 opc) 1) 32 64) (pick (eqb size 0b11) 64 32)
+
 -- a hint, which changes nothing; an SP alignment fault, with SP; or one access, a store or not, by the address of its first
 -- byte, its bytes, its status, and the state that it leaves
 pub data Operation : Type 0 where
