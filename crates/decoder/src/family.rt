@@ -77,7 +77,7 @@ pub fn store_exclusive(op: StoreExclusiveOp, word: u32) -> Family
     Family::StoreExclusive(op, store_exclusive_operands(word))
 }
 
-pub fn sized_op_in(word: u32) -> SizedOp
+pub(crate) fn sized_op_in(word: u32) -> SizedOp
     ensures { λ r. ⌜ r ≡ sizedIn word ⌝ }
 {
     instruction::sized_at(
@@ -85,13 +85,13 @@ pub fn sized_op_in(word: u32) -> SizedOp
     )
 }
 
-pub fn literal_op_in(word: u32) -> LiteralOp
+pub(crate) fn literal_op_in(word: u32) -> LiteralOp
     ensures { λ r. ⌜ r ≡ literalOpIn word ⌝ }
 {
     instruction::literal_at(word / 0x400_0000 % 2 * 4 + word / 0x4000_0000 % 4)
 }
 
-pub fn pair_op_in(word: u32) -> PairOp
+pub(crate) fn pair_op_in(word: u32) -> PairOp
     ensures { λ r. ⌜ r ≡ pairOpIn word ⌝ }
 {
     instruction::pair_at(
@@ -99,7 +99,7 @@ pub fn pair_op_in(word: u32) -> PairOp
     )
 }
 
-pub fn exclusive_op_in(word: u32) -> ExclusiveOp
+pub(crate) fn exclusive_op_in(word: u32) -> ExclusiveOp
     ensures { λ r. ⌜ r ≡ exclusiveOpIn word ⌝ }
 {
     instruction::exclusive_at(
@@ -107,7 +107,7 @@ pub fn exclusive_op_in(word: u32) -> ExclusiveOp
     )
 }
 
-pub fn store_exclusive_op_in(word: u32) -> StoreExclusiveOp
+pub(crate) fn store_exclusive_op_in(word: u32) -> StoreExclusiveOp
     ensures { λ r. ⌜ r ≡ storeExclusiveOpIn word ⌝ }
 {
     instruction::store_exclusive_at(

@@ -2,7 +2,7 @@
 ghost use mathlib.Core.Path.{_≡_};
 ghost use Rattle.instruction.specs.Undefined.{undefinedSize, undefinedPrefetch, undefinedOption, undefinedLiteral, undefinedPair, undefinedSecond, undefinedUnused};
 
-pub fn in_size(word: u32) -> bool
+pub(crate) fn in_size(word: u32) -> bool
     ensures { λ r. ⌜ r ≡ undefinedSize word ⌝ }
 {
     let code = word / 0x400_0000 % 2 * 16 + word / 0x4000_0000 % 4 * 4 + word / 0x40_0000 % 4;
@@ -19,26 +19,26 @@ pub fn in_size(word: u32) -> bool
     }
 }
 
-pub fn without_prefetch(word: u32) -> bool
+pub(crate) fn without_prefetch(word: u32) -> bool
     ensures { λ r. ⌜ r ≡ undefinedPrefetch word ⌝ }
 {
     let code = word / 0x400_0000 % 2 * 16 + word / 0x4000_0000 % 4 * 4 + word / 0x40_0000 % 4;
     in_size(word) | (code == 0b0_11_10)
 }
 
-pub fn in_register(word: u32) -> bool
+pub(crate) fn in_register(word: u32) -> bool
     ensures { λ r. ⌜ r ≡ undefinedOption word ⌝ }
 {
     in_size(word) | (word / 0x4000 % 2 == 0)
 }
 
-pub fn in_literal(word: u32) -> bool
+pub(crate) fn in_literal(word: u32) -> bool
     ensures { λ r. ⌜ r ≡ undefinedLiteral word ⌝ }
 {
     word / 0x400_0000 % 2 * 4 + word / 0x4000_0000 % 4 == 0b1_11
 }
 
-pub fn in_pair(word: u32) -> bool
+pub(crate) fn in_pair(word: u32) -> bool
     ensures { λ r. ⌜ r ≡ undefinedPair word ⌝ }
 {
     let opc = word / 0x4000_0000 % 4;

@@ -4,7 +4,7 @@ ghost use mathlib.Core.Path.{_≡_};
 ghost use Rattle.instruction.specs.Unpredictable.{baseIs, overBase, unpredictablePair, unpredictableStatus};
 
 // Rn is a register of the access, and not SP.
-pub fn base_is(register: u32, word: u32) -> bool
+fn base_is(register: u32, word: u32) -> bool
     ensures { λ r. ⌜ r ≡ baseIs register word ⌝ }
 {
     let base = word / 32 % 32;
