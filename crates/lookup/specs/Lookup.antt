@@ -1,4 +1,4 @@
--- Decoding by a table, whatever it holds: the entry of a word's bits 31 to 22, and the bits below.
+-- Decoding by a table, whatever it holds: the entry of a word's bits 31 to 22, the bits below, and the operands of the word.
 use Prim.Native.Nat.{ℕ, _+_, _*_, _%_}
 use mathlib.Core.Bool.{Bool, false, _&&_, _||_}
 use mathlib.Core.List.{List}

@@ -1,4 +1,6 @@
-// What an entry and the bits of a word below 22 say.
+// What an entry and its word say. The row, the operation, and answers 2 and 3 come of the entry and of bits below 22. Of bits
+// 31 to 22 only these are read again: in operands a literal's imm19 (23..5), a pair's mode (24..23) and the size of an exclusive
+// access (31..30), and for answer 4 bit 26, and of a pair bits 23 and 22.
 use decoder::family;
 use decoder::undefined;
 use decoder::unpredictable;
