@@ -1,10 +1,8 @@
--- What is moved: a number is no longer than what it is extended to, and that has at most 8 bytes, 16 in a vector register; an access
--- moves a byte at least, between memory and general registers or vector registers; and an address is formed of general ones. Assumes
--- nothing.
+-- The access of every word is within its bounds, and moves a byte at least. Assumes nothing.
 use Prim.Native.Nat.{ℕ, _+_, _/_, _%_, _≤_, _<_}
 use mathlib.Core.Path.{_≡_, refl, sym}
 use mathlib.Core.Bool.{Bool, true, false, _&&_, _||_}
-use mathlib.Core.Logic.{_⊎_, inl, inr}
+use mathlib.Core.Logic.{inl, inr}
 use native.Mathlib.Omega.{arith}
 use lib.Dec.{eqb, leb}
 use borrow.Author.Tests.{leb-true, eq-eqb, eqb-true}
@@ -27,47 +25,14 @@ use Rattle.instruction.proofs.Bounds.{bounded-in}
 use Rattle.decoder.specs.Decoding.{decodeOf}
 use Rattle.registers.specs.File.{zeroSlot}
 use Rattle.vectors.specs.File.{vectorSlot}
-use Rattle.vectors.proofs.Slots.{Plain, plain-low}
+use Rattle.vectors.specs.route.Slots.{Plain}
+use Rattle.vectors.proofs.Slots.{plain-low}
 use Rattle.access.specs.declared.transfer.Transfer.{Transfer}
 use Rattle.access.specs.declared.addressing.Addressing.{Addressing}
-use Rattle.access.specs.declared.Access.{Access}
 use Rattle.access.specs.Transfers.{none, slotOf, extentOf, sizedTransfer, literalTransfer, pairTransfer, monitoredTransfer, exclusiveTransfer}
 use Rattle.access.specs.Accesses.{isPrefetch, sizedAccess, literalMoves, literalAccess, pairAccess, exclusiveAccess, storeExclusiveAccess, familyAccess, accessOf, wordAccess}
 use Rattle.access.specs.Addressings.{based, pairedMode, indexedMode, literalMode}
-
--- a number of bytes that is not extended
-abbrev pub Whole : ℕ → ℕ → Type 0
-Whole n extent = (n ≡ 0) ⊎ (n ≡ extent)
-
--- what moves vector registers extends nothing
-pub record VectorBounds (t : Transfer) : Type 0 where
-  pub extent : t .extent ≤ 16
-  pub second : 32 ≤ t .second
-  pub whole : Whole (t .bytes) (t .extent)
-  pub wholes : Whole (t .more) (t .extent)
-
-pub record Bounded (t : Transfer) : Type 0 where
-  pub wide : t .bytes ≤ t .extent
-  pub wider : t .more ≤ t .extent
-  pub general : vectorSlot (t .target) ≡ false → (t .extent ≤ 8) × Plain (t .second)
-  pub vector : vectorSlot (t .target) ≡ true → VectorBounds t
-
--- the registers of an address are general
-pub record Placed (a : Addressing) : Type 0 where
-  pub base : Plain (a .base)
-  pub index : Plain (a .index)
-  pub written : Plain (a .written)
-
--- what is said of each transfer is said of an access
-abbrev Of : (Transfer → Type 0) → Access → Type 0
-Of P Access.Nothing = Unit {0}
-Of P (Access.Moves t a) = P t × Placed a
-
-abbrev pub Within : Access → Type 0
-Within x = Of Bounded x
-
-abbrev pub Moving : Access → Type 0
-Moving x = Of (λ t. 0 < t .bytes) x
+use Rattle.access.specs.route.Bounds.{Whole, Bounded, Placed, Of, Within, Moving}
 
 -- ---- of general registers
 

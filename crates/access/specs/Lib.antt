@@ -1,3 +1,4 @@
 pub mod Transfers
 pub mod Addressings
 pub mod Accesses
+pub mod route

@@ -32,7 +32,7 @@ use Rattle.plan.specs.Plans.{misalignedStack, refusalsOf, planOf}
 use Rattle.plan.proofs.Refusals.{Passed, Each, each-map, first-by, first-map, none-holds, given}
 use Rattle.vectors.specs.File.{wide}
 use Rattle.vectors.proofs.Slots.{length-map}
-use Rattle.access.proofs.Bounds.{Placed}
+use Rattle.access.specs.route.Bounds.{Placed}
 use Rattle.plan.specs.Operands.{operandsIn}
 use Rattle.machine.specs.declared.State.{State}
 use Rattle.machine.specs.route.Writing.{Full}

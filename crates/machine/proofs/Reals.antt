@@ -26,7 +26,8 @@ use Rattle.access.specs.declared.transfer.Transfer.{Transfer}
 use Rattle.access.specs.declared.Access.{Access}
 use Rattle.access.specs.declared.Access.the-variants.{Nothing, Moves}
 use Rattle.access.specs.Accesses.{wordAccess}
-use Rattle.access.proofs.Bounds.{Whole, Bounded, Within, bounded}
+use Rattle.access.specs.route.Bounds.{Whole, Bounded, Within}
+use Rattle.access.proofs.Bounds.{bounded}
 use Rattle.plan.specs.declared.window.Window.{Window}
 use Rattle.plan.specs.declared.ranges.Reach.{Reach}
 use Rattle.plan.specs.declared.ranges.Reach.the-variants.{Alone}

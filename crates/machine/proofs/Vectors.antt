@@ -14,7 +14,7 @@ use Rattle.memory.specs.Sources.{cleared, bytesFrom, sourcesOf, taintFrom, load
 use Rattle.memory.specs.route.Values.{valueFrom}
 use Rattle.memory.proofs.Sources.{Small, byte-from, value-small, taint-small, extended-sources}
 use Rattle.access.specs.declared.transfer.Transfer.{Transfer}
-use Rattle.access.proofs.Bounds.{Whole}
+use Rattle.access.specs.route.Bounds.{Whole}
 use Rattle.machine.specs.Monitor.{openMonitor}
 use Rattle.machine.specs.Rule.{moveRule}
 use Rattle.machine.specs.Machine.{Machine, effectOf}

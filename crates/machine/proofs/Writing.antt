@@ -17,9 +17,10 @@ use Rattle.memory.specs.Sources.{loadedTaint}
 use Rattle.memory.proofs.Taints.{span-normal}
 use Rattle.memory.proofs.Sources.{no-source, whole-taints}
 use Rattle.vectors.specs.File.{wide, numberOf, halvesAt, withVector, vectorSlot}
-use Rattle.vectors.proofs.Slots.{Plain, vector-low, plain-get, plain-set, vector-get, wide-get, read-general, all-plain, then-vectors, wide-set, length-map, files-kept, taints-kept}
+use Rattle.vectors.specs.route.Slots.{Plain}
+use Rattle.vectors.proofs.Slots.{vector-low, plain-get, plain-set, vector-get, wide-get, read-general, all-plain, then-vectors, wide-set, length-map, files-kept, taints-kept}
 use Rattle.vectors.proofs.Wide.{halves-joined}
-use Rattle.access.proofs.Bounds.{Whole, VectorBounds, Bounded, Placed}
+use Rattle.access.specs.route.Bounds.{Whole, VectorBounds, Bounded, Placed}
 use Rattle.access.specs.declared.addressing.Addressing.{Addressing}
 use Rattle.plan.specs.Operands.{operandsIn}
 use Rattle.bits.proofs.Choices.{neither}

@@ -17,7 +17,7 @@ ghost use Rattle.bits.specs.Extension.{extendedOf};
 ghost use Rattle.memory.specs.Taints.{normal};
 ghost use Rattle.memory.specs.Sources.{loadedTaint};
 ghost use Rattle.vectors.specs.File.{wide, numberOf, halvesAt};
-ghost use Rattle.access.proofs.Bounds.{Bounded};
+ghost use Rattle.access.specs.route.Bounds.{Bounded};
 ghost use Rattle.plan.specs.Admission.{totalOf};
 ghost use Rattle.machine.specs.Monitor.{madeOf};
 ghost use Rattle.machine.specs.Rule.{storedTaints};

@@ -30,7 +30,8 @@ use Rattle.access.specs.declared.addressing.Addressing.{Addressing}
 use Rattle.access.specs.declared.Access.{Access}
 use Rattle.access.specs.declared.Access.the-variants.{Moves}
 use Rattle.access.specs.Accesses.{wordAccess}
-use Rattle.access.proofs.Bounds.{Whole, Bounded, Within, bounded, Moving, moving}
+use Rattle.access.specs.route.Bounds.{Whole, Bounded, Within, Moving}
+use Rattle.access.proofs.Bounds.{bounded, moving}
 use Rattle.plan.specs.declared.window.Window.{Window}
 use Rattle.plan.specs.Address.{sumOf, addressOf}
 use Rattle.plan.proofs.Refusals.{each, first-by}

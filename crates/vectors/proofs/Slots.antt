@@ -11,10 +11,7 @@ use lib.ListN.{length, getD, set, length-set, length-append, List·getD-append, 
 use lib.Seq.{getD-append-add, set-append-left, set-out}
 use Rattle.vectors.specs.declared.Halves.{Halves}
 use Rattle.vectors.specs.File.{wide, numberOf, halvesAt, withVector, vectorSlot, filesAfter, taintsAfter, noWrites}
-
--- a slot that is general, or none
-abbrev pub Plain : ℕ → Type 0
-Plain slot = vectorSlot slot ≡ false
+use Rattle.vectors.specs.route.Slots.{Plain}
 
 pub plain-low : (slot : ℕ) → slot < 32 → Plain slot
 plain-low slot h = not-one (slot / 32) (omega arith)

@@ -16,7 +16,8 @@ use Rattle.vectors.specs.File.{vectorSlot}
 use Rattle.access.specs.declared.transfer.Transfer.{Transfer}
 use Rattle.access.specs.declared.Access.{Access}
 use Rattle.access.specs.declared.Access.the-variants.{Nothing, Moves}
-use Rattle.access.proofs.Bounds.{Within, Bounded, bounded}
+use Rattle.access.specs.route.Bounds.{Within, Bounded}
+use Rattle.access.proofs.Bounds.{bounded}
 use Rattle.machine.specs.Monitor.{fails, madeOf}
 use Rattle.machine.specs.Origins.{ofRegister, ofMemory, Origin, none, from, originIn, among, originOf, originAt}
 use Rattle.execution.specs.Walk.{shownAt}

@@ -1,6 +1,6 @@
 -- `machine::decide_access` meets its contract. Assumes nothing.
 use mathlib.Core.Path.{subst}
-use Rattle.access.proofs.Bounds.{Within}
+use Rattle.access.specs.route.Bounds.{Within}
 use Rattle.machine.specs.route.Parts.{accessStep}
 use borrow.Author.Needs.{needs}
 use Rattle.machine.proofs.decide_access.Statement.{statement}
