@@ -128,18 +128,7 @@ fn not_begun(state: State, answer: Answer) -> Ran
         state,
         steps: 0,
         answer,
-        shown: no_code(0),
-    }
-}
-
-// What a refusal shows, and what an empty list does with address 0.
-fn no_code(address: u64) -> Shown
-    ensures { λ r. ⌜ r ≡ shown 0 address 0 ⌝ }
-{
-    Shown {
-        code: 0,
-        address,
-        status: 0,
+        shown: machine::no_code(0),
     }
 }
 
@@ -161,7 +150,7 @@ fn walk(
     ensures { λ r. ⌜ result r (now (vectors .exit)) (now («vector_taint» .exit)) (now (memory .exit)) (now (taint .exit)) (now (trace .exit)) (now (statuses .exit)) ≡ glue 0 (log (now (trace .entry)) (now (statuses .entry))) (walkOf (stepIn window reach) (now (words .entry)) (machineOf start (now (vectors .entry)) (now («vector_taint» .entry)) (now (memory .entry)) (now (taint .entry))) (shown 0 0 0)) ⌝ }
 {
     let mut state = start;
-    let mut last = no_code(0);
+    let mut last = machine::no_code(0);
     let mut i = 0;
     while i < words.len() {
         match machine::decide(
@@ -178,7 +167,7 @@ fn walk(
             taint,
         ) {
             Decision::Refused(answer, address) => {
-                return ended(state, i, answer, no_code(address));
+                return ended(state, i, answer, machine::no_code(address));
             }
             Decision::Passed(shown) => {
                 last = shown;

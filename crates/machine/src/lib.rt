@@ -122,7 +122,7 @@ fn completed(decision: Decision, state: State) -> Stepped
     }
 }
 
-// What a refusal shows, and a prefetch with address 0.
+// What a refusal shows, and with address 0 a prefetch, and a run without a step.
 pub fn no_code(address: u64) -> Shown
     ensures { λ r. ⌜ r ≡ shown 0 address 0 ⌝ }
 {
