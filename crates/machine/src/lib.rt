@@ -29,7 +29,7 @@ ghost use Rattle.machine.specs.Monitor.{monitorAfter, madeOf};
 ghost use Rattle.machine.specs.Machine.{machineOf, opened, nextPc, effectOf};
 ghost use Rattle.machine.specs.Step.{shown, moved, stepIn, stepOf, outcome, leaves};
 ghost use Rattle.machine.specs.route.Parts.{wordStep, accessStep};
-ghost use Rattle.machine.specs.route.Writing.{Full, stateOf, passedOn, settledOf, completedOf, afterStore, afterLoad, ends, told};
+ghost use Rattle.machine.specs.route.Writing.{Full, stateOf, passedOn, settledOf, completedOf, afterStore, afterLoad, Decides};
 
 #[repr(C)]
 pub struct State {
@@ -191,7 +191,7 @@ pub fn decide<'a>(
     memory: &mut [u8],
     taint: &mut [u8],
 ) -> Decision
-    ensures { λ r. ⌜ told (stateOf (now (value .entry)) (now (tainted .entry)) pc monitor) (now (vectors .entry)) (now («vector_taint» .entry)) r (now (memory .exit)) (now (taint .exit)) ≡ ends (stepIn window reach word) (machineOf (stateOf (now (value .entry)) (now (tainted .entry)) pc monitor) (now (vectors .entry)) (now («vector_taint» .entry)) (now (memory .entry)) (now (taint .entry))) ⌝ }
+    ensures { λ r. ⌜ Decides (stepIn window reach word) (stateOf (now (value .entry)) (now (tainted .entry)) pc monitor) (now (vectors .entry)) (now («vector_taint» .entry)) (now (memory .entry)) (now (taint .entry)) r (now (memory .exit)) (now (taint .exit)) ⌝ }
 {
     if plan::is_bad(window, memory.len() as u64, taint.len() as u64, pc) {
         return Decision::Refused(Answer::BadWindow, 0);
@@ -239,7 +239,7 @@ fn decide_word(
     taint: &mut [u8],
 ) -> Decision
     requires { ⌜ Full (now value) (now tainted) (now vectors) (now «vector_taint») × (length (now taint) ≡ length (now memory)) ⌝ }
-    ensures { λ r. ⌜ told (stateOf (now (value .entry)) (now (tainted .entry)) pc monitor) (now (vectors .entry)) (now («vector_taint» .entry)) r (now (memory .exit)) (now (taint .exit)) ≡ ends (wordStep (window .origin) (admitIn window reach (length (now (memory .entry)))) word) (machineOf (stateOf (now (value .entry)) (now (tainted .entry)) pc monitor) (now (vectors .entry)) (now («vector_taint» .entry)) (now (memory .entry)) (now (taint .entry))) ⌝ }
+    ensures { λ r. ⌜ Decides (wordStep (window .origin) (admitIn window reach (length (now (memory .entry)))) word) (stateOf (now (value .entry)) (now (tainted .entry)) pc monitor) (now (vectors .entry)) (now («vector_taint» .entry)) (now (memory .entry)) (now (taint .entry)) r (now (memory .exit)) (now (taint .exit)) ⌝ }
 {
     let examined = decoder::examine(word);
     let answer = examined.answer;
@@ -276,7 +276,7 @@ fn decide_access(
     taint: &mut [u8],
 ) -> Decision
     requires { ⌜ Within x × Full (now value) (now tainted) (now vectors) (now «vector_taint») × (length (now taint) ≡ length (now memory)) ⌝ }
-    ensures { λ r. ⌜ told (stateOf (now (value .entry)) (now (tainted .entry)) pc monitor) (now (vectors .entry)) (now («vector_taint» .entry)) r (now (memory .exit)) (now (taint .exit)) ≡ ends (accessStep (window .origin) (admitIn window reach (length (now (memory .entry)))) x) (machineOf (stateOf (now (value .entry)) (now (tainted .entry)) pc monitor) (now (vectors .entry)) (now («vector_taint» .entry)) (now (memory .entry)) (now (taint .entry))) ⌝ }
+    ensures { λ r. ⌜ Decides (accessStep (window .origin) (admitIn window reach (length (now (memory .entry)))) x) (stateOf (now (value .entry)) (now (tainted .entry)) pc monitor) (now (vectors .entry)) (now («vector_taint» .entry)) (now (memory .entry)) (now (taint .entry)) r (now (memory .exit)) (now (taint .exit)) ⌝ }
 {
     match x {
         // A prefetch: the program counter goes on.
@@ -313,7 +313,7 @@ fn decide_moves(
     taint: &mut [u8],
 ) -> Decision
     requires { ⌜ Bounded t × Placed a × Full (now value) (now tainted) (now vectors) (now «vector_taint») × (length (now taint) ≡ length (now memory)) ⌝ }
-    ensures { λ r. ⌜ told (stateOf (now (value .entry)) (now (tainted .entry)) pc monitor) (now (vectors .entry)) (now («vector_taint» .entry)) r (now (memory .exit)) (now (taint .exit)) ≡ ends (accessStep (window .origin) (admitIn window reach (length (now (memory .entry)))) (Access.Moves t a)) (machineOf (stateOf (now (value .entry)) (now (tainted .entry)) pc monitor) (now (vectors .entry)) (now («vector_taint» .entry)) (now (memory .entry)) (now (taint .entry))) ⌝ }
+    ensures { λ r. ⌜ Decides (accessStep (window .origin) (admitIn window reach (length (now (memory .entry)))) (Access.Moves t a)) (stateOf (now (value .entry)) (now (tainted .entry)) pc monitor) (now (vectors .entry)) (now («vector_taint» .entry)) (now (memory .entry)) (now (taint .entry)) r (now (memory .exit)) (now (taint .exit)) ⌝ }
 {
     let operands = plan::operands_of(a, pc, value, tainted);
     match plan::planned(t, a, operands, window, reach, memory.len() as u64) {
@@ -360,7 +360,7 @@ fn touched(
     taint: &mut [u8],
 ) -> Decision
     requires { ⌜ Bounded t × Plain written × Full (now value) (now tainted) (now vectors) (now «vector_taint») × (at + totalOf t ≤ length (now memory)) × (length (now taint) ≡ length (now memory)) ⌝ }
-    ensures { λ r. ⌜ ((pc : ℕ) → told (stateOf (now (value .entry)) (now (tainted .entry)) pc monitor) (now (vectors .entry)) (now («vector_taint» .entry)) r (now (memory .exit)) (now (taint .exit)) ≡ ends (λ m. moved (effectOf (madeOf t (shown .status)) written at next (monitorAfter t (shown .address) (m .monitor)) m) shown) (machineOf (stateOf (now (value .entry)) (now (tainted .entry)) pc monitor) (now (vectors .entry)) (now («vector_taint» .entry)) (now (memory .entry)) (now (taint .entry)))) ⌝ }
+    ensures { λ r. ⌜ ((pc : ℕ) → Decides (λ m. moved (effectOf (madeOf t (shown .status)) written at next (monitorAfter t (shown .address) (m .monitor)) m) shown) (stateOf (now (value .entry)) (now (tainted .entry)) pc monitor) (now (vectors .entry)) (now («vector_taint» .entry)) (now (memory .entry)) (now (taint .entry)) r (now (memory .exit)) (now (taint .exit))) ⌝ }
 {
     let after = monitor::after(t, shown.address, monitor);
     if t.store {

@@ -129,3 +129,9 @@ told s vectors vector-taint (Refused answer address) memory taint = record { ste
 told s vectors vector-taint (Passed shown) memory taint = movedTo (machineOf (passedOn s) vectors vector-taint memory taint) shown
 told s vectors vector-taint (Wrote shown w) memory taint = movedTo (machineOf (settledOf w s) vectors vector-taint memory taint) shown
 told s vectors vector-taint (Vectors shown w x) memory taint = movedTo (machineOf (settledOf w s) (filesAfter x vectors) (taintsAfter x vector-taint) memory taint) shown
+
+-- the contract of the first half: its decision, with the memory and the taint bytes that it leaves, comes to a step of the machine
+-- that it was handed
+abbrev pub Decides : (Machine → Step Machine) → State → List (List ℕ) → List (List ℕ) → List ℕ → List ℕ → Decision → List ℕ → List ℕ → Type 0
+Decides step s vectors vector-taint memory taint decision memory-left taint-left =
+    told s vectors vector-taint decision memory-left taint-left ≡ ends step (machineOf s vectors vector-taint memory taint)
