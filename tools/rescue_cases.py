@@ -3,6 +3,8 @@
 
     python3 tools/rescue_cases.py
     python3 tools/rescue_cases.py --self-check      counts the cases that tell each wrong model from the right one
+    python3 tools/rescue_cases.py --try PROGRAM     holds target/bin/salvage against the model on every byte put in and put over
+                                                    at every place of the chosen lines, which aren't stored
 
 The lines are those of crates/list/stdout and the texts those of crates/assemble/stdin, which other tools have made. They are
 damaged here as a mail gateway does it, and what must come is said by rescue_model.py. The output is the same each time.
@@ -18,6 +20,7 @@ import collections
 import random
 import re
 import struct
+import subprocess
 from typing import NamedTuple
 
 from aarch64_rules import path_of, write
@@ -98,6 +101,15 @@ def every_place():
         line = BY_WORD[word]
         for name, damage in DAMAGES.items():
             yield 'every place, ' + name, listing_of(damage(line, i) for i in range(len(line)))
+
+
+def every_byte():
+    """Each byte put in and put over at every place of the chosen lines, a listing for each place."""
+    for word in CHOSEN:
+        line = BY_WORD[word]
+        for i in range(len(line) + 1):
+            yield listing_of(put_in(bytes([byte]))(line, i) for byte in range(256))
+            yield listing_of(put_over(bytes([byte]))(line, i) for byte in range(256))
 
 
 def first_fields(line):
@@ -247,6 +259,22 @@ def case_text(model, case):
     return said + output + rests[0] + report + rests[1]
 
 
+def written(cases):
+    """What the program must write, but for the end of its input."""
+    return b''.join(b'case\t%d\n' % number + case_text(Rescue(), case) for number, case in enumerate(cases))
+
+
+def try_program(program):
+    cases = []
+    for listing in every_byte():
+        _, output, report = Rescue().rescue(listing, 1 << 32, 1 << 32)
+        cases.append(Case('every byte', listing, len(output), len(report)))
+    ran = subprocess.run([program], input=b''.join(map(case_bytes, cases)), stdout=subprocess.PIPE, check=True)
+    if ran.stdout != written(cases):
+        raise SystemExit('the program and the model differ')
+    print('%d listings, %d lines, as the model' % (len(cases), sum(len(Rescue().lines(case.listing)) for case in cases)))
+
+
 def self_check(cases):
     right, unseen = [case_text(Rescue(), case) for case in cases], []
     for wrong in WRONG:
@@ -260,14 +288,16 @@ def self_check(cases):
 def main():
     parser = argparse.ArgumentParser()
     parser.add_argument('--self-check', action='store_true')
+    parser.add_argument('--try', dest='program')
     options = parser.parse_args()
+    if options.program:
+        return try_program(options.program)
     cases = all_cases()
     if options.self_check:
         return self_check(cases)
     # The last case is cut: its last byte is missing.
     given = b''.join(map(case_bytes, cases)) + case_bytes(next(case for case in cases if case.listing))[:-1]
-    expected = b''.join(b'case\t%d\n' % number + case_text(Rescue(), case) for number, case in enumerate(cases))
-    expected += b'case\t%d\tcut short\n' % len(cases)
+    expected = written(cases) + b'case\t%d\tcut short\n' % len(cases)
     write('salvage', 'stdin', given)
     write('salvage', 'stdout', expected)
     for group, count in collections.Counter(case.group.split(',')[0] for case in cases).items():
