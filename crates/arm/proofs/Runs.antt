@@ -12,7 +12,7 @@ use Rattle.machine.specs.Step.{shown, Step, stopped, moved, stepIn}
 use Rattle.execution.specs.Walk.{ahead, goOn, walkOf, Log, runOf}
 use Rattle.execution.specs.Run.{machineRun, plainWindow, turnOf}
 use Rattle.machine.specs.Real.{Real}
-use Rattle.arm.specs.Choices.{badStart, armStepIn, armStep, badTurnStart}
+use Rattle.arm.specs.Choices.{badStart, armStepIn, armRun, badTurnStart, armTurn}
 use Rattle.arm.proofs.Arm.{bad-is, step-in-as-arm}
 use Rattle.machine.proofs.Reals.{RealStep, real-in}
 
@@ -27,12 +27,12 @@ walk-as-arm w reach (x ∷ words) m r last =
     go f (stopped answer address) h = refl
     go f (moved n s) h = ap (ahead s) (f n h s)
 
-pub run-as-arm : (w : Window) (words : List ℕ) (m : Machine) (lent : Log) → Real m → machineRun w words m lent ≡ runOf (badStart w) (armStep w) words m lent
+pub run-as-arm : (w : Window) (words : List ℕ) (m : Machine) (lent : Log) → Real m → machineRun w words m lent ≡ armRun w words m lent
 unfolding runOf
 run-as-arm w words m lent r = rw (bad-is w m, walk-as-arm w Alone words m r (shown 0 0 0))
 
 -- and so is a turn, with its ranges
 pub turn-as-arm : (origin : ℕ) (r : Ranges) (words : List ℕ) (m : Machine) (lent : Log) → Real m
-    → turnOf origin r words m lent ≡ runOf (badTurnStart origin r) (armStepIn (plainWindow origin) (Ranged r)) words m lent
+    → turnOf origin r words m lent ≡ armTurn origin r words m lent
 unfolding runOf
 turn-as-arm origin r words m lent h = rw (bad-is (plainWindow origin) m, walk-as-arm (plainWindow origin) (Ranged r) words m h (shown 0 0 0))

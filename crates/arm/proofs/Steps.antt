@@ -34,7 +34,7 @@ use Rattle.machine.specs.route.Parts.{accessStep}
 use Rattle.arm.specs.Pseudocode.{Arm, Operation, hint, spFault, access}
 use Rattle.arm.specs.Marks.{marksOf}
 use Rattle.arm.specs.Pages.{Page}
-use Rattle.arm.specs.Choices.{marked, misplaced, outOf, shut, liesIn, barred, afterPage, chosen}
+use Rattle.arm.specs.Choices.{marked, misplaced, outOf, shut, liesIn, reachRefusals, pageRefusals, afterPage, pageMoves}
 use Rattle.machine.specs.Real.{Real}
 
 -- a machine that there is, in a window that answer 1 passes
@@ -105,7 +105,10 @@ common-is : (store shared : Bool) → pick store shared false ≡ (store && shar
 common-is true shared = refl
 common-is false shared = refl
 
--- what an access inside the window is refused with
+-- what an access inside the window comes to, by what refuses it there
+abbrev barred : Window → Reach → Bool → ℕ → ℕ → Step Machine → Step Machine
+barred w reach store address size s = firstOf stopped s (reachRefusals w reach store address size)
+
 barred-is : (w : Window) (reach : Reach) (store : Bool) (address size : ℕ) → w .origin ≤ address → (s : Step Machine) → firstOf stopped s (reachOf w reach store size address) ≡ barred w reach store address size s
 unfolding common strays
 barred-is w Alone store address size h s = rw (guard-is w store address h)
@@ -151,7 +154,7 @@ same-plan F e f g k h = rw (e, f, g, k, h)
 
 -- the step of a word is that of its page, whatever may be reached
 abbrev pub Steps : Window → Machine → Page → ℕ → Operation → Type 0
-Steps w m l word o = (reach : Reach) → accessStep (w .origin) (admitIn w reach (length (m .memory))) (wordAccess word) m ≡ chosen w reach word m l o
+Steps w m l word o = (reach : Reach) → accessStep (w .origin) (admitIn w reach (length (m .memory))) (wordAccess word) m ≡ firstOf stopped (pageMoves w word m l o) (pageRefusals w reach word m l o)
 
 pub hints-step : (w : Window) (m : Machine) (l : Page) (word : ℕ) → wordAccess word ≡ Nothing → Steps w m l word hint
 unfolding accessStep

@@ -43,11 +43,11 @@ use Rattle.session.specs.declared.StepReply.{StepReply}
 use Rattle.session.specs.Lent.{Holding, LeftAs, lentOutcome, lentStep, withRegister}
 use Rattle.session.specs.Watch.{observed, Stored, Watched}
 use Rattle.secrecy.specs.Shows.{Shows}
-use Rattle.execution.specs.Walk.{Log, Result, short, runOf, afterSteps}
+use Rattle.execution.specs.Walk.{Log, Result, short, afterSteps}
 use Rattle.execution.specs.Ends.{Kept, Ends, lastOf, Early}
 use Rattle.execution.specs.Run.{machineRun}
 use Rattle.execution.specs.Secrecy.{Same, Filled, SameRoom, ShowsRun}
-use Rattle.arm.specs.Choices.{badStart, armStep}
+use Rattle.arm.specs.Choices.{armStep, armRun}
 use Rattle.machine.specs.Real.{Real}
 use Rattle.encoder.specs.Exact.{Word}
 use Rattle.ascii.specs.Ascii.{asc, dec}
@@ -143,7 +143,7 @@ pub record Demand2 : Type 0 where
   -- code, address, registers, memory, program counter and marks. It is said of the machines that there are, whose
   -- registers have 64 bits and whose bytes have 8; code holds no others, and a step leaves one
   pub step-as-arm : (w : Window) (word : ℕ) (m : Machine) → Real m → stepOf w word m ≡ armStep w word m
-  pub run-as-arm : (w : Window) (words : List ℕ) (m : Machine) (l : Log) → Real m → machineRun w words m l ≡ runOf (badStart w) (armStep w) words m l
+  pub run-as-arm : (w : Window) (words : List ℕ) (m : Machine) (l : Log) → Real m → machineRun w words m l ≡ armRun w words m l
   pub step-real : (w : Window) (word : ℕ) (m : Machine) → Real m → Real (stepped w word m .machine)
   pub some-real : (m : Machine) × Real m
   -- "Every allocated word of the set has one record and one line of text": a word matches at most one row of 01's

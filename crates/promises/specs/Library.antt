@@ -23,11 +23,11 @@ use Rattle.machine.specs.Step.{Outcome, stepOf, leaves}
 use Rattle.session.specs.declared.StepReply.{StepReply}
 use Rattle.session.specs.Vector.{vectorAt}
 use Rattle.session.specs.Lent.{Holding, lentOutcome, lentStep}
-use Rattle.execution.specs.Walk.{Log, log, Result, runOf, afterSteps}
+use Rattle.execution.specs.Walk.{Log, log, Result, afterSteps}
 use Rattle.execution.specs.Ends.{Early}
 use Rattle.execution.specs.Run.{machineRun}
 use Rattle.execution.specs.Secrecy.{Same, Filled, SameRoom}
-use Rattle.arm.specs.Choices.{badStart, armStep}
+use Rattle.arm.specs.Choices.{armStep, armRun}
 use Rattle.machine.specs.Real.{Real}
 use Rattle.printer.specs.Writing.{writeOf}
 use Rattle.listing.specs.Listing.{listOf}
@@ -185,7 +185,7 @@ pub record Library : Type 0 where
       → stepEnd c .taints ≡ wordRule (c .window .origin) (c .word) (record { code = c .reply .code; address = c .reply .address; status = c .reply .status }) (stepStart c .taints)
   -- a run of the library is demand 2's, and Arm's, likewise
   pub run : (c : RunCall) → RunGives c (machineRun (c .window) (c .words) (runStart c) (lentLog c))
-  pub run-as-arm : (c : RunCall) → Real (runStart c) → RunGives c (runOf (badStart (c .window)) (armStep (c .window)) (c .words) (runStart c) (lentLog c))
+  pub run-as-arm : (c : RunCall) → Real (runStart c) → RunGives c (armRun (c .window) (c .words) (runStart c) (lentLog c))
   -- it answers; with 1 and 10 steps, code and address are 0, and the record and all that is lent are as they were
   pub run-answers : (c : RunCall) → oneOf (0 ∷ 1 ∷ 2 ∷ 3 ∷ 4 ∷ 5 ∷ 6 ∷ 7 ∷ 8 ∷ 10 ∷ []) (c .reply .answer) ≡ true
   pub run-early : (c : RunCall) → Early (c .reply .answer)

@@ -27,10 +27,10 @@ use Rattle.machine.specs.Refusals.{refusalsIn}
 use Rattle.machine.specs.Real.{Real}
 use Rattle.machine.specs.Step.{moved, performed}
 use Rattle.session.specs.Lent.{Holding}
-use Rattle.execution.specs.Walk.{Log, log, Result, short, runOf, afterSteps}
+use Rattle.execution.specs.Walk.{Log, log, Result, short, afterSteps}
 use Rattle.execution.specs.Ends.{Kept, Ends, lastOf, Early}
 use Rattle.execution.specs.Run.{plainWindow, badTurn, turnStep, turnOf}
-use Rattle.arm.specs.Choices.{armStepIn, badTurnStart}
+use Rattle.arm.specs.Choices.{armTurn}
 use Rattle.host.specs.declared.RunReply.{RunReply}
 use Rattle.host.specs.Hosting.{hosted, hostedOf}
 use Rattle.turns.specs.Sight.{In, Allowed, Sees, Framed}
@@ -152,7 +152,7 @@ pub record Plugins : Type 0 where
   pub marks : (origin : ℕ) (r : Ranges) (words : List ℕ) (m : Machine) (l : Log)
       → turnOf origin r words m l .machine .taints ≡ afterSteps (wordRule origin) words (turnOf origin r words m l .log) (turnOf origin r words m l .steps) (m .taints)
   -- and each turn is a run of Arm's steps, with the ranges as one more choice
-  pub turn-as-arm : (origin : ℕ) (r : Ranges) (words : List ℕ) (m : Machine) (l : Log) → Real m → turnOf origin r words m l ≡ runOf (badTurnStart origin r) (armStepIn (plainWindow origin) (Ranged r)) words m l
+  pub turn-as-arm : (origin : ℕ) (r : Ranges) (words : List ℕ) (m : Machine) (l : Log) → Real m → turnOf origin r words m l ≡ armTurn origin r words m l
   -- both see one sequence, so that what follows holds of the other too
   pub either : (origin : ℕ) (r : Ranges) (ts : List Turn) (w : World) → playOf origin (swapped r) (map swapTurn ts) (swapWorld w) .world ≡ swapWorld (playOf origin r ts w .world)
   -- "For a fixed order of turns, change the other plugin's words, program counter, monitor, trace, registers, register marks,
@@ -174,7 +174,7 @@ pub record Plugins : Type 0 where
   -- a turn of the library is such a turn, and Arm's where the machine is one that there is, as all are that code holds
   pub call : (c : TurnCall) → Gives (c .reply) (c .after) (called c)
   pub call-as-arm : (c : TurnCall) → Real (turnStart c)
-      → Gives (c .reply) (c .after) (runOf (badTurnStart (c .origin) (c .ranges)) (armStepIn (plainWindow (c .origin)) (Ranged (c .ranges))) (c .words) (turnStart c) (turnLog c))
+      → Gives (c .reply) (c .after) (armTurn (c .origin) (c .ranges) (c .words) (turnStart c) (turnLog c))
   -- it answers; with 1 and 10 steps, code and address are 0, and the record and all that is lent are as they were
   pub call-answers : (c : TurnCall) → oneOf (0 ∷ 1 ∷ 2 ∷ 3 ∷ 4 ∷ 5 ∷ 6 ∷ 7 ∷ 8 ∷ 10 ∷ 12 ∷ []) (c .reply .answer) ≡ true
   pub call-early : (c : TurnCall) → Early (c .reply .answer)
