@@ -80,7 +80,7 @@ module _ (w : Window) (m : Machine) (r : Ready w m) (word : ℕ) where
   kind-step true e l = vector-step (eqb-true (field 26 26 word) 1 e) l
   kind-step false e l = row-step (general word e) l
 
-  page-step : inSet word ≡ true → undefined word ≡ false → unpredictable word ≡ false
+  pub page-step : inSet word ≡ true → undefined word ≡ false → unpredictable word ≡ false
       → let page = pageOf (eqb (field 26 26 word) 1) (rowOf word) word in Steps w m page word (page .operation word (armOf w m))
   unfolding undefined unpredictable
   page-step t u v = kind-step (eqb (field 26 26 word) 1) refl (rowOf word) (row-has word t) u v (row-access word t u)
@@ -99,7 +99,7 @@ bad-is w m =
     go false false true d = refl
     go false false false d = refl
 
-top-is : (w : Window) (m : Machine) → badStart w m ≡ false → w .origin + length (m .memory) ≤ 2 ^ 64
+pub top-is : (w : Window) (m : Machine) → badStart w m ≡ false → w .origin + length (m .memory) ≤ 2 ^ 64
 unfolding badStart
 top-is w m h = ltb-false (2 ^ 64) (w .origin + length (m .memory)) (first _ _ _ _ h)
   where
@@ -137,7 +137,7 @@ step-in-as-arm w reach word m r =
     ∙ after-bad _ _ (badStart w m)
     (λ e.
     let ready : Ready w m = record { real = r; top = top-is w m e } in
-    after-class _ _ (inSet word) (page-conditions word) (λ t u v. page-step w m ready word t u v reach))
+    after-class _ _ (inSet word) (page-conditions word) (λ t u v. page-step w m ready word t u v .0 reach))
 
 pub step-as-arm : (w : Window) (word : ℕ) (m : Machine) → Real m → stepOf w word m ≡ armStep w word m
 step-as-arm w = step-in-as-arm w Alone

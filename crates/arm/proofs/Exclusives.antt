@@ -116,6 +116,8 @@ module _ (w : Window) (m : Machine) (r : Ready w m) (word : ℕ) (stray : Bool) 
       access-step w m (r .top) (pageOf false StoreExclusiveRow word) word (single false true true false k k t) _ stray address k (pick pass 0 1) (left k pass)
       (record {
         access = e;
+        target = refl;
+        each = refl;
         total = add-zero k;
         mark = p .mark;
         stack = p .stack;

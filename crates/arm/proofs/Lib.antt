@@ -8,5 +8,8 @@ pub mod Families
 pub mod Pairs
 pub mod Exclusives
 pub mod Arm
+pub mod Stack
+pub mod Answers
 pub mod Runs
+pub mod Rules
 pub mod Examples

@@ -116,6 +116,8 @@ module _ (vector : Bool) (w : Window) (m : Machine) (r : Ready w m) (word : ℕ)
       access-step w m (r .top) (pageOf vector PairRow word) word (double vector false k extent t t2) a stray address (2 * k) 0 (loaded k width g)
       (record {
         access = e;
+        target = refl;
+        each = omega arith;
         total = omega arith;
         mark = f .placed .mark;
         stack = f .placed .stack;
@@ -155,6 +157,8 @@ module _ (vector : Bool) (w : Window) (m : Machine) (r : Ready w m) (word : ℕ)
       access-step w m (r .top) (pageOf vector PairRow word) word (double vector true k extent t t2) a stray address (2 * k) 0 (stored k)
       (record {
         access = e;
+        target = refl;
+        each = omega arith;
         total = omega arith;
         mark = f .placed .mark;
         stack = f .placed .stack;

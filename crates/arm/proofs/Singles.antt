@@ -207,6 +207,8 @@ module _ (w : Window) (m : Machine) (r : Ready w m) (l : Page) (word : ℕ) (a :
       access-step w m (r .top) l word (single (l .vector) exclusive false ordered k extent t) a stray address k 0 (loaded k width g)
       (record {
         access = e;
+        target = refl;
+        each = rw alone;
         total = add-zero k;
         mark = f .placed .mark;
         stack = f .placed .stack;
@@ -253,6 +255,8 @@ module _ (w : Window) (m : Machine) (r : Ready w m) (l : Page) (word : ℕ) (a :
       access-step w m (r .top) l word (single (l .vector) false true ordered k extent t) a stray address k 0 (stored k)
       (record {
         access = e;
+        target = refl;
+        each = rw alone;
         total = add-zero k;
         mark = f .placed .mark;
         stack = f .placed .stack;

@@ -1,7 +1,7 @@
 -- The step of one access is that of a page, from a record of what the two agree on (`Agreed`): the tests by cases, then the
 -- effect. `hints-step` and `access-step` are what the families use. Assumes nothing.
 use Prim.Native.Nat.{ℕ, _+_, _-_, _/_, _%_, _^_, _≤_, _<_}
-use mathlib.Core.Path.{_≡_, refl, ap, _∙_}
+use mathlib.Core.Path.{_≡_, refl, ap, subst, _∙_}
 use mathlib.Core.Bool.{Bool, true, false, _&&_, _||_, not}
 use mathlib.Core.List.{List}
 use native.Mathlib.Omega.{arith}
@@ -9,11 +9,15 @@ use lib.Dec.{ltb, leb, eqb}
 use lib.ListN.{length, getD}
 use borrow.Author.Tests.{ltb-true, ltb-false, lt-ltb, le-ltb, leb-true, leb-false, eqb-true, eqb-false, not-false}
 use Rattle.bits.specs.Choice.{pick}
+use Rattle.bits.specs.Fields.{field}
 use Rattle.bits.proofs.Choices.{both}
 use Rattle.instruction.specs.declared.answer.Answer.the-variants.{TaintedAddress, Misaligned, OutOfWindow}
 use Rattle.access.specs.declared.transfer.Transfer.{Transfer}
 use Rattle.access.specs.declared.addressing.Addressing.{Addressing}
+use Rattle.access.specs.declared.Access.{Access}
 use Rattle.access.specs.declared.Access.the-variants.{Nothing, Moves}
+use Rattle.access.proofs.Bounds.{Bounded, Within, bounded, Moving, moving}
+use Rattle.vectors.specs.File.{vectorSlot}
 use Rattle.plan.specs.declared.window.Window.{Window}
 use Rattle.plan.specs.Address.{sumOf, addressOf}
 use Rattle.plan.specs.declared.ranges.Range.{Range}
@@ -36,6 +40,7 @@ use Rattle.arm.specs.Marks.{marksOf}
 use Rattle.arm.specs.Pages.{Page}
 use Rattle.arm.specs.Choices.{marked, misplaced, outOf, shut, liesIn, reachRefusals, pageRefusals, afterPage, pageMoves}
 use Rattle.machine.specs.Real.{Real}
+use Rattle.arm.proofs.Places.{slot}
 
 -- a machine that there is, in a window that answer 1 passes
 pub record Ready (w : Window) (m : Machine) : Type 0 where
@@ -152,13 +157,32 @@ same-plan : (F : Bool → Bool → Bool → Bool → ℕ → Step Machine) {p p�
     → F p q r s x ≡ F p′ q′ r′ s′ x′
 same-plan F e f g k h = rw (e, f, g, k, h)
 
+-- the access that a page makes, as the machine has it: so many bytes of Rt, of a pair half of them
+pub record Moved (l : Page) (word : ℕ) (store : Bool) (size : ℕ) : Type 0 where
+  pub transfer : Transfer
+  pub addressing : Addressing
+  pub access : wordAccess word ≡ Moves transfer addressing
+  pub stores : transfer .store ≡ store
+  pub target : transfer .target ≡ slot (l .vector) (field 4 0 word)
+  pub each : transfer .bytes ≡ pick (l .paired) (size / 2) size
+  pub total : totalOf transfer ≡ size
+  pub some : 0 < size
+  pub few : size < 64
+
+abbrev pub Made : Page → ℕ → Operation → Type 0
+Made l word hint = Unit {0}
+Made l word (spFault sp) = Unit {0}
+Made l word (access store address size status s) = Moved l word store size
+
 -- the step of a word is that of its page, whatever may be reached
 abbrev pub Steps : Window → Machine → Page → ℕ → Operation → Type 0
-Steps w m l word o = (reach : Reach) → accessStep (w .origin) (admitIn w reach (length (m .memory))) (wordAccess word) m ≡ firstOf stopped (pageMoves w word m l o) (pageRefusals w reach word m l o)
+Steps w m l word o =
+    ((reach : Reach) → accessStep (w .origin) (admitIn w reach (length (m .memory))) (wordAccess word) m ≡ firstOf stopped (pageMoves w word m l o) (pageRefusals w reach word m l o))
+    × Made l word o
 
 pub hints-step : (w : Window) (m : Machine) (l : Page) (word : ℕ) → wordAccess word ≡ Nothing → Steps w m l word hint
 unfolding accessStep
-hints-step w m l word e reach = rw e
+hints-step w m l word e = ((λ reach. rw e), tt)
 
 -- what a page comes to whose stack pointer is not aligned, or is
 abbrev pub faulty : Machine → Bool → Operation → Operation
@@ -167,6 +191,8 @@ faulty m stray o = pick stray (spFault (getD (m .values) 31 0)) o
 -- what an access and a page agree on
 pub record Agreed (w : Window) (m : Machine) (l : Page) (word : ℕ) (t : Transfer) (a : Addressing) (stray : Bool) (address size status : ℕ) (after : Arm) : Type 0 where
   pub access : wordAccess word ≡ Moves t a
+  pub target : t .target ≡ slot (l .vector) (field 4 0 word)
+  pub each : t .bytes ≡ pick (l .paired) (size / 2) size
   pub total : totalOf t ≡ size
   pub mark : operandsOf a m .tainted ≡ marked l word m
   pub stack : misalignedStack (a .base) (operandsOf a m .base) ≡ stray
@@ -239,10 +265,36 @@ module _ (w : Window) (m : Machine) (top : w .origin + length (m .memory) ≤ 2 
       ∙ planned base (getD (m .values) 31 0) address (codeOf t) status (made address status) left (marked l word m) stray
       (misplaced (l .alignment) address size) o (fence reach size address) (barred w reach (t .store) address size) (g .pointer) (gate reach) effect
 
+  narrow : Bounded t → (z : Bool) → vectorSlot (t .target) ≡ z → t .extent ≤ 16
+  narrow b true e = b .vector e .extent
+  narrow b false e = omega (arith, b .general e .0)
+
+  few : (x : Access) → x ≡ Moves t a → Within x → Moving x → (0 < totalOf t) × (totalOf t < 64)
+  few x e within moving =
+      let b = subst Within e within .0 in
+      let some = subst Moving e moving .0 in
+      let top = narrow b (vectorSlot (t .target)) refl in
+      (omega (arith, some), omega (arith, b .wide, b .wider, top))
+
+  moved-by : (store : Bool) → t .store ≡ store → Moved l word store size
+  moved-by store e =
+      let (some, most) = few (wordAccess word) (g .access) (bounded word) (moving word) in
+      record {
+        transfer = t;
+        addressing = a;
+        access = g .access;
+        stores = e;
+        target = g .target;
+        each = g .each;
+        total = g .total;
+        some = rw (g .total) at some;
+        few = rw (g .total) at most;
+      }
+
   -- with the test of the stack pointer, and what the page then does
   paged : (b store : Bool) → t .store ≡ store → stray ≡ b → Steps w m l word (faulty m b (access store address size status after))
-  paged true store e f reach = rw (g .total, e, f) at (step reach)
-  paged false store e f reach = rw (g .total, e, f) at (step reach)
+  paged true store e f = ((λ reach. rw (g .total, e, f) at (step reach)), tt)
+  paged false store e f = ((λ reach. rw (g .total, e, f) at (step reach)), moved-by store e)
 
   pub access-step : (store : Bool) → t .store ≡ store → Steps w m l word (faulty m stray (access store address size status after))
   access-step store e = paged stray store e refl

@@ -17,6 +17,8 @@ use Rattle.plan.specs.declared.ranges.Reach.{Reach}
 use Rattle.plan.specs.declared.ranges.Reach.the-variants.{Alone, Ranged}
 use Rattle.plan.specs.Refusals.{Refusal, refusal, firstOf}
 use Rattle.plan.specs.Ranges.{range, share, badRanges}
+use Rattle.machine.specs.declared.Shown.{Shown}
+use Rattle.machine.specs.Rule.{Taints}
 use Rattle.machine.specs.Machine.{Machine}
 use Rattle.machine.specs.Step.{shown, Step, stopped, moved}
 use Rattle.execution.specs.Walk.{Log, Result, runOf}
@@ -125,6 +127,9 @@ unfoldable pub armStepIn : Window → Reach → ℕ → Machine → Step Machine
 armStepIn w reach word m = firstOf stopped (pageMoves w word m (wordPage word) (operationOf w word m)) (armRefusalsIn w reach word m)
 
 -- of a plugin alone
+abbrev pub armRefusals : Window → ℕ → Machine → List Refusal
+armRefusals w = armRefusalsIn w Alone
+
 abbrev pub armStep : Window → ℕ → Machine → Step Machine
 armStep w = armStepIn w Alone
 
@@ -142,3 +147,10 @@ armTurnStep origin r = armStepIn (plainWindow origin) (Ranged r)
 -- a run that reaches what ranges allow
 abbrev pub armTurn : ℕ → Ranges → List ℕ → Machine → Log → Result Machine
 armTurn origin r = runOf (badTurnStart origin r) (armTurnStep origin r)
+
+-- the rule of marks for a word and what its step shows: none is moved where no byte is touched
+unfoldable pub markRule : ℕ → ℕ → Shown → Taints → Taints
+markRule origin word shown p =
+    let page = wordPage word in
+    pick (eqb (shown .code) 0) p
+    (marksOf (page .vector) (page .paired) (page .wback) (page .status) (leb 64 (shown .code)) (shown .status) (page .extent) origin word (shown .address) (shown .code % 64) p)

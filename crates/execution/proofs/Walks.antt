@@ -192,23 +192,29 @@ module _ {B : Type 0} (rule : ℕ → Shown → B → B) where
   after-log ws t u n (suc j) b e f h =
       rw (same-at (t .trace) (u .trace) (n * 2) (j * 2) e (omega arith), same-at (t .trace) (u .trace) (n * 2) (j * 2 + 1) e (omega arith), same-at (t .statuses) (u .statuses) n j f (omega arith), after-log ws t u n j b e f (omega arith))
 
-module _ {A B : Type 0} (part : A → B) (rule : ℕ → Shown → B → B) (f : ℕ → A → Step A) (follows : (w : ℕ) (m : A) → Follows part (rule w) m (f w m)) where
+-- a step that moves leaves a machine of which this holds
+abbrev pub Leaves : {A : Type 0} → (A → Type 0) → Step A → Type 0
+Leaves P (stopped answer address) = Unit {0}
+Leaves P (moved n s) = P n
+
+-- of machines of which something holds that every step keeps
+module _ {A B : Type 0} (P : A → Type 0) (part : A → B) (rule : ℕ → Shown → B → B) (f : ℕ → A → Step A) (keeps : (w : ℕ) (m : A) → P m → Leaves P (f w m)) (follows : (w : ℕ) (m : A) → P m → Follows part (rule w) m (f w m)) where
   abbrev Ruled : List ℕ → B → Walked A → Type 0
   Ruled ws b t = part (t .machine) ≡ afterSteps rule ws (logOf (t .done)) (length (t .done)) b
 
-  go-rule : (w : ℕ) (ws : List ℕ) (m : A) (rest : A → Shown → Walked A) → ((n : A) (s : Shown) → Ruled ws (part n) (rest n s)) → (s : Step A) → Follows part (rule w) m s → Ruled (w ∷ ws) (part m) (goOn m rest s)
+  go-rule : (w : ℕ) (ws : List ℕ) (m : A) (rest : A → Shown → Walked A) → ((n : A) (s : Shown) → P n → Ruled ws (part n) (rest n s)) → (s : Step A) → Leaves P s → Follows part (rule w) m s → Ruled (w ∷ ws) (part m) (goOn m rest s)
   unfolding afterSteps
-  go-rule w ws m rest k (stopped answer address) e = refl
-  go-rule w ws m rest k (moved n s) e =
+  go-rule w ws m rest k (stopped answer address) h e = refl
+  go-rule w ws m rest k (moved n s) h e =
       let d = rest n s .done in
-      k n s ∙ ap (afterSteps rule ws (logOf d) (length d)) e ∙ sym (after-cons rule w ws s d (length d) (part m))
+      k n s h ∙ ap (afterSteps rule ws (logOf d) (length d)) e ∙ sym (after-cons rule w ws s d (length d) (part m))
 
-  walk-rule : (ws : List ℕ) (m : A) (last : Shown) → Ruled ws (part m) (walkOf f ws m last)
+  walk-rule : (ws : List ℕ) (m : A) (last : Shown) → P m → Ruled ws (part m) (walkOf f ws m last)
   unfolding walkOf afterSteps
-  walk-rule [] m last = refl
-  walk-rule (w ∷ ws) m last = go-rule w ws m (walkOf f ws) (walk-rule ws) (f w m) (follows w m)
+  walk-rule [] m last h = refl
+  walk-rule (w ∷ ws) m last h = go-rule w ws m (walkOf f ws) (walk-rule ws) (f w m) (keeps w m h) (follows w m h)
 
-  module _ (bad : A → Bool) (ws : List ℕ) (m : A) (l : Log) where
+  module _ (bad : A → Bool) (ws : List ℕ) (m : A) (l : Log) (h : P m) where
     begun-rule : short ws l ≡ false
         → let t = glue 0 l (walkOf f ws m (shown 0 0 0)) in
         part (t .machine) ≡ afterSteps rule ws (t .log) (t .steps) (part m)
@@ -219,7 +225,7 @@ module _ {A B : Type 0} (part : A → B) (rule : ℕ → Shown → B → B) (f :
         let statuses : n ≡ length (statusesOf d) = rw (zero-add, statuses-long d) in
         let trace : take (n * 2) (numbersOf d) ≡ take (n * 2) (logged 0 l d .trace) = ap (λ (k : ℕ). take k (numbersOf d)) numbers ∙ take-length (numbersOf d) ∙ sym (trace-begins f ws m l e) in
         let rest : take n (statusesOf d) ≡ take n (logged 0 l d .statuses) = ap (λ (k : ℕ). take k (statusesOf d)) statuses ∙ take-length (statusesOf d) ∙ sym (statuses-begin f ws m l e) in
-        walk-rule ws m (shown 0 0 0) ∙ ap (λ (k : ℕ). afterSteps rule ws (logOf d) k (part m)) (sym (zero-add (length d))) ∙ after-log rule ws (logOf d) (logged 0 l d) n n (part m) trace rest (omega arith)
+        walk-rule ws m (shown 0 0 0) h ∙ ap (λ (k : ℕ). afterSteps rule ws (logOf d) k (part m)) (sym (zero-add (length d))) ∙ after-log rule ws (logOf d) (logged 0 l d) n n (part m) trace rest (omega arith)
 
     abbrev ran : Result A
     ran = runOf bad f ws m l
@@ -231,8 +237,17 @@ module _ {A B : Type 0} (part : A → B) (rule : ℕ → Shown → B → B) (f :
     run-rule-at false false e g = rw (e, g) (begun-rule g)
 
     -- a rule that each step done follows is followed by the whole run
-    pub run-rule : part (runOf bad f ws m l .machine) ≡ afterSteps rule ws (runOf bad f ws m l .log) (runOf bad f ws m l .steps) (part m)
-    run-rule = run-rule-at (bad m) (short ws l) refl refl
+    pub run-rule-in : part (runOf bad f ws m l .machine) ≡ afterSteps rule ws (runOf bad f ws m l .log) (runOf bad f ws m l .steps) (part m)
+    run-rule-in = run-rule-at (bad m) (short ws l) refl refl
+
+-- of all
+module _ {A B : Type 0} (part : A → B) (rule : ℕ → Shown → B → B) (f : ℕ → A → Step A) (follows : (w : ℕ) (m : A) → Follows part (rule w) m (f w m)) where
+  anything : (s : Step A) → Leaves (λ m. Unit {0}) s
+  anything (stopped answer address) = tt
+  anything (moved n s) = tt
+
+  pub run-rule : (bad : A → Bool) (ws : List ℕ) (m : A) (l : Log) → part (runOf bad f ws m l .machine) ≡ afterSteps rule ws (runOf bad f ws m l .log) (runOf bad f ws m l .steps) (part m)
+  run-rule bad ws m l = run-rule-in (λ m. Unit {0}) part rule f (λ w m h. anything (f w m)) (λ w m h. follows w m) bad ws m l tt
 
 -- ---- a part of the machine that no step changes
 
