@@ -407,43 +407,30 @@ module _ (w : Window) (m : Machine) (r : Ready w m) (word : ℕ) where
     shared wback true h e = by wback true h refl e
     shared wback false h e = by wback false h refl e
 
-    -- what the page does in a mode
-    abbrev inMode : ℕ → Operation
-    inMode mode =
-        let s = armOf w m in
-        pick (eqb mode 0b01) (paired true true word s) (pick (eqb mode 0b11) (paired true false word s) (paired false false word s))
-
-    modes : (mode : ℕ) → mode < 4 → field 24 23 word ≡ mode → wordAccess word ≡ accessIn 0 mode → Steps w m (pageOf false PairRow word) word (inMode mode)
-    unfolding modeAt part
+    modes : (mode : ℕ) → mode < 4 → field 24 23 word ≡ mode → wordAccess word ≡ accessIn 0 mode → Steps w m (pageOf false PairRow word) word (pair mode word (armOf w m))
+    unfolding pair modeAt part
     modes =
-        four (λ mode. field 24 23 word ≡ mode → wordAccess word ≡ accessIn 0 mode → Steps w m (pageOf false PairRow word) word (inMode mode))
+        four (λ mode. field 24 23 word ≡ mode → wordAccess word ≡ accessIn 0 mode → Steps w m (pageOf false PairRow word) word (pair mode word (armOf w m)))
         (λ f e. shared false false (rw (low-mode 0 f)) e)
         (λ f e. shared true true (rw (low-mode 1 f)) e)
         (λ f e. shared false false (rw (low-mode 2 f)) e)
         (λ f e. shared true false (rw (low-mode 3 f)) e)
 
-    pub pair-step : wordAccess word ≡ familyAccess (columnsOf PairRow .family word) → Steps w m (pageOf false PairRow word) word (pair word (armOf w m))
-    unfolding pair
+    pub pair-step : wordAccess word ≡ familyAccess (columnsOf PairRow .family word) → Steps w m (pageOf false PairRow word) word (pair (field 24 23 word) word (armOf w m))
     pair-step e = modes (field 24 23 word) (part-lt 23 2 word) refl (in-word 0 g e)
 
   module _ (g : field 26 26 word ≡ 1) (u : undefinedPair word ≡ false) where
     vector-by : (wback postindex : Bool) → eqb (field 23 23 word) 1 ≡ wback → VectorPaged w m word wback postindex (field 31 30 word) (field 22 22 word)
     vector-by wback postindex h = all-vectors wback postindex h (field 31 30 word) (field 22 22 word) (part-lt 30 2 word) (part-lt 22 1 word) (no-three u)
 
-    abbrev vectorInMode : ℕ → Operation
-    vectorInMode mode =
-        let s = armOf w m in
-        pick (eqb mode 0b01) (vectorPaired true true word s) (pick (eqb mode 0b11) (vectorPaired true false word s) (vectorPaired false false word s))
-
-    vector-modes : (mode : ℕ) → mode < 4 → field 24 23 word ≡ mode → wordAccess word ≡ accessIn 1 mode → Steps w m (pageOf true PairRow word) word (vectorInMode mode)
-    unfolding vectorPaired modeAt
+    vector-modes : (mode : ℕ) → mode < 4 → field 24 23 word ≡ mode → wordAccess word ≡ accessIn 1 mode → Steps w m (pageOf true PairRow word) word (vectorPair mode word (armOf w m))
+    unfolding vectorPair vectorPaired modeAt
     vector-modes =
-        four (λ mode. field 24 23 word ≡ mode → wordAccess word ≡ accessIn 1 mode → Steps w m (pageOf true PairRow word) word (vectorInMode mode))
+        four (λ mode. field 24 23 word ≡ mode → wordAccess word ≡ accessIn 1 mode → Steps w m (pageOf true PairRow word) word (vectorPair mode word (armOf w m)))
         (λ f e. vector-by false false (rw (low-mode 0 f)) refl e)
         (λ f e. vector-by true true (rw (low-mode 1 f)) refl e)
         (λ f e. vector-by false false (rw (low-mode 2 f)) refl e)
         (λ f e. vector-by true false (rw (low-mode 3 f)) refl e)
 
-    pub vector-pair-step : wordAccess word ≡ familyAccess (columnsOf PairRow .family word) → Steps w m (pageOf true PairRow word) word (vectorPair word (armOf w m))
-    unfolding vectorPair
+    pub vector-pair-step : wordAccess word ≡ familyAccess (columnsOf PairRow .family word) → Steps w m (pageOf true PairRow word) word (vectorPair (field 24 23 word) word (armOf w m))
     vector-pair-step e = vector-modes (field 24 23 word) (part-lt 23 2 word) refl (in-word 1 g e)

@@ -81,7 +81,7 @@ module _ (s : Arm) (l : length (s .registers) ≡ 64) where
 
   pub set-r : (vector : Bool) (n width v : ℕ) → 0 < width → v < 2 ^ width → setR vector n width v s ≡ withRegisters (set (s .registers) (slot vector n) v) s
   unfolding setVec
-  set-r true n width v p h = ap (λ (x : ℕ). withRegisters (set (s .registers) (firstVector + n) x) s) (zero-extend width 128 v p h)
+  set-r true n width v p h = ap (λ (x : ℕ). withRegisters (set (s .registers) (firstVector + n) x) s) (omega (arith, zero-extend width 128 v p h))
   set-r false n width v p h = set-x s l n width v p h
 
 pub r-memory : (vector : Bool) (n width v : ℕ) (s : Arm) → setR vector n width v s .memory ≡ s .memory

@@ -77,12 +77,13 @@ pageOf vector LiteralRow word =
     (pick vector (vectorLiteralUndefined opc) false) false
 pageOf vector PairRow word =
     let opc = field 31 30 word in
+    let mode = field 24 23 word in
     let L = field 22 22 word in
     let t2 = field 14 10 word in
     let n = field 9 5 word in
     let t = field 4 0 word in
-    page vector (pick vector vectorPair pair) true false true (pairWback word) false anywhere (opcExtent vector opc)
-    (pick vector (vectorPairUndefined opc) (pairUndefined (field 24 23 word) opc L))
+    page vector (pick vector (vectorPair mode) (pair mode)) true false true (pairWback word) false anywhere (opcExtent vector opc)
+    (pick vector (vectorPairUndefined opc) (pairUndefined mode opc L))
     (pick vector (vectorPairOverlaps L t t2) (pairOverlaps (pairWback word) L n t t2))
 pageOf vector OrderedRow word =
     let size = field 31 30 word in

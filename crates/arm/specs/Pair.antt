@@ -49,9 +49,8 @@ paired wback postindex word s =
     hint
 
 -- mode 01 is post-index, 11 pre-index; 10 has an offset alone, and so has 00, without allocation
-unfoldable pub pair : ℕ → Arm → Operation
-pair word s =
-    let mode = field 24 23 word in
+unfoldable pub pair : ℕ → ℕ → Arm → Operation
+pair mode word s =
     pick (eqb mode 0b01) (paired true true word s)
     (pick (eqb mode 0b11) (paired true false word s)
     (paired false false word s))

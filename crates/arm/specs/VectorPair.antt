@@ -40,9 +40,8 @@ vectorPaired wback postindex word s =
     hint
 
 -- mode 01 is post-index, 11 pre-index; 10 has an offset alone, and so has 00, without allocation
-unfoldable pub vectorPair : ℕ → Arm → Operation
-vectorPair word s =
-    let mode = field 24 23 word in
+unfoldable pub vectorPair : ℕ → ℕ → Arm → Operation
+vectorPair mode word s =
     pick (eqb mode 0b01) (vectorPaired true true word s)
     (pick (eqb mode 0b11) (vectorPaired true false word s)
     (vectorPaired false false word s))
