@@ -18,31 +18,36 @@ run-spec =
     (λ c κs. search needs)
     (λ c κs. search needs)
     (λ c.
-    let a = c .before .before .before .before .before .before .before .before .args in
+    let window = c .before in
+    let a = window .before .before .before .before .before .before .before .args in
     let m = machineOf (a .state) (a .vectors .now) (a .vector-taint .now) (a .memory .now) (a .taint .now) in
     let lent = log (a .trace .now) (a .statuses .now) in
-    let fine = sym (c .before .before .is-bad .ensures) ∙ c .before .if1 .taken in
-    promised (a .window) (a .words .now) m lent (run-bad (bad (a .window)) (stepOf (a .window)) (a .words .now) m lent (c .not-begun .ensures (a .vectors .now) (a .vector-taint .now) _ _ _ _) fine))
+    promised (a .window) (a .words .now) m lent
+    (run-bad (bad (a .window)) (stepOf (a .window)) (a .words .now) m lent (c .not-begun .ensures (a .vectors .now) (a .vector-taint .now) _ _ _ _) (sym (window .before .is-bad .ensures) ∙ window .if1 .taken)))
     (λ c κs. search needs)
     (λ c κs. search needs)
     (λ c.
-    let a = c .before .before .before .before .before .before .before .before .before .before .args in
+    let room = c .before in
+    let window = room .before .before in
+    let a = window .before .before .before .before .before .before .before .args in
     let m = machineOf (a .state) (a .vectors .now) (a .vector-taint .now) (a .memory .now) (a .taint .now) in
     let lent = log (a .trace .now) (a .statuses .now) in
-    let fine = sym (c .before .before .before .before .is-bad .ensures) ∙ c .before .before .before .if1 .left in
-    let short = sym (c .before .before .is-short .ensures) ∙ c .before .if2 .taken in
-    promised (a .window) (a .words .now) m lent (run-short (bad (a .window)) (stepOf (a .window)) (a .words .now) m lent (c .not-begun2 .ensures (a .vectors .now) (a .vector-taint .now) _ _ _ _) fine short))
+    promised (a .window) (a .words .now) m lent
+    (run-short (bad (a .window)) (stepOf (a .window)) (a .words .now) m lent (c .not-begun2 .ensures (a .vectors .now) (a .vector-taint .now) _ _ _ _) (sym (window .before .is-bad .ensures) ∙ window .if1 .left) (sym (room .before .is-short .ensures) ∙ room .if2 .taken)))
     (λ c κs.
-    let a = c .before .before .before .before .before .before .before .before .before .before .before .before .before .before .before .args in
-    long-enough (a .words .now) (log (a .trace .now) (a .statuses .now)) (sym (c .before .before .before .before .before .before .before .is-short .ensures) ∙ c .before .before .before .before .before .before .if2 .left))
+    let room = c .before .before .before .before .before .before in
+    let a = room .before .before .before .before .before .before .before .before .before .args in
+    long-enough (a .words .now) (log (a .trace .now) (a .statuses .now)) (sym (room .before .is-short .ensures) ∙ room .if2 .left))
     (λ c. search needs)
     (λ c. search needs)
     (λ c. search needs)
     (λ c. search needs)
     (λ c.
-    let a = c .before .before .before .before .before .before .before .before .before .before .before .before .before .before .before .before .before .before .before .before .before .before .before .before .args in
+    let walked = c .before .before .before .before .before .before .before .before in
+    let room = walked .before .before .before .before .before .before .before in
+    let window = room .before .before in
+    let a = window .before .before .before .before .before .before .before .args in
     let m = machineOf (a .state) (a .vectors .now) (a .vector-taint .now) (a .memory .now) (a .taint .now) in
     let lent = log (a .trace .now) (a .statuses .now) in
-    let fine = sym (c .before .before .before .before .before .before .before .before .before .before .before .before .before .before .before .before .before .before .is-bad .ensures) ∙ c .before .before .before .before .before .before .before .before .before .before .before .before .before .before .before .before .before .if1 .left in
-    let room = sym (c .before .before .before .before .before .before .before .before .before .before .before .before .before .before .before .before .is-short .ensures) ∙ c .before .before .before .before .before .before .before .before .before .before .before .before .before .before .before .if2 .left in
-    promised (a .window) (a .words .now) m lent (run-begun (bad (a .window)) (stepOf (a .window)) (a .words .now) m lent (c .before .before .before .before .before .before .before .before .walk .ensures) fine room)))
+    promised (a .window) (a .words .now) m lent
+    (run-begun (bad (a .window)) (stepOf (a .window)) (a .words .now) m lent (walked .walk .ensures) (sym (window .before .is-bad .ensures) ∙ window .if1 .left) (sym (room .before .is-short .ensures) ∙ room .if2 .left))))

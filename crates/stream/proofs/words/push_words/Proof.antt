@@ -19,8 +19,11 @@ push-words-spec =
     (λ c κs. search needs)
     (λ c κs. search needs)
     (λ c.
-    let entry = c .before .before .before .before .before .before .before in
-    rw (c .refuse .ensures) (push-short (entry .args .lister) (entry .args .fragment .now) (entry .args .output .now) (entry .pre .0) (entry .pre .1) (c .before .before .before .first-line .ensures .1) (c .before .if1 .taken)))
+    let room = c .before in
+    let first = room .before .before in
+    let entry = first .before .before .before .before in
+    let a = entry .args in
+    rw (c .refuse .ensures) (push-short (a .lister) (a .fragment .now) (a .output .now) (entry .pre .0) (entry .pre .1) (first .first-line .ensures .1) (room .if1 .taken)))
     (λ c. search needs)
     (λ c. search needs)
     (λ c. search needs)
@@ -36,9 +39,14 @@ push-words-spec =
     (λ c κs. search needs)
     (λ c. search needs)
     (λ c.
-    let entry = c .before .before .before .before .before .before .before .before .before .before .before .before .before .before .before in
-    let first = c .before .before .before .before .before .before .before .before .before .before .before .first-line .ensures .1 in
-    rw (c .refuse2 .ensures) (push-not (entry .args .lister) (entry .args .fragment .now) (entry .args .output .now) (entry .pre .0) (entry .pre .1) first (c .before .before .before .before .before .before .before .before .before .if1 .left) (c .before .before .before .before .before .list .ensures) (c .before .before .answer-number .ensures .0) (c .before .if2 .taken)))
+    let tested = c .before in
+    let listed = tested .before .before .before .before in
+    let room = listed .before .before .before .before in
+    let first = room .before .before in
+    let entry = first .before .before .before .before in
+    let a = entry .args in
+    rw (c .refuse2 .ensures)
+    (push-not (a .lister) (a .fragment .now) (a .output .now) (entry .pre .0) (entry .pre .1) (first .first-line .ensures .1) (room .if1 .left) (listed .list .ensures) (tested .before .answer-number .ensures .0) (tested .if2 .taken)))
     (λ c. search needs)
     (λ c. search needs)
     (λ c. search needs)
@@ -48,15 +56,24 @@ push-words-spec =
     (λ c. search needs)
     (λ c κs. search needs)
     (λ c.
-    let output = c .before .before .before .before .before .before .before .before .before .before .before .before .before .before .before .before .before .before .before .before .before .before .before .args .output .now in
-    let start = c .before .before .before .before .before .before .before .before .before .before .before .before .before .before .before .before .before .before .before .first-line .result in
-    let done = copied-done _ _ (c .before .before .before .before .before .before .before .before .before .before .before .before .before .list .ensures) (c .before .before .before .before .before .before .before .before .before .before .answer-number .ensures .0) (c .before .before .before .before .before .before .before .before .before .if2 .left) in
+    let tested = c .before .before .before .before .before .before .before .before .before in
+    let listed = tested .before .before .before .before in
+    let room = listed .before .before .before .before in
+    let first = room .before .before in
+    let entry = first .before .before .before .before in
+    let output = entry .args .output .now in
+    let start = first .first-line .result in
+    let done = copied-done _ _ (listed .list .ensures) (tested .before .answer-number .ensures .0) (tested .if2 .left) in
     let left = length-take-le (length output - start) (drop start output) (omega (arith, length-drop start output)) in
-    let all : start + c .before .before .before .before .before .before .before .before .before .before .before .before .before .list .result .length ≤ length output = omega (arith, done .0, done .1, left, c .before .before .before .before .before .before .before .before .before .before .before .before .before .before .before .before .before .if1 .left) in
-    omega (arith, all, c .before .before .before .before .before .before .before .before .before .before .before .before .before .before .before .before .before .before .before .before .before .before .before .good))
+    let all : start + listed .list .result .length ≤ length output = omega (arith, done .0, done .1, left, room .if1 .left) in
+    omega (arith, all, entry .good))
     (λ c. search needs)
     (λ c.
-    let entry = c .before .before .before .before .before .before .before .before .before .before .before .before .before .before .before .before .before .before .before .before .before .before .before in
-    let first = c .before .before .before .before .before .before .before .before .before .before .before .before .before .before .before .before .before .before .before .first-line .ensures in
-    let shown = push-is (entry .args .lister) (entry .args .fragment .now) (entry .args .output .now) (entry .pre .0) (entry .pre .1) (first .1) (c .before .before .before .before .before .before .before .before .before .before .before .before .before .before .before .before .before .if1 .left) (c .before .before .before .before .before .before .before .before .before .before .before .before .before .list .ensures) (c .before .before .before .before .before .before .before .before .before .before .answer-number .ensures .0) (first .2) (c .before .before .before .before .before .before .before .before .before .if2 .left) in
-    rw (c .before .kept .ensures, c .before .before .before .before .before .put-text .ensures .text, sub-zero) shown))
+    let tested = c .before .before .before .before .before .before .before .before .before in
+    let listed = tested .before .before .before .before in
+    let room = listed .before .before .before .before in
+    let first = room .before .before in
+    let entry = first .before .before .before .before in
+    let a = entry .args in
+    rw (c .before .kept .ensures, c .before .before .before .before .before .put-text .ensures .text, sub-zero)
+    (push-is (a .lister) (a .fragment .now) (a .output .now) (entry .pre .0) (entry .pre .1) (first .first-line .ensures .1) (room .if1 .left) (listed .list .ensures) (tested .before .answer-number .ensures .0) (first .first-line .ensures .2) (tested .if2 .left))))
