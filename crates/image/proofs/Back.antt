@@ -3,24 +3,22 @@ use Prim.Native.Nat.{ℕ, zero, suc, _+_, _-_, _*_, _/_, _%_, _^_, _≤_, _<_}
 use mathlib.Core.Path.{_≡_, refl, sym, ap, _∙_}
 use mathlib.Core.Bool.{Bool, true, false}
 use mathlib.Core.List.{List, [], _∷_, _++_}
-use native.Mathlib.Nat.{add-zero, add-suc}
 use native.Mathlib.Omega.{arith}
 use borrow.Author.Tests.{eqb-true, le-ltb, lt-leb}
-use lib.Dec.{eqb, ltb, leb}
+use lib.Dec.{eqb}
 use lib.ListN.{length, getD, take, drop, set, replicate, length-append, length-take, length-drop, take-append-drop, replicate-append-replicate, length-replicate}
 use lib.Seq.{sets}
 use Rattle.bits.specs.Choice.{pick}
 use Rattle.bits.proofs.Choices.{tested}
 use Rattle.bits.proofs.Lists.{sets-append}
 use Rattle.instruction.specs.declared.answer.Answer.the-variants.{Done}
-use Rattle.instruction.specs.Answers.{answerNumber}
 use Rattle.plan.specs.declared.window.Window.{Window}
 use Rattle.plan.specs.Window.{badWindow}
 use Rattle.plan.specs.Refusals.{answerIn}
 use Rattle.image.specs.Lines.{linesOf, digitOf, byteIn, countIn}
 use Rattle.image.specs.Records.{typeIn, sumIn, isEnd, badCount, badType, upperAfter, placed, placesIn, placesOf}
 use Rattle.image.specs.Import.{reply, beyond, anyBeyond, faultsIn, checked, replyOf, put, puts, clears, outcome, importOf}
-use Rattle.image.specs.Hex.{lineText, upperText, dataText, upperDigits, lowerDigits, hexIn, hexOf, AllBytes}
+use Rattle.image.specs.Hex.{lineText, upperText, dataText, upperDigits, lowerDigits, hexOf, AllBytes}
 use Rattle.image.specs.route.Rest.{begins, behind}
 use Rattle.image.proofs.Steps.{check-line, places-first, puts-append, clears-append}
 use Rattle.image.proofs.Written.{lineThen, line-then, line-count, line-begins, line-behind, line-high, line-low, line-type, line-data-at, line-data, line-sum}
@@ -285,15 +283,15 @@ module _ (digits : List ℕ) (reads : (n : ℕ) → n < 16 → digitOf (getD dig
   -- an image below 2^32, written, and imported into a window that holds it, leaves exactly its bytes, untainted
   module _ (w : Window) (start : ℕ) (bytes memory taint : List ℕ) (good : badWindow w (length memory) (length taint) 0 ≡ false) (all : AllBytes bytes)
       (starts : w .origin ≤ start) (ends : start + length bytes ≤ w .origin + length memory) (low : start + length bytes ≤ 2 ^ 32) where
-    read : Reads (w .origin) (length memory) 0 (hexIn digits start bytes) (start - w .origin) bytes
-    unfolding hexIn
+    read : Reads (w .origin) (length memory) 0 (hexOf digits start bytes) (start - w .origin) bytes
+    unfolding hexOf
     read = all-read (w .origin) (length memory) (length bytes) 0 65536 start bytes (omega arith) all (λ h. absurd (omega arith)) starts ends low
 
-    back-reply : replyOf w (length memory) (length taint) (hexIn digits start bytes) ≡ reply Done 0
+    back-reply : replyOf w (length memory) (length taint) (hexOf digits start bytes) ≡ reply Done 0
     unfolding replyOf
     back-reply = rw good (read .done 1)
 
-    pub import-back : importOf w (hexIn digits start bytes) memory taint ≡ outcome (reply Done 0) (sets memory (start - w .origin) bytes) (sets taint (start - w .origin) (replicate (length bytes) 0))
+    pub import-back : importOf w (hexOf digits start bytes) memory taint ≡ outcome (reply Done 0) (sets memory (start - w .origin) bytes) (sets taint (start - w .origin) (replicate (length bytes) 0))
     unfolding importOf
     import-back = rw (back-reply, read .bytes memory, read .marks taint)
 
@@ -311,11 +309,3 @@ lower-test n = eqb (digitOf (getD lowerDigits n 0)) n
 pub lower-read : (n : ℕ) → n < 16 → digitOf (getD lowerDigits n 0) ≡ n
 unfolding digitOf lower-test
 lower-read n h = eqb-true _ _ (tested 16 lower-test refl n h)
-
-module _ (w : Window) (start : ℕ) (bytes memory taint : List ℕ) (good : badWindow w (length memory) (length taint) 0 ≡ false) (all : AllBytes bytes)
-    (starts : w .origin ≤ start) (ends : start + length bytes ≤ w .origin + length memory) (low : start + length bytes ≤ 2 ^ 32) where
-  pub import-upper : importOf w (hexOf start bytes) memory taint ≡ outcome (reply Done 0) (sets memory (start - w .origin) bytes) (sets taint (start - w .origin) (replicate (length bytes) 0))
-  import-upper = import-back upperDigits upper-read w start bytes memory taint good all starts ends low
-
-  pub import-lower : importOf w (hexIn lowerDigits start bytes) memory taint ≡ outcome (reply Done 0) (sets memory (start - w .origin) bytes) (sets taint (start - w .origin) (replicate (length bytes) 0))
-  import-lower = import-back lowerDigits lower-read w start bytes memory taint good all starts ends low

@@ -1,17 +1,16 @@
 -- The first line of a text, and the line that code reads at its start: they have their shape together, and say the same. Assumes nothing.
-use Prim.Native.Nat.{ℕ, zero, suc, _+_, _*_, _%_, _≤_, _<_}
+use Prim.Native.Nat.{ℕ, zero, suc, _+_, _*_, _≤_, _<_}
 use mathlib.Core.Path.{_≡_, refl, sym, ap, _∙_}
 use mathlib.Core.Bool.{Bool, true, false}
 use mathlib.Core.List.{List, [], _∷_}
 use native.Mathlib.Omega.{arith}
-use native.Mathlib.Nat.{add-suc, suc-add}
-use borrow.Author.Tests.{eqb-true, eqb-false, eq-eqb, ne-eqb}
+use borrow.Author.Tests.{eqb-true, eqb-false, eq-eqb}
 use lib.Dec.{eqb, ltb}
 use lib.ListN.{length, getD, take, drop, length-take, List·getD-eq-default}
 use lib.Seq.{getD-take, length-take-le}
 use Rattle.bits.specs.Choice.{pick}
 use Rattle.image.specs.Lines.{linesOf, digitOf, digitsIn, byteIn, bytesIn, countIn, shaped}
-use Rattle.image.specs.route.Rest.{begins, lineEnd, behind}
+use Rattle.image.specs.route.Rest.{begins, lineEnd}
 
 pub held : (b x : Bool) → pick b x false ≡ true → (b ≡ true) × (x ≡ true)
 held true x h = (refl, h)
@@ -118,7 +117,7 @@ nested true false c d = refl
 nested false b c d = refl
 
 -- a line has its shape exactly if it begins so and is no longer
-pub shaped-begins : (l : List ℕ) → shaped l ≡ pick (begins l) (eqb (length l) (2 * countIn l + 12)) false
+shaped-begins : (l : List ℕ) → shaped l ≡ pick (begins l) (eqb (length l) (2 * countIn l + 12)) false
 unfolding shaped begins
 shaped-begins l = nested (eqb (getD l 0 0) 58) (digitsIn l 1 (2 * (5 + countIn l))) (eqb (getD l (2 * countIn l + 11) 0) 10) (eqb (length l) (2 * countIn l + 12))
 

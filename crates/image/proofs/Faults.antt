@@ -1,12 +1,12 @@
 -- A line's first fault in 02's words: each test says what `Faults` says, and they decide in their order. Assumes nothing.
-use Prim.Native.Nat.{ℕ, zero, suc, _+_, _-_, _*_, _%_, _^_, _≤_, _<_}
+use Prim.Native.Nat.{ℕ, zero, suc, _+_, _*_, _%_, _^_, _≤_, _<_}
 use mathlib.Core.Path.{_≡_, refl, sym, ap, _∙_}
 use mathlib.Core.Bool.{Bool, true, false, not}
 use mathlib.Core.List.{List, [], _∷_, _++_}
 use mathlib.Core.Logic.{_⊎_, inl, inr, _↔_}
-use native.Mathlib.Nat.{add-zero, add-suc}
+use native.Mathlib.Nat.{add-zero}
 use native.Mathlib.Omega.{arith}
-use borrow.Author.Tests.{eqb-true, eqb-false, eq-eqb, ne-eqb, ltb-true, ltb-false, leb-true, leb-false, lt-ltb}
+use borrow.Author.Tests.{eqb-true, eqb-false, eq-eqb, ltb-true, ltb-false, leb-true, leb-false, lt-ltb}
 use lib.Dec.{eqb, ltb, leb}
 use lib.ListN.{length, getD, take, drop, length-append, take-append-drop, length-take}
 use Rattle.bits.specs.Choice.{pick}
@@ -14,10 +14,10 @@ use Rattle.instruction.specs.declared.answer.Answer.the-variants.{Done, OutOfWi
 use Rattle.instruction.specs.Answers.{answerNumber}
 use Rattle.plan.specs.declared.window.Window.{Window}
 use Rattle.plan.specs.Window.{badWindow}
-use Rattle.image.specs.Lines.{digitOf, digitsIn, byteIn, bytesIn, countIn, shaped}
-use Rattle.image.specs.Records.{typeIn, offsetIn, total, sumIn, badCount, badType, placed, placesIn}
+use Rattle.image.specs.Lines.{digitOf, digitsIn, bytesIn, countIn, shaped}
+use Rattle.image.specs.Records.{typeIn, offsetIn, sumIn, badCount, badType, placed, placesIn}
 use Rattle.image.specs.Import.{beyond, anyBeyond, faultsIn}
-use Rattle.image.specs.Faults.{AllDigits, Shape, WrongCount, IsMalformed, WrongSum, WrongType, addressIn, Outside, faultOf}
+use Rattle.image.specs.Faults.{AllDigits, Shape, WrongCount, IsMalformed, WrongSum, WrongType, Outside, faultOf}
 use Rattle.image.proofs.Cuts.{held}
 
 -- a test says whether something holds

@@ -1,13 +1,13 @@
 -- Loops over the bytes of one line: what is done up to an index, and what is left. Assumes nothing.
-use Prim.Native.Nat.{ℕ, zero, suc, _+_, _-_, _*_, _%_, _^_, _≤_, _<_}
-use mathlib.Core.Path.{_≡_, refl, sym, ap, _∙_}
-use mathlib.Core.Bool.{Bool, true, false, not}
+use Prim.Native.Nat.{ℕ, zero, suc, _+_, _-_, _*_, _%_, _≤_, _<_}
+use mathlib.Core.Path.{_≡_, refl, _∙_}
+use mathlib.Core.Bool.{Bool, true, false}
 use mathlib.Core.List.{List, [], _∷_}
 use native.Mathlib.Nat.{add-suc, add-zero}
 use native.Mathlib.Numerals.{add-one}
 use native.Mathlib.Omega.{arith}
-use borrow.Author.Tests.{lt-ltb, le-ltb, leb-true, leb-false}
-use lib.Dec.{eqb, ltb, leb}
+use borrow.Author.Tests.{lt-ltb, le-ltb}
+use lib.Dec.{ltb}
 use lib.ListN.{length, getD, length-set}
 use Rattle.bits.specs.Choice.{pick}
 use Rattle.image.specs.Lines.{digitOf, digitsIn, byteIn, bytesIn}
@@ -65,7 +65,7 @@ summed-is l (suc n) i sum =
 
 -- ---- bytes at their addresses
 
-pub places-go : (l : List ℕ) (a n i : ℕ) → i < n
+places-go : (l : List ℕ) (a n i : ℕ) → i < n
     → placed (a + i) (bytesIn l (4 + i) (n - i)) ≡ ((a + i) % 4294967296, byteIn l (4 + i)) ∷ placed (a + (i + 1)) (bytesIn l (4 + (i + 1)) (n - (i + 1)))
 places-go l a n i h = rw (left n i h, add-one i, add-suc a i, add-suc 4 i)
 

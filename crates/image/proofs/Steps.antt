@@ -1,12 +1,12 @@
 -- A text line by line, as code goes: what is left of it is checked and written from its first line on. Assumes nothing.
-use Prim.Native.Nat.{ℕ, zero, suc, _+_, _*_, _%_, _≤_, _<_}
+use Prim.Native.Nat.{ℕ, suc, _+_, _*_, _<_}
 use mathlib.Core.Path.{_≡_, refl, sym, ap, _∙_}
-use mathlib.Core.Bool.{Bool, true, false, not}
+use mathlib.Core.Bool.{Bool, true, false}
 use mathlib.Core.List.{List, [], _∷_, _++_}
 use native.Mathlib.Omega.{arith}
-use borrow.Author.Tests.{eqb-true, eq-eqb}
+use borrow.Author.Tests.{eqb-true}
 use lib.Dec.{eqb}
-use lib.ListN.{length, getD, take, drop}
+use lib.ListN.{length, getD, take}
 use lib.Seq.{getD-take}
 use Rattle.bits.specs.Choice.{pick}
 use Rattle.instruction.specs.declared.answer.Answer.{Answer}
@@ -15,7 +15,7 @@ use Rattle.instruction.specs.Answers.{answerNumber}
 use Rattle.plan.specs.Refusals.{Refusal, firstOf, answerIn}
 use Rattle.plan.proofs.Refusals.{by-answer}
 use Rattle.image.specs.declared.Reply.{Reply}
-use Rattle.image.specs.Lines.{linesOf, byteIn, bytesIn, countIn, shaped}
+use Rattle.image.specs.Lines.{linesOf, countIn}
 use Rattle.image.specs.Records.{typeIn, sumIn, badCount, isEnd, upperAfter, placesIn, placesOf}
 use Rattle.image.specs.Import.{reply, faultsIn, checked, isDone, put, puts, clears}
 use Rattle.image.specs.route.Rest.{begins, lineEnd, behind}

@@ -1,8 +1,8 @@
 -- The loops over a whole text, and what is returned. A rest is lent as `take (length text - at) (drop at text)`. Assumes nothing.
-use Prim.Native.Nat.{ℕ, suc, _+_, _-_, _*_, _≤_, _<_}
-use mathlib.Core.Path.{_≡_, refl, sym, ap, _∙_}
+use Prim.Native.Nat.{ℕ, _+_, _-_, _*_, _≤_, _<_}
+use mathlib.Core.Path.{_≡_, sym, ap, _∙_}
 use mathlib.Core.Bool.{Bool, true, false}
-use mathlib.Core.List.{List, [], _∷_, _++_}
+use mathlib.Core.List.{List, []}
 use native.Mathlib.Numerals.{add-one}
 use native.Mathlib.Omega.{arith}
 use borrow.Author.Tests.{eq-eqb, ne-eqb}
@@ -17,7 +17,7 @@ use Rattle.plan.specs.declared.window.Window.{Window}
 use Rattle.plan.specs.Window.{badWindow}
 use Rattle.plan.specs.Refusals.{answerIn}
 use Rattle.image.specs.declared.Reply.{Reply}
-use Rattle.image.specs.Lines.{linesOf, byteIn, countIn}
+use Rattle.image.specs.Lines.{linesOf, byteIn}
 use Rattle.image.specs.Records.{upperAfter, placesIn, placesOf}
 use Rattle.image.specs.Import.{reply, faultsIn, checked, replyOf, isDone, puts, clears, outcome, importOf}
 use Rattle.image.specs.route.Rest.{begins, behind}

@@ -1,27 +1,26 @@
 -- The reply of an import is the lowest line's first fault (`import-lowest`), a refused import leaves memory and taints
 -- (`import-refused`), and a done one leaves at each address what the last byte with it says, untainted, and all else
 -- (`import-said`, `import-kept`). Assumes nothing.
-use Prim.Native.Nat.{ℕ, zero, suc, _+_, _-_, _≤_, _<_}
+use Prim.Native.Nat.{ℕ, zero, suc, _+_, _-_, _<_}
 use mathlib.Core.Path.{_≡_, refl, sym, ap, _∙_}
 use mathlib.Core.Bool.{Bool, true, false}
-use mathlib.Core.List.{List, [], _∷_, _++_}
+use mathlib.Core.List.{List, [], _∷_}
 use mathlib.Core.Logic.{_⊎_, inl, inr, _↔_}
-use native.Mathlib.Nat.{add-zero, add-suc, suc-add}
+use native.Mathlib.Nat.{add-zero}
 use native.Mathlib.Omega.{arith}
-use borrow.Author.Tests.{eqb-true, eqb-false, eq-eqb, ne-eqb, ltb-true, ltb-false}
+use borrow.Author.Tests.{eqb-true, eqb-false, ltb-true, ltb-false}
 use lib.Dec.{eqb, ltb}
 use lib.ListN.{length, getD, set}
 use lib.Seq.{getD-set-same, getD-set-other}
 use Rattle.bits.specs.Choice.{pick}
 use Rattle.instruction.specs.declared.answer.Answer.{Answer}
 use Rattle.instruction.specs.declared.answer.Answer.the-variants.{Done, BadWindow}
-use Rattle.instruction.specs.Answers.{answerNumber}
 use Rattle.plan.specs.declared.window.Window.{Window}
 use Rattle.plan.specs.Window.{badWindow}
 use Rattle.plan.specs.Refusals.{firstOf, answerIn}
 use Rattle.plan.proofs.Refusals.{by-answer, first-by}
 use Rattle.image.specs.declared.Reply.{Reply}
-use Rattle.image.specs.Lines.{linesOf, shaped}
+use Rattle.image.specs.Lines.{linesOf}
 use Rattle.image.specs.Records.{typeIn, isEnd, upperAfter, placesOf}
 use Rattle.image.specs.Import.{reply, faultsIn, faultsOf, checked, replyOf, put, puts, clears, isDone, importOf}
 use Rattle.image.specs.Faults.{faultOf, faultAt, Lowest, OneEnd}

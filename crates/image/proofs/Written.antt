@@ -1,17 +1,15 @@
 -- A line of a HEX text that is written, with whatever is behind it: what is read of it. Assumes nothing.
-use Prim.Native.Nat.{ℕ, zero, suc, _+_, _-_, _*_, _/_, _%_, _^_, _≤_, _<_}
-use mathlib.Core.Path.{_≡_, refl, sym, ap, _∙_}
-use mathlib.Core.Bool.{Bool, true, false}
+use Prim.Native.Nat.{ℕ, zero, suc, _+_, _*_, _/_, _%_, _≤_, _<_}
+use mathlib.Core.Path.{_≡_, refl, ap, _∙_}
+use mathlib.Core.Bool.{true}
 use mathlib.Core.List.{List, [], _∷_, _++_, append-assoc}
-use native.Mathlib.Nat.{add-zero, add-suc}
+use native.Mathlib.Nat.{add-zero}
 use native.Mathlib.Numerals.{add-one}
 use native.Mathlib.Omega.{arith}
-use borrow.Author.Tests.{eqb-true, lt-ltb, eq-eqb}
-use lib.Dec.{eqb, ltb}
-use lib.ListN.{length, getD, drop, length-append, List·getD-append}
+use borrow.Author.Tests.{lt-ltb}
+use lib.Dec.{ltb}
+use lib.ListN.{length, getD, length-append, List·getD-append}
 use lib.Seq.{drop-append-add, getD-at}
-use Rattle.bits.specs.Choice.{pick}
-use Rattle.bits.proofs.Choices.{tested}
 use Rattle.image.specs.Lines.{digitOf, digitsIn, byteIn, bytesIn, countIn}
 use Rattle.image.specs.Records.{total, sumIn}
 use Rattle.image.specs.Hex.{pairsText, bodyOf, checksumOf, lineText, AllBytes}

@@ -1,6 +1,6 @@
--- A HEX text of an image, for the statement that it is read back: upper-case lines of at most 16 bytes, a type 04 line before
--- the first and where the upper half changes, and the end. It is no code.
-use Prim.Native.Nat.{ℕ, zero, suc, _+_, _-_, _*_, _/_, _%_, _≤_, _<_}
+-- A HEX text of an image, for the statement that it is read back: lines of at most 16 bytes, in sixteen digits of either case, a type
+-- 04 line before the first and where the upper half changes, and the end. It is no code.
+use Prim.Native.Nat.{ℕ, zero, suc, _+_, _-_, _/_, _%_, _<_}
 use mathlib.Core.List.{List, [], _∷_, _++_}
 use lib.Dec.{eqb}
 use lib.ListN.{length, getD, take, drop}
@@ -42,11 +42,8 @@ dataText digits (suc n) upper a (b ∷ bs) =
     ++ dataText digits n (a / 65536) (a + length (take 16 (b ∷ bs))) (drop 16 (b ∷ bs)))
 
 -- no upper half is 65536
-unfoldable pub hexIn : List ℕ → ℕ → List ℕ → List ℕ
-hexIn digits origin bytes = dataText digits (length bytes) 65536 origin bytes
-
-abbrev pub hexOf : ℕ → List ℕ → List ℕ
-hexOf origin bytes = hexIn upperDigits origin bytes
+unfoldable pub hexOf : List ℕ → ℕ → List ℕ → List ℕ
+hexOf digits origin bytes = dataText digits (length bytes) 65536 origin bytes
 
 -- all are bytes
 abbrev pub AllBytes : List ℕ → Type 0

@@ -1,6 +1,6 @@
 -- What a line of a HEX text says: its type, its sum, and its bytes at their addresses. 02, CR 10.
 use Prim.Native.Nat.{ℕ, suc, _+_, _*_, _%_, _^_}
-use mathlib.Core.Bool.{Bool, true, false, not}
+use mathlib.Core.Bool.{Bool, false, not}
 use mathlib.Core.List.{List, [], _∷_, _++_}
 use lib.Dec.{eqb}
 use Rattle.bits.specs.Choice.{pick}

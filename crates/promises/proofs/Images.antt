@@ -1,5 +1,5 @@
 -- The page of memory images holds: each sentence is a theorem of the crate, carried over the equation of the contract. Assumes nothing.
-use Prim.Native.Nat.{ℕ, suc, _+_, _-_, _<_}
+use Prim.Native.Nat.{ℕ, suc, _+_, _<_}
 use mathlib.Core.Path.{_≡_, refl, sym, ap, _∙_}
 use mathlib.Core.Bool.{Bool, true, false}
 use mathlib.Core.List.{List, [], _∷_}
@@ -7,18 +7,16 @@ use mathlib.Core.Logic.{_↔_, _⊎_, inl, inr}
 use native.Mathlib.Omega.{arith}
 use borrow.Author.Tests.{eqb-true, eqb-false, eq-eqb, ne-eqb, lt-ltb, ltb-true}
 use lib.Dec.{eqb, ltb}
-use lib.ListN.{length, getD, replicate}
-use lib.Seq.{sets}
+use lib.ListN.{length, getD}
 use Rattle.bits.specs.Choice.{pick, lookup}
-use Rattle.instruction.specs.declared.answer.Answer.the-variants.{Done}
 use Rattle.plan.specs.Window.{badWindow}
 use Rattle.image.specs.declared.Reply.{Reply}
 use Rattle.image.specs.Lines.{linesOf, digitTable, digitOf, byteIn, shaped}
 use Rattle.image.specs.Records.{sumIn, badCount, badType, upperAfter, placesIn}
-use Rattle.image.specs.Import.{reply, beyond, faultsIn, replyOf, put, Outcome, outcome, importOf}
+use Rattle.image.specs.Import.{reply, beyond, faultsIn, replyOf, put, Outcome, importOf}
 use Rattle.image.specs.Faults.{faultAt, Lowest, OneEnd}
 use Rattle.image.specs.Last.{named, LastIs}
-use Rattle.image.specs.Hex.{hexIn, upperDigits, lowerDigits}
+use Rattle.image.specs.Hex.{hexOf, upperDigits, lowerDigits}
 use Rattle.image.proofs.Cuts.{held}
 use Rattle.image.proofs.Faults.{window-tells, fault-malformed, fault-sum, fault-type, fault-outside}
 use Rattle.image.proofs.Addresses.{data-at, data-length, no-data, upper-half, same-half}
@@ -125,7 +123,7 @@ module _ (c : ImportCall) where
 
   -- ---- reading back
 
-  call-back : (digits : List ℕ) → ((n : ℕ) → n < 16 → digitOf (getD digits n 0) ≡ n) → (start : ℕ) (bytes : List ℕ) → Holds c start bytes → c .text ≡ hexIn digits start bytes → ReadBack c start bytes
+  call-back : (digits : List ℕ) → ((n : ℕ) → n < 16 → digitOf (getD digits n 0) ≡ n) → (start : ℕ) (bytes : List ℕ) → Holds c start bytes → c .text ≡ hexOf digits start bytes → ReadBack c start bytes
   unfolding bad
   call-back digits reads start bytes f e =
       let back = import-back digits reads (c .window) start bytes (c .memory) (c .taint) (good-of (f .good)) (f .all) (f .starts) (f .ends) (f .low) in

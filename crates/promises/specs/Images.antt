@@ -16,7 +16,7 @@ use Rattle.image.specs.Records.{typeIn, upperAfter, placesIn, placesOf}
 use Rattle.image.specs.Import.{outcome, importOf}
 use Rattle.image.specs.Faults.{IsMalformed, WrongSum, WrongType, addressIn, Outside, faultOf, faultAt, Lowest, OneEnd}
 use Rattle.image.specs.Last.{named, LastIs}
-use Rattle.image.specs.Hex.{upperDigits, lowerDigits, hexIn, AllBytes}
+use Rattle.image.specs.Hex.{upperDigits, lowerDigits, hexOf, AllBytes}
 use Rattle.promises.specs.Answered.{oneOf, WrongLent}
 
 pub record ImportCall : Type 0 where
@@ -109,8 +109,8 @@ pub record Images : Type 0 where
       → (getD (c .memory′) i 0 ≡ getD (c .memory) i 0) × (getD (c .taint′) i 0 ≡ getD (c .taint) i 0)
   pub lengths : (c : ImportCall) → (length (c .memory′) ≡ length (c .memory)) × (length (c .taint′) ≡ length (c .taint))
   -- "upper or lower case digits": the text that is written for an image is read, and leaves exactly its bytes
-  pub upper-read : (c : ImportCall) (start : ℕ) (bytes : List ℕ) → Holds c start bytes → c .text ≡ hexIn upperDigits start bytes → ReadBack c start bytes
-  pub lower-read : (c : ImportCall) (start : ℕ) (bytes : List ℕ) → Holds c start bytes → c .text ≡ hexIn lowerDigits start bytes → ReadBack c start bytes
+  pub upper-read : (c : ImportCall) (start : ℕ) (bytes : List ℕ) → Holds c start bytes → c .text ≡ hexOf upperDigits start bytes → ReadBack c start bytes
+  pub lower-read : (c : ImportCall) (start : ℕ) (bytes : List ℕ) → Holds c start bytes → c .text ≡ hexOf lowerDigits start bytes → ReadBack c start bytes
   -- and nothing else is a digit
   pub digits : (c : ℕ) → (digitOf c < 16) ↔ (oneOf (asc "0123456789ABCDEFabcdef") c ≡ true)
   -- a line with three faults, and with one of them less each time; a line of data with two; the count of an end and its checksum

@@ -1,5 +1,4 @@
 -- `image::text::last` meets its contract. Assumes nothing.
-use mathlib.Core.Path.{_∙_}
 use borrow.Author.Needs.{needs}
 use Rattle.image.proofs.text.last.Statement.{statement}
 use Rattle.image.proofs.text.last.Tie as tie
