@@ -32,7 +32,7 @@ import tempfile
 from typing import NamedTuple
 
 from aarch64_rules import write
-from image_model import DONE, LOW_SPACE, MALFORMED, SPACE, UPPER_HALF, Importer, Imported
+from image_model import DATA, DONE, LOW_SPACE, MALFORMED, SPACE, UPPER_HALF, Importer, Imported, Record
 
 SEED = 10
 MOST_TEXT, MOST_MEMORY = 4096, 512
@@ -392,11 +392,45 @@ class AnyEndOfMemory(Importer):
         return super().is_bad_window(0, readonly, length, taints)
 
 
+class WindowByOneLess(Importer):
+    def is_outside(self, address, origin, length):
+        return super().is_outside(address, origin, length - 1)
+
+
+class SumModulo255(Importer):
+    def sum_of(self, record):
+        return super().sum_of(record) % 255
+
+
+class TakesAnAtSign(Importer):
+    def record_of(self, line):
+        return super().record_of(line.replace(b'@', b'9'))
+
+
+class TakesThreeBytesOfUpperHalf(Importer):
+    def has_wrong_count(self, record):
+        return super().has_wrong_count(record) and (record.type(), record.count()) != (UPPER_HALF, 3)
+
+    def upper_half(self, record, upper):
+        return super().upper_half(Record(record.content[:-2] + record.content[-1:]) if record.count() == 3 else record, upper)
+
+
+class UpperHalvesAddedUp(Importer):
+    def upper_half(self, record, upper):
+        return (upper + super().upper_half(record, upper)) % 0x10000 if record.type() == UPPER_HALF else upper
+
+
+class RefusesEmptyData(Importer):
+    def has_wrong_count(self, record):
+        return super().has_wrong_count(record) or record.type() == DATA and not record.count()
+
+
 WRONG = [LastByteNotSummed, UpperHalfAdded, WrapsAt64K, DoesNotWrap, WrapsInTheWindow, TakesLinesBehindTheEnd, TypeBeforeChecksum,
          WindowBeforeChecksum, ChecksumBeforeCount, MarksLeft, WritesBeforeAFault, RefusesLowerCase, TakesCarriageReturns,
          TakesALastLineWithoutNewline, TakesBlankLines, TakesAnyCount, TakesMoreThanTheCount, NeedsNoEnd, EmptyDataOutside,
          UpperHalfByItsOffset, EarlierBytesStay, RefusesTheReadOnlyPart, LinesFrom0, WindowByOneMore, AnyNumberOfTaints,
-         AnyReadOnlyPart, AnyEndOfMemory]
+         AnyReadOnlyPart, AnyEndOfMemory, WindowByOneLess, SumModulo255, TakesAnAtSign, TakesThreeBytesOfUpperHalf,
+         UpperHalvesAddedUp, RefusesEmptyData]
 
 
 def self_check(cases):
