@@ -770,11 +770,14 @@ fn a_refused_image_is_named_by_its_line() {
     // What is said of objcopy's texts is how to convert them.
     for (text, why) in [
         (&b":020000021000EC\n"[..], "the type of the line isn't 00, 01 or 04; objcopy writes 02 below 0x100000, "),
-        (b":00000001FF\r\n", "line 1: the line isn't one of Intel HEX, stands after the end, or the end is missing; objcopy "),
+        (b":00000001FF\r\n", "or the end is missing; objcopy ends lines in a carriage return. "),
     ] {
         import(text).fails(1, why);
         import(text).fails(1, " `srec_cat FILE.hex -intel -o TAKEN.hex -intel -disable=exec-start-address` ");
-        import(text).fails(1, "by --change-addresses, and drop the carriage returns by `tr -d '\\r'` and the lines of types 03 and 05\n");
+        import(text).fails(
+            1,
+            "by --change-addresses, and drop the carriage returns by `tr -d '\\r'` and the lines of types 03 and 05\n",
+        );
     }
     call(&["import", "--at", "0xffffffffffffffff", "--size", "2"], IMAGE).fails(1, "refused (1): the memory window");
     call(&["import", "--at", "0"], IMAGE).fails(2, "say --size");
