@@ -56,8 +56,8 @@ extern "C" {
 
 #define MILESTARLING_VERSION_MAJOR 0
 #define MILESTARLING_VERSION_MINOR 3
-#define MILESTARLING_VERSION_PATCH 2
-#define MILESTARLING_VERSION "0.3.2"
+#define MILESTARLING_VERSION_PATCH 3
+#define MILESTARLING_VERSION "0.3.3"
 
 /* How many registers a session has: x0 to x30, and sp behind them. */
 #define MILESTARLING_REGISTERS 32
