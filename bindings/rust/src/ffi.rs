@@ -3,8 +3,8 @@
 #![allow(unsafe_code)]
 
 use crate::raw::{
-    DecodeReply, ImportReply, Lister, ListerReply, Numbers, RescueReply, RunReply, SessionRecord, StepReply, TextReply, VectorReply,
-    WhyReply, WordReply,
+    DecodeReply, ImportReply, Lister, ListerReply, Numbers, RescueReply, RunReply, SessionRecord, StepReply, TextReply,
+    VectorReply, WhyReply, WordReply,
 };
 use crate::{Ranges, Taint};
 
