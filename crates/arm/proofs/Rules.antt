@@ -29,26 +29,26 @@ use Rattle.arm.proofs.Arm.{top-is, page-step, step-in-as-arm}
 
 -- ---- a code
 
-stored : (size : ℕ) → leb 64 (size + 64) ≡ true
-stored size = le-leb 64 (size + 64) (omega arith)
+-- "plus 64 for a store": it tells a store, and what is left of it are the bytes
+pub code-stores : (store : Bool) (size : ℕ) → size < 64 → leb 64 (size + pick store 64 0) ≡ store
+code-stores true size h = le-leb 64 (size + 64) (omega arith)
+code-stores false size h = lt-leb 64 (size + 0) (omega arith)
 
-loaded : (size : ℕ) → size < 64 → leb 64 (size + 0) ≡ false
-loaded size h = lt-leb 64 (size + 0) (omega arith)
+pub code-bytes : (store : Bool) (size : ℕ) → size < 64 → (size + pick store 64 0) % 64 ≡ size
+code-bytes true size h = omega arith
+code-bytes false size h = omega arith
+
+code-some : (store : Bool) (size : ℕ) → 0 < size → eqb (size + pick store 64 0) 0 ≡ false
+code-some true size h = ne-eqb (size + 64) 0 (λ e. omega arith)
+code-some false size h = ne-eqb (size + 0) 0 (λ e. omega arith)
 
 -- ---- a step
 
 page-follows : (w : Window) (word : ℕ) (m : Machine) (o : Operation) → Made (wordPage word) word o → Follows taintsIn (markRule (w .origin) word) m (pageMoves w word m (wordPage word) o)
 unfolding markRule
-page-follows w word m hint h = refl
-page-follows w word m (spFault sp) h = refl
-page-follows w word m (access true address size status s) h =
-    let some : ¬ (size + 64 ≡ 0) = λ e. omega arith in
-    let bytes : (size + 64) % 64 ≡ size = omega (arith, h .few) in
-    rw (ne-eqb (size + 64) 0 some, stored size, bytes)
-page-follows w word m (access false address size status s) h =
-    let some : ¬ (size + 0 ≡ 0) = λ e. omega (arith, h .some) in
-    let bytes : (size + 0) % 64 ≡ size = omega (arith, h .few) in
-    rw (ne-eqb (size + 0) 0 some, loaded size (h .few), bytes)
+page-follows w word m hint made = refl
+page-follows w word m (spFault sp) made = refl
+page-follows w word m (access store address size status s) made = rw (code-some store size (made .some), code-stores store size (made .few), code-bytes store size (made .few))
 
 -- what is not refused has a page that makes an access of the machine
 pub page-made : (w : Window) (reach : Reach) (word : ℕ) (m : Machine) → Real m → Passed (armRefusalsIn w reach word m) → Made (wordPage word) word (operationOf w word m)

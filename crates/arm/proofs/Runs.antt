@@ -21,7 +21,7 @@ use Rattle.arm.specs.Choices.{badStart, armStepIn, armRun, badTurnStart,
 use Rattle.arm.proofs.Arm.{bad-is, step-in-as-arm}
 use Rattle.machine.proofs.Reals.{RealStep, real-in}
 
-walk-as-arm : (w : Window) (reach : Reach) (words : List ℕ) (m : Machine) → Real m → (last : Shown) → walkOf (stepIn w reach) words m last ≡ walkOf (armStepIn w reach) words m last
+pub walk-as-arm : (w : Window) (reach : Reach) (words : List ℕ) (m : Machine) → Real m → (last : Shown) → walkOf (stepIn w reach) words m last ≡ walkOf (armStepIn w reach) words m last
 unfolding walkOf
 walk-as-arm w reach [] m r last = refl
 walk-as-arm w reach (x ∷ words) m r last =

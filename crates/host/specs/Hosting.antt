@@ -1,11 +1,11 @@
--- A run for a host: the machine's run, with its answer by the number.
+-- A run for a host: the run of Arm's steps, with its answer by the number.
 use Prim.Native.Nat.{ℕ}
 use mathlib.Core.List.{List}
 use Rattle.instruction.specs.Answers.{answerNumber}
 use Rattle.plan.specs.declared.window.Window.{Window}
 use Rattle.machine.specs.Machine.{Machine, machineOf}
 use Rattle.execution.specs.Walk.{Log, log, Result}
-use Rattle.execution.specs.Run.{machineRun}
+use Rattle.arm.specs.Choices.{armRun}
 use Rattle.host.specs.declared.RunReply.{RunReply}
 
 -- all that a run returns and leaves: the record, the vector registers and their marks, memory and taint bytes are a machine
@@ -40,4 +40,4 @@ hostedOf t =
     }
 
 abbrev pub hostRun : Window → List ℕ → Machine → Log → Hosted
-hostRun w words m l = hostedOf (machineRun w words m l)
+hostRun w words m l = hostedOf (armRun w words m l)

@@ -6,7 +6,7 @@ use mathlib.Core.List.{List, [], _∷_, _++_}
 use mathlib.Core.Logic.{inl, inr}
 use native.Mathlib.Omega.{arith}
 use lib.Dec.{eqb}
-use lib.ListN.{length, getD}
+use lib.ListN.{getD}
 use Rattle.bits.specs.Choice.{pick}
 use Rattle.bits.proofs.Choices.{tested}
 use Rattle.instruction.specs.declared.answer.Answer.{Answer}
@@ -18,18 +18,17 @@ use Rattle.encoder.specs.Encoding.{encodeOf}
 use Rattle.plan.specs.declared.window.Window.{Window}
 use Rattle.plan.specs.declared.ranges.Ranges.{Ranges}
 use Rattle.plan.specs.declared.ranges.Reach.{Reach}
-use Rattle.plan.specs.declared.ranges.Reach.the-variants.{Ranged}
-use Rattle.plan.specs.Admission.{admitOf}
-use Rattle.plan.specs.Ranges.{admitIn}
+use Rattle.plan.specs.declared.ranges.Reach.the-variants.{Alone, Ranged}
 use Rattle.plan.proofs.Refusals.{each-map, first-by}
 use Rattle.machine.specs.Machine.{Machine}
-use Rattle.machine.specs.Refusals.{bad, wordRefusals, refusalsIn, refusals}
-use Rattle.machine.specs.Step.{Step, Outcome, stepIn, stepOf, performed}
-use Rattle.machine.proofs.Answers.{answers-exact, answers-in, Refuses, step-refuses, refuses-in, Numbered, Later, word-later, Late, word-late}
+use Rattle.machine.specs.Step.{Step, Outcome, performed}
+use Rattle.machine.proofs.Answers.{Refuses, Numbered, Later, Late}
 use Rattle.execution.specs.Walk.{Log, short, runOf}
 use Rattle.execution.specs.Ends.{alone, Ends, lastOf}
-use Rattle.execution.specs.Run.{machineRun, plainWindow, badTurn, turnStep, turnOf}
+use Rattle.execution.specs.Run.{plainWindow}
 use Rattle.execution.proofs.Walks.{run-ends}
+use Rattle.arm.specs.Choices.{badStart, armRefusalsIn, armStepIn, armRefusals, armStep, armRun, badTurnStart, armTurnStep, armTurn}
+use Rattle.arm.proofs.Answers.{answers-in, laterRefusals, numbers-later, numbers-late, refuses-in}
 use Rattle.encoder.specs.Exact.{Exact}
 use Rattle.encoder.proofs.RoundTrip.{encode-exact}
 use Rattle.reader.specs.declared.Reading.{Reading}
@@ -52,12 +51,12 @@ stepNumbers = 0 ∷ 1 ∷ 2 ∷ 3 ∷ 4 ∷ 5 ∷ 6 ∷ 7 ∷ 8 ∷ []
 abbrev Stepwise : Answer → Type 0
 Stepwise answer = oneOf stepNumbers (answerNumber answer) ≡ true
 
-pub step-number : (w : Window) (word : ℕ) (m : Machine) → Stepwise (performed m (stepOf w word m) .answer)
+pub step-number : (w : Window) (word : ℕ) (m : Machine) → Stepwise (performed m (armStep w word m) .answer)
 step-number w word m =
-    let further = wordRefusals (admitOf w (length (m .memory))) word m in
-    rw (answers-exact w word m)
-    (first-by Stepwise (λ answer address. answer) Done (refusals w word m)
-    (refl, each-map {P = Numbered Later} {Q = λ e. Stepwise (e .answer)} (λ e l. tested 9 (oneOf stepNumbers) refl (answerNumber (e .answer)) (l .1)) further (word-later w word m))
+    let further = laterRefusals w Alone word m in
+    rw (answers-in w Alone word m)
+    (first-by Stepwise (λ answer address. answer) Done (armRefusals w word m)
+    (refl, each-map {P = Numbered Later} {Q = λ e. Stepwise (e .answer)} (λ e l. tested 9 (oneOf stepNumbers) refl (answerNumber (e .answer)) (l .1)) further (numbers-later w word m))
     (λ p. refl))
 
 either-way : (z a b : Bool) → (a ≡ true → b ≡ true) → pick z true a ≡ true → pick z true b ≡ true
@@ -89,8 +88,8 @@ module _ (numbers : List ℕ) (done : oneOf numbers 0 ≡ true) (window : oneOf 
   pub number-of-run : oneOf numbers (answerNumber (runOf test f words m l .answer)) ≡ true
   number-of-run = number-at (test m) (short words l) refl refl
 
-pub run-number : (w : Window) (words : List ℕ) (m : Machine) (l : Log) → oneOf runNumbers (answerNumber (machineRun w words m l .answer)) ≡ true
-run-number w = number-of-run runNumbers refl refl refl (stepOf w) (step-refuses w) (λ word m. with-more stepNumbers 10 (answerNumber (performed m (stepOf w word m) .answer)) (step-number w word m)) (bad w)
+pub run-number : (w : Window) (words : List ℕ) (m : Machine) (l : Log) → oneOf runNumbers (answerNumber (armRun w words m l .answer)) ≡ true
+run-number w = number-of-run runNumbers refl refl refl (armStep w) (refuses-in w Alone) (λ word m. with-more stepNumbers 10 (answerNumber (performed m (armStep w word m) .answer)) (step-number w word m)) (badStart w)
 
 -- ---- turns
 
@@ -101,16 +100,16 @@ late-number : (n : ℕ) → Late n → oneOf turnNumbers n ≡ true
 late-number n (inl l) = tested 9 (oneOf turnNumbers) refl n (l .1)
 late-number n (inr e) = rw e
 
-reach-number : (w : Window) (reach : Reach) (word : ℕ) (m : Machine) → oneOf turnNumbers (answerNumber (performed m (stepIn w reach word m) .answer)) ≡ true
+reach-number : (w : Window) (reach : Reach) (word : ℕ) (m : Machine) → oneOf turnNumbers (answerNumber (performed m (armStepIn w reach word m) .answer)) ≡ true
 reach-number w reach word m =
-    let further = wordRefusals (admitIn w reach (length (m .memory))) word m in
+    let further = laterRefusals w reach word m in
     rw (answers-in w reach word m)
-    (first-by (λ (answer : Answer). oneOf turnNumbers (answerNumber answer) ≡ true) (λ answer address. answer) Done (refusalsIn w reach word m)
-    (refl, each-map {P = Numbered Late} {Q = λ e. oneOf turnNumbers (answerNumber (e .answer)) ≡ true} (λ e l. late-number (answerNumber (e .answer)) l) further (word-late w reach word m))
+    (first-by (λ (answer : Answer). oneOf turnNumbers (answerNumber answer) ≡ true) (λ answer address. answer) Done (armRefusalsIn w reach word m)
+    (refl, each-map {P = Numbered Late} {Q = λ e. oneOf turnNumbers (answerNumber (e .answer)) ≡ true} (λ e l. late-number (answerNumber (e .answer)) l) further (numbers-late w reach word m))
     (λ p. refl))
 
-pub turn-number : (origin : ℕ) (r : Ranges) (words : List ℕ) (m : Machine) (l : Log) → oneOf turnNumbers (answerNumber (turnOf origin r words m l .answer)) ≡ true
-turn-number origin r = number-of-run turnNumbers refl refl refl (turnStep origin r) (refuses-in (plainWindow origin) (Ranged r)) (reach-number (plainWindow origin) (Ranged r)) (badTurn origin r)
+pub turn-number : (origin : ℕ) (r : Ranges) (words : List ℕ) (m : Machine) (l : Log) → oneOf turnNumbers (answerNumber (armTurn origin r words m l .answer)) ≡ true
+turn-number origin r = number-of-run turnNumbers refl refl refl (armTurnStep origin r) (refuses-in (plainWindow origin) (Ranged r)) (reach-number (plainWindow origin) (Ranged r)) (badTurnStart origin r)
 
 -- ---- encoding and reading
 

@@ -1,5 +1,5 @@
 -- The demands and requests hold, by the theorems of the crates below and by the cases of their tests. Assumes nothing.
-use Prim.Native.Nat.{ℕ, _+_, _≤_, _<_}
+use Prim.Native.Nat.{ℕ, _+_, _^_, _≤_, _<_}
 use mathlib.Core.Path.{_≡_, refl, sym, ap, subst, _∙_}
 use mathlib.Core.Bool.{Bool, true, false, not, _&&_}
 use mathlib.Core.List.{List, [], _∷_, _++_}
@@ -10,7 +10,7 @@ use lib.Dec.{ltb, eqb}
 use lib.ListN.{length, take, List·getD-eq-default}
 use lib.Seq.{sets, set-out}
 use Rattle.bits.specs.Choice.{pick}
-use Rattle.bits.specs.Fields.{part}
+use Rattle.bits.specs.Fields.{part, field}
 use Rattle.bits.specs.Signed.{signedOf}
 use Rattle.bits.proofs.Choices.{pick-by}
 use Rattle.instruction.specs.declared.answer.Answer.{Answer}
@@ -27,27 +27,36 @@ use Rattle.lookup.proofs.Exact.{entry-names, entry-code}
 use Rattle.encoder.specs.Encoding.{encodeOf}
 use Rattle.instruction.proofs.Rows.{never-overlap}
 use Rattle.instruction.proofs.Sorts.{exactly-one}
+use Rattle.plan.specs.declared.window.Window.{Window}
+use Rattle.plan.specs.declared.ranges.Reach.the-variants.{Alone}
+use Rattle.plan.specs.Refusals.{answerIn}
 use Rattle.plan.proofs.Refusals.{first-by}
 use Rattle.registers.specs.declared.Registers.{Registers}
 use Rattle.registers.specs.File.{zeroSlot, valueAt, taintsAt, setAt}
 use Rattle.machine.specs.declared.Shown.{Shown}
-use Rattle.machine.specs.Rule.{Taints, wordRule}
+use Rattle.machine.specs.declared.monitor.Monitor.{Monitor}
+use Rattle.machine.specs.Rule.{Taints}
 use Rattle.machine.specs.Machine.{Machine}
-use Rattle.machine.specs.Refusals.{bad, classRefusals}
+use Rattle.machine.specs.Real.{Real}
+use Rattle.machine.specs.Refusals.{classRefusals}
+use Rattle.machine.specs.Exclusives.{StoresExclusive, withMonitor}
 use Rattle.machine.specs.Step.{Step, stopped, moved, stepOf, performed}
-use Rattle.machine.proofs.Answers.{answers-exact, answers-given, refused-unchanged, tainted-refused, Refuses, step-refuses, stack-refused, stack-aligned}
-use Rattle.machine.proofs.Taints.{Follows, taintsIn, taints-by-rule}
+use Rattle.machine.proofs.Answers.{Refuses}
+use Rattle.machine.proofs.Taints.{Follows, taintsIn}
 use Rattle.session.proofs.Exact.{step-exact, register-exact}
 use Rattle.session.proofs.Watching.{observed-opens, observed-keeps}
 use Rattle.machine.proofs.Exclusives.{load-arms, store-exclusive, others-keep, open-fails, tests-first}
 use Rattle.execution.specs.Walk.{Log, Result, notBegun, runOf}
-use Rattle.execution.specs.Run.{machineRun}
+use Rattle.execution.specs.Secrecy.{Same, Filled, SameRoom, ShowsRun}
 use Rattle.execution.proofs.Walks.{run-keeps, run-ends, run-bad, run-short}
-use Rattle.execution.proofs.Refusals.{begun-late, early-unchanged}
+use Rattle.secrecy.specs.Shows.{Shows}
 use Rattle.secrecy.proofs.Halves.{secret}
-use Rattle.execution.proofs.Secrecy.{step-related, demand-3 as demand-3-of-runs, other-half, taints-of-run}
+use Rattle.execution.proofs.Secrecy.{step-related, demand-3 as demand-3-of-runs, other-half}
+use Rattle.arm.specs.Choices.{badStart, armStep, armRun, markRule}
 use Rattle.arm.proofs.Arm.{step-as-arm}
-use Rattle.arm.proofs.Runs.{run-as-arm}
+use Rattle.arm.proofs.Answers.{answers-in, given-in, refuses-in, done-by-page, refused-unchanged, marked-refused, stack-refused, stack-aligned}
+use Rattle.arm.proofs.Runs.{run-as-arm, run-begun, run-early}
+use Rattle.arm.proofs.Rules.{marks-in, marks-of-run}
 use Rattle.machine.proofs.Reals.{step-real, cleared, cleared-real}
 use Rattle.encoder.specs.Exact.{Word, Exact}
 use Rattle.encoder.proofs.RoundTrip.{encode-exact}
@@ -190,10 +199,33 @@ pub step-marks : (rule : Shown → Taints → Taints) (m : Machine) (s : Step Ma
 step-marks rule m (stopped answer address) r h = rw (ne-eqb (answerNumber answer) 0 r)
 step-marks rule m (moved n shown) r h = h
 
-tainted-answer : (b d : Bool) (class : Answer) → answerNumber (pick b BadWindow (pick d TaintedAddress class)) ≡ pick b 1 (pick d 5 (answerNumber class))
-tainted-answer true d class = refl
-tainted-answer false true class = refl
-tainted-answer false false class = refl
+marked-answer : (m : Machine) (b d : Bool) (class : Answer)
+    → answerNumber (performed m (pick b (stopped BadWindow 0) (pick d (stopped TaintedAddress 0) (stopped class 0))) .answer) ≡ pick b 1 (pick d 5 (answerNumber class))
+marked-answer m true d class = refl
+marked-answer m false true class = refl
+marked-answer m false false class = refl
+
+-- 2, 3 and 4 are what a word is classified as
+class-is : (word : ℕ) → answerNumber (answerIn (classRefusals word)) ≡ answerNumber (classOf word)
+unfolding classOf
+class-is word = sym (class-answer (inSet word) (undefined word) (unpredictable word))
+
+-- what is known of the machine's step is known of Arm's
+by-arm : (w : Window) (word : ℕ) (m : Machine) → Real m → (P : Step Machine → Type 0) → P (stepOf w word m) → P (armStep w word m)
+by-arm w word m r P h = subst P (step-as-arm w word m r) h
+
+pub two-steps : (w : Window) (word : ℕ) (m n : Machine) → Same m n → Shows Same (armStep w word m) (armStep w word n)
+two-steps w word m n h = rw (← step-as-arm w word m (h .real), ← step-as-arm w word n (h .other)) (step-related secret w m n h word)
+
+pub two-runs : (w : Window) (words : List ℕ) (m n : Machine) (l k : Log) → Same m n → SameRoom l k → ShowsRun Same (armRun w words m l) (armRun w words n k)
+two-runs w words m n l k h room = rw (← run-as-arm w words m l (h .real), ← run-as-arm w words n k (h .other)) (demand-3-of-runs w words m n l k h room)
+
+pub two-fillings : (w : Window) (words : List ℕ) (m n : Machine) (l k : Log) → Filled m n → SameRoom l k → ShowsRun Filled (armRun w words m l) (armRun w words n k)
+two-fillings w words m n l k h room = rw (← run-as-arm w words m l (h .real), ← run-as-arm w words n k (h .other)) (other-half w words m n l k h room)
+
+-- a machine with another monitor
+real-monitor : (r : Monitor) (m : Machine) → Real m → Real (withMonitor r m)
+real-monitor r m h = record { registers = h .registers; marks = h .marks; values = h .values; marked = h .marked; bytes = h .bytes }
 
 -- ---- runs that are not begun, and registers that there aren't
 
@@ -230,10 +262,10 @@ demand-1 =
       written = λ word buffer. by-definition (writeOf word buffer) (written-number word buffer);
       read = read-answered;
       listed = λ bytes output. by-definition (listOf bytes output) (listed-number bytes output);
-      step = λ w word m. by-definition (performed m (stepOf w word m)) (step-number w word m);
-      run = λ w words m l. by-definition (machineRun w words m l) (run-number w words m l);
-      step-answers = λ w word m. ap answerNumber (answers-exact w word m);
-      step-given = answers-given;
+      step = λ w word m. by-definition (performed m (armStep w word m)) (step-number w word m);
+      run = λ w words m l. by-definition (armRun w words m l) (run-number w words m l);
+      step-answers = λ w word m. ap answerNumber (answers-in w Alone word m);
+      step-given = λ w word m. given-in w Alone word m;
       decode-answers = λ word. decode-answer (inSet word) (undefined word);
       class-answers = λ word. class-answer (inSet word) (undefined word) (unpredictable word);
       write-answers = write-number;
@@ -245,23 +277,22 @@ demand-1 =
       read-answers = read-answer;
       encode-answers = λ i. encode-answer i (encode-exact i);
       encode-empty = empty-refused;
-      run-window = λ w words m l e. not-begun (sym (run-bad (bad w) (stepOf w) words m l refl e));
-      run-room = λ w words m l e g. not-begun (sym (run-short (bad w) (stepOf w) words m l refl e g));
-      run-early = λ w words m l h. not-begun (early-unchanged w words m l h);
-      run-answers = λ w words m l e g. (begun-late w words m l e g, run-ends (stepOf w) (step-refuses w) (bad w) words m l e g);
+      run-window = λ w words m l e. not-begun (sym (run-bad (badStart w) (armStep w) words m l refl e));
+      run-room = λ w words m l e g. not-begun (sym (run-short (badStart w) (armStep w) words m l refl e g));
+      run-early = λ w words m l r h. not-begun (run-early w words m l r h);
+      run-answers = λ w words m l r e g. (run-begun w words m l r e g, run-ends (armStep w) (refuses-in w Alone) (badStart w) words m l e g);
       register-above = above-31;
       register-zero = zero-register;
-      refused-step = refused-unchanged;
-      refused-run = λ w words m l. run-keeps (stepOf w) (bad w) words m l;
+      refused-step = λ w word m. refused-unchanged m (armStep w word m);
+      refused-run = λ w words m l. run-keeps (armStep w) (badStart w) words m l;
     }
 
 pub demand-2 : Demand2
 demand-2 =
     let (line-of, words-records, records-lines, words-lines) = triangle in
     record {
-      step-as-arm = step-as-arm;
-      run-as-arm = run-as-arm;
-      step-real = step-real;
+      step-by-page = λ w word m. done-by-page w Alone word m;
+      step-real = λ w word m r. by-arm w word m r (λ s. Real (performed m s .machine)) (step-real w word m r);
       some-real = (cleared 0, cleared-real 0);
       never-overlap = never-overlap;
       one-sort = exactly-one;
@@ -277,13 +308,40 @@ demand-2 =
 pub demand-3 : Demand3
 demand-3 =
     record {
-      two-runs = demand-3-of-runs;
-      two-fillings = other-half;
-      two-steps = λ w word m n h. step-related secret w m n h word;
-      marks-at-end = taints-of-run;
-      marks-of-step = λ w word m. step-marks (wordRule (w .origin) word) m (stepOf w word m) (step-refuses w word m) (taints-by-rule w word m);
-      marked-address = λ w word m t a e h. ap (λ s. answerNumber (performed m s .answer)) (tainted-refused w word m t a e h) ∙ tainted-answer (bad w m) (eqb (answerNumber (classOf word)) 0) (classOf word);
+      two-runs = two-runs;
+      two-fillings = two-fillings;
+      two-steps = two-steps;
+      marks-at-end = marks-of-run;
+      marks-of-step = λ w word m r. step-marks (markRule (w .origin) word) m (armStep w word m) (refuses-in w Alone word m) (marks-in w Alone word m r);
+      marked-address =
+          λ w word m n h.
+          rw (← class-is word)
+          (ap (λ s. answerNumber (performed m s .answer)) (marked-refused w Alone word m n h)
+          ∙ marked-answer m (badStart w m) (eqb (answerNumber (answerIn (classRefusals word))) 0) (answerIn (classRefusals word)));
     }
+
+-- ---- exclusives, of any step
+
+abbrev Arms : ℕ → Machine → Step Machine → Type 0
+Arms word m s = answerNumber (performed m s .answer) ≡ 0 → performed m s .machine .monitor ≡ record { address = performed m s .shown .address; size = 2 ^ field 31 30 word }
+
+abbrev Stores : Window → ℕ → Machine → Step Machine → Type 0
+Stores w word m s = answerNumber (performed m s .answer) ≡ 0 → StoresExclusive (w .origin) (2 ^ field 31 30 word) (field 20 16 word) (field 4 0 word) m (performed m s)
+
+abbrev Keeps : Machine → Step Machine → Type 0
+Keeps m s = (performed m s .machine .monitor ≡ m .monitor) × (performed m s .shown .status ≡ 0)
+
+abbrev Fails : Machine → Step Machine → Type 0
+Fails m s = answerNumber (performed m s .answer) ≡ 0 → m .monitor .size ≡ 0 → performed m s .shown .status ≡ 1
+
+abbrev Tested : Machine → Machine → Step Machine → Step Machine → Type 0
+Tested m n s t =
+    (answerNumber (performed n t .answer) ≡ answerNumber (performed m s .answer)) × (performed n t .shown .code ≡ performed m s .shown .code) × (performed n t .shown .address ≡ performed m s .shown .address)
+
+tested-first : (w : Window) (word : ℕ) (m : Machine) (r : Monitor) → Real m → Tested m (withMonitor r m) (armStep w word m) (armStep w word (withMonitor r m))
+tested-first w word m r h =
+    by-arm w word m h (λ s. Tested m (withMonitor r m) s (armStep w word (withMonitor r m)))
+    (by-arm w word (withMonitor r m) (real-monitor r m h) (Tested m (withMonitor r m) (stepOf w word m)) (tests-first w word m r))
 
 -- by computing
 decimal-hints : Each (λ r. wordText (0xf8800020 + r) ≡ asc "prfum #" ++ dec r ++ asc ", [x1]") (6 ∷ 7 ∷ 14 ∷ 15 ∷ 22 ∷ 23 ∷ 24 ∷ 25 ∷ 26 ∷ 27 ∷ 28 ∷ 29 ∷ 30 ∷ 31 ∷ [])
@@ -293,20 +351,20 @@ decimal-hints = (refl, (refl, (refl, (refl, (refl, (refl, (refl, (refl, (refl, (
 pub requests : Requests
 requests =
     record {
-      stack-aligned = stack-aligned;
+      stack-aligned = λ w word m. stack-aligned w Alone word m;
       stack-refused =
-          λ w word m t a e r b d c u h.
-          let refused = stack-refused w word m t a e r b d c u h in
+          λ w word m n b d start class u h.
+          let refused = stack-refused w Alone word m n b d start (class-is word ∙ class) u h in
           (ap (λ s. answerNumber (performed m s .answer)) refused, ap (λ s. performed m s .shown) refused);
       table-decodes = decode-same;
       entry-names = entry-names;
       entry-code = entry-code;
-      load-arms = load-arms;
-      store-exclusive = store-exclusive;
-      others-keep = others-keep;
-      tests-first = tests-first;
+      load-arms = λ w word m r e. by-arm w word m r (Arms word m) (load-arms w word m e);
+      store-exclusive = λ w word m r e. by-arm w word m r (Stores w word m) (store-exclusive w word m e);
+      others-keep = λ w word m r e f. by-arm w word m r (Keeps m) (others-keep w word m e f);
+      tests-first = tested-first;
       opens = λ s. (refl, refl, refl);
-      open-fails = open-fails;
+      open-fails = λ w word m r e. by-arm w word m r (Fails m) (open-fails w word m e);
       observed-opens = observed-opens;
       observed-keeps = observed-keeps;
       text-most = text-short;
@@ -325,5 +383,5 @@ requests =
       lent-step = step-exact;
       lent-register = register-exact;
       vector-four = vector-four;
-      load-clears = load-clears;
+      load-clears = λ w word m r n vector done. load-clears w word m r vector done n;
     }

@@ -20,27 +20,22 @@ use Rattle.instruction.specs.Table.{inSet}
 use Rattle.vectors.specs.declared.Halves.{Halves}
 use Rattle.vectors.specs.File.{wide, withVector, Held}
 use Rattle.plan.specs.declared.window.Window.{Window}
+use Rattle.plan.specs.declared.ranges.Reach.the-variants.{Alone}
 use Rattle.machine.specs.declared.State.{State}
 use Rattle.machine.specs.declared.Shown.{Shown}
-use Rattle.machine.specs.Rule.{wordRule}
 use Rattle.machine.specs.Machine.{Machine, machineOf}
-use Rattle.machine.specs.Refusals.{bad}
-use Rattle.machine.specs.Step.{Step, stopped, moved, stepOf, performed}
-use Rattle.machine.proofs.Answers.{answers-exact, refused-unchanged, step-refuses}
-use Rattle.machine.proofs.Taints.{taints-by-rule}
+use Rattle.machine.specs.Step.{Step, stopped, moved, performed}
 use Rattle.session.specs.Vector.{vectorAt}
 use Rattle.session.specs.Lent.{Holding, Lent, replyOf}
 use Rattle.session.proofs.Exact.{state-same, vectors-same, vector-taint-same}
 use Rattle.secrecy.specs.Shows.{Shows}
-use Rattle.secrecy.proofs.Halves.{secret}
 use Rattle.execution.specs.Walk.{Log, log, Result, notBegun, afterSteps}
 use Rattle.execution.specs.Ends.{Early}
-use Rattle.execution.specs.Run.{machineRun}
 use Rattle.execution.specs.Secrecy.{Same, Filled, SameRoom, ShowsRun}
-use Rattle.execution.proofs.Refusals.{early-unchanged}
-use Rattle.execution.proofs.Secrecy.{step-related, demand-3, other-half, taints-of-run}
-use Rattle.arm.proofs.Arm.{step-as-arm}
-use Rattle.arm.proofs.Runs.{run-as-arm}
+use Rattle.arm.specs.Choices.{badStart, armStep, armRun, markRule}
+use Rattle.arm.proofs.Answers.{answers-in, refuses-in, refused-unchanged}
+use Rattle.arm.proofs.Runs.{run-early}
+use Rattle.arm.proofs.Rules.{marks-in, marks-of-run}
 use Rattle.reader.specs.Reading.{LineOf}
 use Rattle.host.specs.declared.RunReply.{RunReply}
 use Rattle.host.specs.declared.WordReply.{WordReply}
@@ -52,7 +47,7 @@ use Rattle.records.proofs.Spaces.{set-touches}
 use Rattle.promises.specs.Answered.{oneOf}
 use Rattle.promises.specs.Library.{StepCall, stepStart, stepEnd, StepGives, Slices, RunCall, runStart, runEnd, lentLog, Gives, RunGives, RunsShow, Library}
 use Rattle.promises.proofs.Answered.{step-number, run-number, word-some, word-number}
-use Rattle.promises.proofs.Demands.{not-both, step-marks}
+use Rattle.promises.proofs.Demands.{not-both, step-marks, two-steps as steps-related, two-runs as runs-related, two-fillings as runs-filled}
 
 -- a relation carried over two equations
 carried : {A : Type 0} (R : A → A → Type 0) {x y t u : A} → x ≡ t → y ≡ u → R t u → R x y
@@ -65,7 +60,7 @@ held-part x vs l e = (sym (take-at x (map wide vs) 32 l) ∙ ap (take 32) e, sym
 
 -- ---- a step
 
-step-gives : (c : StepCall) → StepGives c (performed (stepStart c) (stepOf (c .window) (c .word) (stepStart c)))
+step-gives : (c : StepCall) → StepGives c (performed (stepStart c) (armStep (c .window) (c .word) (stepStart c)))
 step-gives c =
     let (values, vectors) = held-part (c .session′ .registers .value) (c .vectors′) (c .held′ .values) (ap (λ (l : Lent). l .machine .values) (c .allowed)) in
     let (marks, vector-marks) = held-part (c .session′ .registers .taint) (c .vector-taint′) (c .held′ .taints) (ap (λ (l : Lent). l .machine .taints .registers) (c .allowed)) in
@@ -85,7 +80,7 @@ step-gives c =
     }
 
 step-unchanged : (c : StepCall) → ¬ (c .reply .answer ≡ 0) → stepEnd c ≡ stepStart c
-step-unchanged c h = ap (λ (l : Lent). l .machine) (c .allowed) ∙ refused-unchanged (c .window) (c .word) (stepStart c) (λ e. h (step-gives c .answer ∙ e))
+step-unchanged c h = ap (λ (l : Lent). l .machine) (c .allowed) ∙ refused-unchanged (stepStart c) (armStep (c .window) (c .word) (stepStart c)) (λ e. h (step-gives c .answer ∙ e))
 
 step-kept : (c : StepCall) → ¬ (c .reply .answer ≡ 0)
     → (c .session′ ≡ c .session) × (c .vectors′ ≡ c .vectors) × (c .vector-taint′ ≡ c .vector-taint) × (c .memory′ ≡ c .memory) × (c .taint′ ≡ c .taint)
@@ -111,8 +106,8 @@ shows-lent m n (stopped answer address) (moved q seen) r h = absurd h
 shows-lent m n (moved p shown) (stopped other place) r h = absurd h
 shows-lent m n (moved p shown) (moved q seen) r (h, e) = record { reply = rw e; machine = h }
 
-steps-lent : {w v : Window} {x y : ℕ} (m n : Machine) → w ≡ v → x ≡ y → Same m n → ShowsLent (lentBy m (stepOf w x m)) (lentBy n (stepOf v y n))
-steps-lent {w} {v} {x} {y} m n e f h = rw (← e, ← f) (shows-lent m n (stepOf w x m) (stepOf w x n) h (step-related secret w m n h x))
+steps-lent : {w v : Window} {x y : ℕ} (m n : Machine) → w ≡ v → x ≡ y → Same m n → ShowsLent (lentBy m (armStep w x m)) (lentBy n (armStep v y n))
+steps-lent {w} {v} {x} {y} m n e f h = rw (← e, ← f) (shows-lent m n (armStep w x m) (armStep w x n) h (steps-related w x m n h))
 
 two-steps : (c d : StepCall) → c .window ≡ d .window → c .word ≡ d .word → Same (stepStart c) (stepStart d) → (c .reply ≡ d .reply) × Same (stepEnd c) (stepEnd d)
 two-steps c d e f h =
@@ -120,16 +115,16 @@ two-steps c d e f h =
     (s .reply, s .machine)
 
 done-marks : (c : StepCall) → c .reply .answer ≡ 0
-    → stepEnd c .taints ≡ wordRule (c .window .origin) (c .word) (record { code = c .reply .code; address = c .reply .address; status = c .reply .status }) (stepStart c .taints)
+    → stepEnd c .taints ≡ markRule (c .window .origin) (c .word) (record { code = c .reply .code; address = c .reply .address; status = c .reply .status }) (stepStart c .taints)
 done-marks c e =
     let m = stepStart c in
-    let s = stepOf (c .window) (c .word) m in
+    let s = armStep (c .window) (c .word) m in
     let done : answerNumber (performed m s .answer) ≡ 0 = sym (step-gives c .answer) ∙ e in
     let shown : performed m s .shown ≡ record { code = c .reply .code; address = c .reply .address; status = c .reply .status } =
     ap (λ (l : Lent). record { code = l .reply .code; address = l .reply .address; status = l .reply .status }) (sym (c .allowed)) in
     ap (λ (l : Lent). l .machine .taints) (c .allowed)
-    ∙ step-marks (wordRule (c .window .origin) (c .word)) m s (step-refuses (c .window) (c .word) m) (taints-by-rule (c .window) (c .word) m)
-    ∙ rw done (ap (λ (s : Shown). wordRule (c .window .origin) (c .word) s (m .taints)) shown)
+    ∙ step-marks (markRule (c .window .origin) (c .word)) m s (refuses-in (c .window) Alone (c .word) m) (marks-in (c .window) Alone (c .word) m (c .real))
+    ∙ rw done (ap (λ (s : Shown). markRule (c .window .origin) (c .word) s (m .taints)) shown)
 
 -- ---- a vector register
 
@@ -179,8 +174,8 @@ gives reply after r held allowed =
       statuses = ap (λ (h : Hosted). h .log .statuses) allowed;
     }
 
-pub run-gives : (c : RunCall) → RunGives c (machineRun (c .window) (c .words) (runStart c) (lentLog c))
-run-gives c = gives (c .reply) (c .after) (machineRun (c .window) (c .words) (runStart c) (lentLog c)) (c .held′) (c .allowed)
+pub run-gives : (c : RunCall) → RunGives c (armRun (c .window) (c .words) (runStart c) (lentLog c))
+run-gives c = gives (c .reply) (c .after) (armRun (c .window) (c .words) (runStart c) (lentLog c)) (c .held′) (c .allowed)
 
 abbrev slices : List (List ℕ) → List (List ℕ) → List ℕ → List ℕ → List ℕ → List ℕ → Slices
 slices v u m k t s = record { vectors = v; vector-taint = u; memory = m; taint = k; trace = t; statuses = s }
@@ -216,9 +211,9 @@ as-before session before reply after answer held held′ same =
 run-unbegun : (c : RunCall) → Early (c .reply .answer)
     → (c .reply .steps ≡ 0) × (c .reply .code ≡ 0) × (c .reply .address ≡ 0) × (c .reply .session ≡ c .session) × (c .after ≡ c .before)
 run-unbegun c h =
-    let r = machineRun (c .window) (c .words) (runStart c) (lentLog c) in
+    let r = armRun (c .window) (c .words) (runStart c) (lentLog c) in
     as-before (c .session) (c .before) (c .reply) (c .after) (r .answer) (c .held) (c .held′)
-    (c .allowed ∙ ap hostedOf (early-unchanged (c .window) (c .words) (runStart c) (lentLog c) (subst Early (run-gives c .answer) h)))
+    (c .allowed ∙ ap hostedOf (run-early (c .window) (c .words) (runStart c) (lentLog c) (c .real) (subst Early (run-gives c .answer) h)))
 
 record ShowsHosted (R : Machine → Machine → Type 0) (t u : Hosted) : Type 0 where
   answer : t .answer ≡ u .answer
@@ -230,7 +225,7 @@ record ShowsHosted (R : Machine → Machine → Type 0) (t u : Hosted) : Type 0 
   machine : R (t .machine) (u .machine)
 
 module _ (R : Machine → Machine → Type 0)
-    (shows : (w : Window) (words : List ℕ) (m n : Machine) (l k : Log) → R m n → SameRoom l k → ShowsRun R (machineRun w words m l) (machineRun w words n k)) where
+    (shows : (w : Window) (words : List ℕ) (m n : Machine) (l k : Log) → R m n → SameRoom l k → ShowsRun R (armRun w words m l) (armRun w words n k)) where
   shows-hosted : {w v : Window} {x y : List ℕ} (m n : Machine) (l k : Log) → w ≡ v → x ≡ y → R m n → SameRoom l k → ShowsHosted R (hostRun w x m l) (hostRun v y n k)
   shows-hosted {w} {v} {x} {y} m n l k e f h room =
       let r = shows w x m n l k h room in
@@ -251,10 +246,10 @@ module _ (R : Machine → Machine → Type 0)
       record { answer = s .answer; code = s .code; address = s .address; steps = s .steps; trace = s .trace; statuses = s .statuses; machine = s .machine }
 
 run-marks : (c : RunCall)
-    → runEnd c .taints ≡ afterSteps (wordRule (c .window .origin)) (c .words) (log (c .after .trace) (c .after .statuses)) (c .reply .steps) (runStart c .taints)
+    → runEnd c .taints ≡ afterSteps (markRule (c .window .origin)) (c .words) (log (c .after .trace) (c .after .statuses)) (c .reply .steps) (runStart c .taints)
 run-marks c =
-    subst (λ (h : Hosted). h .machine .taints ≡ afterSteps (wordRule (c .window .origin)) (c .words) (h .log) (h .steps) (runStart c .taints)) (sym (c .allowed))
-    (taints-of-run (c .window) (c .words) (runStart c) (lentLog c))
+    subst (λ (h : Hosted). h .machine .taints ≡ afterSteps (markRule (c .window .origin)) (c .words) (h .log) (h .steps) (runStart c .taints)) (sym (c .allowed))
+    (marks-of-run (c .window) (c .words) (runStart c) (lentLog c) (c .real))
 
 -- ---- the word of a text
 
@@ -315,8 +310,8 @@ outside-set word t = go (inSet word) refl
     go true e = absurd (let u = set-touches word e in let z : _≡_ {A = ℕ} 0 1 = cc in omega arith)
     go false e = e
 
-never-stepped : (w : Window) (word : ℕ) (m : Machine) → touchesMemory word ≡ false → answerNumber (performed m (stepOf w word m) .answer) ≡ pick (bad w m) 1 2
-never-stepped w word m t = ap answerNumber (answers-exact w word m) ∙ rw (outside-set word t) (number-at (bad w m))
+never-stepped : (w : Window) (word : ℕ) (m : Machine) → touchesMemory word ≡ false → answerNumber (performed m (armStep w word m) .answer) ≡ pick (badStart w m) 1 2
+never-stepped w word m t = ap answerNumber (answers-in w Alone word m) ∙ rw (outside-set word t) (number-at (badStart w m))
   where
     number-at : (b : Bool) → answerNumber (pick b Answer.BadWindow Answer.NotInSet) ≡ pick b 1 2
     number-at true = refl
@@ -327,17 +322,15 @@ library =
     record {
       machine = λ s vectors vector-taint memory taint. refl;
       step = step-gives;
-      step-as-arm = λ c r. subst (λ (s : Step Machine). StepGives c (performed (stepStart c) s)) (step-as-arm (c .window) (c .word) (stepStart c) r) (step-gives c);
       step-answers = λ c. rw (step-gives c .answer) (step-number (c .window) (c .word) (stepStart c));
       step-refused = step-kept;
       two-steps = two-steps;
       step-marks = done-marks;
       run = run-gives;
-      run-as-arm = λ c r. subst (RunGives c) (run-as-arm (c .window) (c .words) (runStart c) (lentLog c) r) (run-gives c);
       run-answers = λ c. rw (run-gives c .answer) (run-number (c .window) (c .words) (runStart c) (lentLog c));
       run-early = run-unbegun;
-      two-runs = two-runs Same demand-3;
-      two-fillings = two-runs Filled other-half;
+      two-runs = two-runs Same runs-related;
+      two-fillings = two-runs Filled runs-filled;
       run-marks = run-marks;
       vector-set = vector-set;
       vector-other = vector-other;

@@ -13,25 +13,23 @@ use Rattle.plan.specs.declared.ranges.Ranges.{Ranges}
 use Rattle.plan.specs.declared.ranges.Reach.the-variants.{Ranged}
 use Rattle.plan.specs.Ranges.{share, overlap, misses, badRanges}
 use Rattle.machine.specs.declared.Shown.{Shown}
-use Rattle.machine.specs.Rule.{wordRule}
 use Rattle.machine.specs.Machine.{Machine}
-use Rattle.machine.specs.Refusals.{bad}
-use Rattle.machine.proofs.Answers.{answers-in}
+use Rattle.machine.specs.Real.{Real}
 use Rattle.execution.specs.Walk.{Log, log, Result, afterSteps}
 use Rattle.execution.specs.Ends.{Early}
-use Rattle.execution.specs.Run.{plainWindow, badTurn, turnStep, turnOf}
+use Rattle.execution.specs.Run.{plainWindow}
 use Rattle.execution.specs.Secrecy.{ShowsRun}
-use Rattle.execution.proofs.Walks.{run-bad, run-short}
-use Rattle.arm.proofs.Runs.{turn-as-arm}
+use Rattle.execution.proofs.Walks.{run-bad, run-short, run-keeps, run-ends}
+use Rattle.arm.specs.Choices.{badStart, badTurnStart, armTurnStep, armTurn, markRule}
+use Rattle.arm.proofs.Answers.{answers-in, given-in, refuses-in}
+use Rattle.arm.proofs.Rules.{marks-of-turn}
 use Rattle.host.specs.Hosting.{Hosted, hostedOf}
 use Rattle.turns.specs.Sight.{In, Sees, Framed}
 use Rattle.turns.specs.Turns.{World, ownMachine, otherMachine, swapped, Turn, afterOurs, afterTheirs, Report, playOf, SameOrder, Reports, ShowsPlay}
 use Rattle.turns.specs.Views.{Unchanged, SameOver, FilledOver}
 use Rattle.turns.proofs.Ranges.{share-exact, bad-both}
-use Rattle.turns.proofs.Frames.{turn-framed}
 use Rattle.turns.proofs.Plays.{play-swapped}
-use Rattle.turns.proofs.Views.{isolation, demand-3-each, other-half-each, taints-of-turn}
-use Rattle.turns.proofs.Answers.{turn-given, turn-early, turn-begun, turn-ends, turn-keeps, turn-allowed}
+use Rattle.turns.proofs.Arms.{arm-early, arm-begun, arm-framed, arm-allowed, arm-isolation, arm-demand-3, arm-other-half}
 use Rattle.image.proofs.Faults.{Tells}
 use Rattle.promises.specs.Demands.{NotBegun}
 use Rattle.promises.specs.Library.{Gives}
@@ -62,8 +60,8 @@ second-true : (a b : Bool) → b ≡ true → (a || b) ≡ true
 second-true true b e = refl
 second-true false b e = e
 
-turn-bad : (origin : ℕ) (r : Ranges) (words : List ℕ) (m : Machine) (l : Log) → badTurn origin r m ≡ true → NotBegun 1 m l (turnOf origin r words m l)
-turn-bad origin r words m l e = not-begun (sym (run-bad (badTurn origin r) (turnStep origin r) words m l refl e))
+turn-bad : (origin : ℕ) (r : Ranges) (words : List ℕ) (m : Machine) (l : Log) → badTurnStart origin r m ≡ true → NotBegun 1 m l (armTurn origin r words m l)
+turn-bad origin r words m l e = not-begun (sym (run-bad (badTurnStart origin r) (armTurnStep origin r) words m l refl e))
 
 call-gives : (c : TurnCall) → Gives (c .reply) (c .after) (called c)
 call-gives c = gives (c .reply) (c .after) (called c) (c .held′) (c .allowed)
@@ -72,40 +70,40 @@ call-unbegun : (c : TurnCall) → Early (c .reply .answer)
     → (c .reply .steps ≡ 0) × (c .reply .code ≡ 0) × (c .reply .address ≡ 0) × (c .reply .session ≡ c .session) × (c .after ≡ c .before)
 call-unbegun c h =
     as-before (c .session) (c .before) (c .reply) (c .after) (called c .answer) (c .held) (c .held′)
-    (c .allowed ∙ ap hostedOf (turn-early (c .origin) (c .ranges) (c .words) (turnStart c) (turnLog c) (subst Early (call-gives c .answer) h)))
+    (c .allowed ∙ ap hostedOf (arm-early (c .origin) (c .ranges) (c .words) (turnStart c) (turnLog c) (c .real) (subst Early (call-gives c .answer) h)))
 
 call-framed : (c : TurnCall) → Framed (λ i. ¬ In (c .ranges .own) (c .origin + i)) (turnStart c) (turnEnd c)
 call-framed c =
     subst (λ (h : Hosted). Framed (λ i. ¬ In (c .ranges .own) (c .origin + i)) (turnStart c) (h .machine)) (sym (c .allowed))
-    (turn-framed (c .origin) (c .ranges) (c .words) (turnStart c) (turnLog c))
+    (arm-framed (c .origin) (c .ranges) (c .words) (turnStart c) (turnLog c) (c .real))
 
-call-marks : (c : TurnCall) → turnEnd c .taints ≡ afterSteps (wordRule (c .origin)) (c .words) (log (c .after .trace) (c .after .statuses)) (c .reply .steps) (turnStart c .taints)
+call-marks : (c : TurnCall) → turnEnd c .taints ≡ afterSteps (markRule (c .origin)) (c .words) (log (c .after .trace) (c .after .statuses)) (c .reply .steps) (turnStart c .taints)
 call-marks c =
-    subst (λ (h : Hosted). h .machine .taints ≡ afterSteps (wordRule (c .origin)) (c .words) (h .log) (h .steps) (turnStart c .taints)) (sym (c .allowed))
-    (taints-of-turn (c .origin) (c .ranges) (c .words) (turnStart c) (turnLog c))
+    subst (λ (h : Hosted). h .machine .taints ≡ afterSteps (markRule (c .origin)) (c .words) (h .log) (h .steps) (turnStart c .taints)) (sym (c .allowed))
+    (marks-of-turn (c .origin) (c .ranges) (c .words) (turnStart c) (turnLog c) (c .real))
 
 -- ---- the calls of a host
 
 -- what a call leaves is what the turn of the definition leaves, from where it is started
-ended-as : (c : TurnCall) {origin : ℕ} {r : Ranges} {m : Machine} → c .origin ≡ origin → c .ranges ≡ r → turnStart c ≡ m → called c ≡ turnOf origin r (c .words) m (turnLog c)
+ended-as : (c : TurnCall) {origin : ℕ} {r : Ranges} {m : Machine} → c .origin ≡ origin → c .ranges ≡ r → turnStart c ≡ m → called c ≡ armTurn origin r (c .words) m (turnLog c)
 ended-as c e f g = rw (← e, ← f, ← g)
 
 machine-left : (c : TurnCall) → turnEnd c ≡ called c .machine
 machine-left c = ap (λ (h : Hosted). h .machine) (c .allowed)
 
-calls-gave : (origin : ℕ) (r : Ranges) {w : World} {ts : List Turn} {cs : List TurnCall} → Calls origin r w ts cs → Gave cs (playOf origin r ts w .reports)
+calls-gave : (origin : ℕ) (r : Ranges) {w : World} {ts : List Turn} {cs : List TurnCall} → Calls origin r w ts cs → Gave cs (playOf (armTurn origin) r ts w .reports)
 unfolding playOf
 calls-gave origin r none = nothing
 calls-gave origin r {w} (mine {ts = ts} {cs = cs} c e f g further) =
-    let t = turnOf origin r (c .words) (ownMachine w) (turnLog c) in
+    let t = armTurn origin r (c .words) (ownMachine w) (turnLog c) in
     let same : called c ≡ t = ended-as c e f g in
     let left : turnEnd c ≡ t .machine = machine-left c ∙ ap (λ (x : Result Machine). x .machine) same in
     more c (record { lent = turnLog c; result = t }) refl left (subst (Gives (c .reply) (c .after)) same (call-gives c))
-    (subst (λ (m : Machine). Gave cs (playOf origin r ts (afterOurs w m) .reports)) left (calls-gave origin r further))
+    (subst (λ (m : Machine). Gave cs (playOf (armTurn origin) r ts (afterOurs w m) .reports)) left (calls-gave origin r further))
 calls-gave origin r {w} (another {ts = ts} {cs = cs} c e f g further) =
-    let t = turnOf origin (swapped r) (c .words) (otherMachine w) (turnLog c) in
+    let t = armTurn origin (swapped r) (c .words) (otherMachine w) (turnLog c) in
     let left : turnEnd c ≡ t .machine = machine-left c ∙ ap (λ (x : Result Machine). x .machine) (ended-as c e f g) in
-    subst (λ (m : Machine). Gave cs (playOf origin r ts (afterTheirs w m) .reports)) left (calls-gave origin r further)
+    subst (λ (m : Machine). Gave cs (playOf (armTurn origin) r ts (afterTheirs w m) .reports)) left (calls-gave origin r further)
 
 -- two calls whose turns the definition reports, where it shows the same of both
 turns-show : (R : Machine → Machine → Type 0) (c d : TurnCall) (p q : Report) → turnLog c ≡ p .lent → turnLog d ≡ q .lent → turnEnd c ≡ p .result .machine → turnEnd d ≡ q .result .machine
@@ -133,37 +131,35 @@ all-show R nothing nothing Reports.none = neither
 all-show R (more c p lent left g further) (more d q lent′ left′ h others) (Reports.more s logs rest) = both c d (turns-show R c d p q lent lent′ left left′ g h s logs) (all-show R further others rest)
 
 calls-show : (origin : ℕ) (r : Ranges) (R : Machine → Machine → Type 0)
-    → ((ts us : List Turn) → SameOrder ts us → (w v : World) → R (ownMachine w) (ownMachine v) → ShowsPlay R (playOf origin r ts w) (playOf origin r us v)) → CallsShow origin r R
-calls-show origin r R shows w v ts us cs ds order c d h = all-show R (calls-gave origin r c) (calls-gave origin r d) (shows ts us order w v h .reports)
+    → ((ts us : List Turn) → SameOrder ts us → (w v : World) → Real (otherMachine w) → Real (otherMachine v) → R (ownMachine w) (ownMachine v) → ShowsPlay R (playOf (armTurn origin) r ts w) (playOf (armTurn origin) r us v)) → CallsShow origin r R
+calls-show origin r R shows w v ts us cs ds order c d e f h = all-show R (calls-gave origin r c) (calls-gave origin r d) (shows ts us order w v e f h .reports)
 
 pub plugins : Plugins
 plugins =
     record {
       bad-ranges = ranges-exact;
       bad-both = bad-both;
-      turn-ranges = λ origin r words m l e. turn-bad origin r words m l (second-true (bad (plainWindow origin) m) (badRanges r origin (length (m .memory))) e);
+      turn-ranges = λ origin r words m l e. turn-bad origin r words m l (second-true (badStart (plainWindow origin) m) (badRanges r origin (length (m .memory))) e);
       turn-window = turn-bad;
-      turn-room = λ origin r words m l e g. not-begun (sym (run-short (badTurn origin r) (turnStep origin r) words m l refl e g));
-      turn-early = λ origin r words m l h. not-begun (turn-early origin r words m l h);
+      turn-room = λ origin r words m l e g. not-begun (sym (run-short (badTurnStart origin r) (armTurnStep origin r) words m l refl e g));
+      turn-early = λ origin r words m l real h. not-begun (arm-early origin r words m l real h);
       step-answers = λ origin r word m. ap answerNumber (answers-in (plainWindow origin) (Ranged r) word m);
-      step-given = turn-given;
-      turn = λ origin r words m l. by-definition (turnOf origin r words m l) (turn-number origin r words m l);
-      allowed = λ origin r word m n s t a done e. turn-allowed origin r m n s t a word done e;
-      kept = turn-keeps;
-      ends = λ origin r words m l e g. (turn-begun origin r words m l e g, turn-ends origin r words m l e g);
-      own-range = turn-framed;
-      marks = taints-of-turn;
-      turn-as-arm = turn-as-arm;
-      either = play-swapped;
-      isolation = isolation;
-      two-sequences = demand-3-each;
-      two-fillings = other-half-each;
+      step-given = λ origin r. given-in (plainWindow origin) (Ranged r);
+      turn = λ origin r words m l. by-definition (armTurn origin r words m l) (turn-number origin r words m l);
+      allowed = arm-allowed;
+      kept = λ origin r words m l. run-keeps (armTurnStep origin r) (badTurnStart origin r) words m l;
+      ends = λ origin r words m l real e g. (arm-begun origin r words m l real e g, run-ends (armTurnStep origin r) (refuses-in (plainWindow origin) (Ranged r)) (badTurnStart origin r) words m l e g);
+      own-range = arm-framed;
+      marks = marks-of-turn;
+      either = λ origin. play-swapped (armTurn origin);
+      isolation = λ origin r order. arm-isolation origin r order;
+      two-sequences = λ origin r order. arm-demand-3 origin r order;
+      two-fillings = λ origin r order. arm-other-half origin r order;
       calls = calls-gave;
-      calls-isolated = λ origin r. calls-show origin r (Unchanged (Sees origin r)) (λ ts us order. isolation origin r order);
-      calls-secret = λ origin r. calls-show origin r (SameOver (Sees origin r)) (λ ts us order. demand-3-each origin r order);
-      calls-filled = λ origin r. calls-show origin r (FilledOver (Sees origin r)) (λ ts us order. other-half-each origin r order);
+      calls-isolated = λ origin r. calls-show origin r (Unchanged (Sees origin r)) (λ ts us order. arm-isolation origin r order);
+      calls-secret = λ origin r. calls-show origin r (SameOver (Sees origin r)) (λ ts us order. arm-demand-3 origin r order);
+      calls-filled = λ origin r. calls-show origin r (FilledOver (Sees origin r)) (λ ts us order. arm-other-half origin r order);
       call = call-gives;
-      call-as-arm = λ c r. subst (Gives (c .reply) (c .after)) (turn-as-arm (c .origin) (c .ranges) (c .words) (turnStart c) (turnLog c) r) (call-gives c);
       call-answers = λ c. rw (call-gives c .answer) (turn-number (c .origin) (c .ranges) (c .words) (turnStart c) (turnLog c));
       call-early = call-unbegun;
       call-own-range = call-framed;

@@ -1,6 +1,6 @@
 -- What 02's CR 12 says of words of vector registers: when one is answer 4, and that a load clears what it doesn't fill. Assumes
 -- nothing.
-use Prim.Native.Nat.{ℕ, zero, suc, _+_, _-_, _≤_, _<_}
+use Prim.Native.Nat.{ℕ, zero, suc, _+_, _-_, _/_, _≤_, _<_}
 use mathlib.Core.Path.{_≡_, refl, sym, ap, subst, _∙_}
 use mathlib.Core.Bool.{Bool, true, false, _&&_, _||_}
 use mathlib.Core.List.{List, [], _∷_}
@@ -13,8 +13,8 @@ use lib.ListN.{getD, set}
 use lib.Seq.{getD-set-other}
 use Rattle.bits.specs.Choice.{pick}
 use Rattle.bits.specs.Fields.{field}
-use Rattle.bits.proofs.Choices.{both}
-use Rattle.bits.proofs.Parts.{Has}
+use Rattle.bits.proofs.Choices.{both, tested}
+use Rattle.bits.proofs.Parts.{Has, part-lt}
 use Rattle.instruction.specs.declared.answer.Answer.{Answer}
 use Rattle.instruction.specs.declared.row.Row.{Row}
 use Rattle.instruction.specs.Answers.{answerNumber}
@@ -34,7 +34,8 @@ use Rattle.access.specs.route.Bounds.{Whole, Bounded, Within, Moving}
 use Rattle.access.proofs.Bounds.{bounded, moving}
 use Rattle.plan.specs.declared.window.Window.{Window}
 use Rattle.plan.specs.Address.{sumOf, addressOf}
-use Rattle.plan.proofs.Refusals.{each, first-by}
+use Rattle.plan.specs.declared.ranges.Reach.the-variants.{Alone}
+use Rattle.plan.proofs.Refusals.{Passed, each, first-by}
 use Rattle.machine.specs.declared.monitor.Monitor.{Monitor}
 use Rattle.machine.specs.declared.Shown.{Shown}
 use Rattle.machine.specs.Monitor.{statusOf, monitorAfter, writtenBack}
@@ -42,9 +43,16 @@ use Rattle.machine.specs.Rule.{moveRule}
 use Rattle.machine.specs.Machine.{Machine, operandsOf, effectOf}
 use Rattle.machine.specs.Real.{Real}
 use Rattle.machine.specs.Refusals.{refusals}
-use Rattle.machine.specs.Step.{Step, stopped, moved, performOf, stepIn, stepOf}
+use Rattle.machine.specs.Step.{shown, Step, stopped, moved, performOf, stepIn, stepOf, performed}
 use Rattle.machine.proofs.Writing.{load-made}
 use Rattle.machine.proofs.Vectors.{vector-clears}
+use Rattle.arm.specs.Pseudocode.{Operation, hint, spFault, access}
+use Rattle.arm.specs.Pages.{Page}
+use Rattle.arm.specs.Choices.{afterPage, pageRefusals, pageMoves, wordPage, operationOf, armStep}
+use Rattle.arm.proofs.Arm.{step-as-arm}
+use Rattle.arm.proofs.Answers.{passes, done-by-page}
+use Rattle.arm.proofs.Steps.{Made}
+use Rattle.arm.proofs.Rules.{page-made}
 
 -- ---- answer 4
 
@@ -142,10 +150,52 @@ clear-perform origin x m r b l t a e load vector i above =
     (subst (λ (u : Transfer). Clear (t .target) i (effectOf u (a .written) (address - origin) next after m)) (sym (load-made t status load))
     (clear-effect m r t (within .0) (moves .0) load vector i above (a .written) (address - origin) next after))
 
-pub load-clears : (w : Window) (word : ℕ) (m n : Machine) (shown : Shown) (t : Transfer) (a : Addressing) → Real m → wordAccess word ≡ Moves t a → t .store ≡ false → vectorSlot (t .target) ≡ true
+flat-clears : (w : Window) (word : ℕ) (m n : Machine) (shown : Shown) (t : Transfer) (a : Addressing) → Real m → wordAccess word ≡ Moves t a → t .store ≡ false → vectorSlot (t .target) ≡ true
     → stepOf w word m ≡ moved n shown → (i : ℕ) → t .bytes ≤ i → Clear (t .target) i n
 unfolding stepIn
-load-clears w word m n shown t a r e load vector done i above =
+flat-clears w word m n shown t a r e load vector done i above =
     subst (ClearStep (t .target) i) done
     (first-by (ClearStep (t .target) i) stopped (performOf (w .origin) (wordAccess word) m) (refusals w word m) (each (λ e. tt) (refusals w word m))
     (λ p. clear-perform (w .origin) (wordAccess word) m r (bounded word) (moving word) t a e load vector i above))
+
+-- ---- by what the page does
+
+-- a code below 64 is no store's
+is-load : (store : Bool) (size : ℕ) → size + pick store 64 0 < 64 → store ≡ false
+is-load true size h = absurd (omega arith)
+is-load false size h = refl
+
+-- with no store the code is the number of bytes
+load-code : (store : Bool) (size : ℕ) → store ≡ false → size + pick store 64 0 ≡ size
+load-code store size e = rw e (omega arith)
+
+slot-vector : (n : ℕ) → n < 32 → vectorSlot (32 + n) ≡ true
+slot-vector n h = tested 32 (λ (n : ℕ). vectorSlot (32 + n)) refl n h
+
+abbrev ClearsFrom : ℕ → Machine → Page → Step Machine → Type 0
+ClearsFrom word m page s =
+    let o = performed m s in
+    o .shown .code < 64 → (i : ℕ) → pick (page .paired) (o .shown .code / 2) (o .shown .code) ≤ i → Clear (32 + field 4 0 word) i (o .machine)
+
+module _ (w : Window) (word : ℕ) (m : Machine) (r : Real m) (vector : wordPage word .vector ≡ true) (done : answerNumber (performed m (armStep w word m) .answer) ≡ 0) where
+  abbrev page : Page
+  page = wordPage word
+
+  clears-by : (o : Operation) → ¬ (o ≡ hint) → stepOf w word m ≡ pageMoves w word m page o → Made page word o → Passed (pageRefusals w Alone word m page o) → ClearsFrom word m page (pageMoves w word m page o)
+  clears-by hint n e made p below i above = absurd (n refl)
+  clears-by (spFault sp) n e made p below i above = absurd (let z : _≡_ {A = ℕ} 0 1 = cc in omega arith)
+  clears-by (access store address size status after) n e made p below i above =
+      let t = made .transfer in
+      let load = is-load store size below in
+      let target : t .target ≡ 32 + field 4 0 word = rw vector at (made .target) in
+      let bytes : t .bytes ≤ i = rw (made .each) (rw (load-code store size load) at above) in
+      subst (λ (slot : ℕ). Clear slot i (afterPage w word m page store address size status after)) target
+      (flat-clears w word m (afterPage w word m page store address size status after) (shown (size + pick store 64 0) address status) t (made .addressing) r (made .access) (made .stores ∙ load)
+      (rw target (slot-vector (field 4 0 word) (part-lt 0 5 word))) e i bytes)
+
+  pub load-clears : ¬ (operationOf w word m ≡ hint) → ClearsFrom word m page (armStep w word m)
+  load-clears n =
+      let passed = passes w Alone word m done in
+      let by-page = done-by-page w Alone word m done in
+      subst (ClearsFrom word m page) (sym by-page)
+      (clears-by (operationOf w word m) n (step-as-arm w word m r ∙ by-page) (page-made w Alone word m r passed) (passed .1 .1 .1 .1))

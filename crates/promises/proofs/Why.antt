@@ -8,7 +8,7 @@ use native.Mathlib.Decide.{ℕ-discrete}
 use native.Mathlib.Omega.{arith}
 use borrow.Author.Tests.{eqb-true, eqb-false, eq-eqb, ne-eqb, lt-ltb, le-ltb}
 use lib.Dec.{eqb, ltb}
-use lib.ListN.{length, length-append, getD}
+use lib.ListN.{length, take, length-append, getD}
 use lib.Seq.{sets}
 use Rattle.bits.specs.Choice.{pick}
 use Rattle.instruction.specs.declared.answer.Answer.the-variants.{Done, BadWindow, OutOfWindow, NoRoom, NoSuchInstruction, BadTrace, AfterEnd}
@@ -24,12 +24,15 @@ use Rattle.plan.specs.declared.window.Window.{Window}
 use Rattle.plan.specs.Admission.{outside, admitOf}
 use Rattle.plan.specs.Refusals.{answerIn, Given}
 use Rattle.plan.proofs.Refusals.{first-by}
-use Rattle.machine.specs.Machine.{codeOf}
-use Rattle.machine.specs.Step.{shown, stepOf}
+use Rattle.plan.specs.declared.ranges.Reach.the-variants.{Alone}
+use Rattle.machine.specs.Machine.{Machine, codeOf}
+use Rattle.machine.specs.Step.{shown}
 use Rattle.machine.specs.Origins.{ofRegister, taintOf}
-use Rattle.execution.specs.Walk.{Log, log, tooShort}
+use Rattle.execution.specs.Walk.{Walked, Log, log, Result, tooShort}
 use Rattle.execution.specs.Ends.{alone}
 use Rattle.execution.specs.Run.{machineRun}
+use Rattle.arm.specs.Choices.{armStep, armRun}
+use Rattle.arm.proofs.Runs.{walk-as-arm, run-as-arm}
 use Rattle.why.specs.declared.Question.{Question}
 use Rattle.why.specs.Trail.{Past, lent, taintsAt, Link, link, numbersOf}
 use Rattle.why.specs.Trace.{isRefused, wrongAccess, wrongStep, someStep, wrongAt, wrongTrace}
@@ -276,18 +279,22 @@ module _ (r : RunCall) (c : WhyCall) (of : OfRun r c) where
   abbrev ran : Past
   ran = ranPast (r .window) (r .words) (runStart r) (lentLog r)
 
+  -- Arm's run is the machine's
+  as-flat : {A : Type 0} (part : Result Machine → A) → part (armRun (r .window) (r .words) (runStart r) (lentLog r)) ≡ part (machineRun (r .window) (r .words) (runStart r) (lentLog r))
+  as-flat part = ap part (sym (run-as-arm (r .window) (r .words) (runStart r) (lentLog r) (r .real)))
+
   steps-are : c .steps ≡ machineRun (r .window) (r .words) (runStart r) (lentLog r) .steps
-  steps-are = of .steps ∙ run-gives r .steps
+  steps-are = of .steps ∙ run-gives r .steps ∙ as-flat (λ t. t .steps)
 
   call-of-run : gives c ≡ saidOf (r .window) (length (r .before .memory)) ran (machineRun (r .window) (r .words) (runStart r) (lentLog r) .steps) (c .step) (c .question) (c .links)
   call-of-run =
       left (c .steps) (c .step) (c .question) (c .links) (machineRun (r .window) (r .words) (runStart r) (lentLog r) .log) (of .window) (of .memory) (of .words)
-      (of .trace ∙ run-gives r .trace) (of .statuses ∙ run-gives r .statuses) (of .registers) (of .vectors) (of .taint)
+      (of .trace ∙ run-gives r .trace ∙ as-flat (λ t. t .log .trace)) (of .statuses ∙ run-gives r .statuses ∙ as-flat (λ t. t .log .statuses)) (of .registers) (of .vectors) (of .taint)
       ∙ ap (λ (n : ℕ). saidOf (r .window) (length (r .before .memory)) ran n (c .step) (c .question) (c .links)) steps-are
 
   module _ (early : c .step ≤ r .reply .steps) where
     early-in : c .step ≤ machineRun (r .window) (r .words) (runStart r) (lentLog r) .steps
-    early-in = omega (arith, early, run-gives r .steps)
+    early-in = omega (arith, early, run-gives r .steps, as-flat (λ t. t .steps))
 
     call-asked : ¬ (c .reply .answer ≡ 17) × ¬ (c .reply .answer ≡ 18)
     call-asked =
@@ -300,12 +307,13 @@ module _ (r : RunCall) (c : WhyCall) (of : OfRun r c) where
         omega (arith, length-append (r .session .registers .taint) (map wide (r .before .vector-taint)), length-map wide (r .before .vector-taint), r .held .taints, r .held .vector-taint-held .count)
 
     call-told : c .reply .answer ≡ 0
-        → (c .reply .links ≡ 0) ↔ (taintOf (alone (stepOf (r .window)) (r .words) (runStart r) (c .step) .machine .taints) (asked c) ≡ false)
+        → (c .reply .links ≡ 0) ↔ (taintOf (alone (armStep (r .window)) (r .words) (runStart r) (c .step) .machine .taints) (asked c) ≡ false)
     call-told h =
         let e : c .reply .answer ≡ _ = answer-is c ∙ ap (λ (s : Said). s .answer) call-of-run in
         let n : c .reply .links ≡ _ = count-is c ∙ ap (λ (s : Said). s .count) call-of-run in
         let told = run-told (r .window) (r .words) (runStart r) (lentLog r) (c .step) (c .question) (c .links) early-in held (sym e ∙ h) in
-        rw (n, of .window) told
+        let steps = walk-as-arm (r .window) Alone (take (c .step) (r .words)) (runStart r) (r .real) (shown 0 0 0) in
+        rw (n, of .window, ← ap (λ (t : Walked Machine). t .machine .taints) steps) told
 
 pub why : Why
 unfolding flat

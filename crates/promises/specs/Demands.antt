@@ -2,7 +2,7 @@
 -- that followed. A reader who trusts the definitions that are named here needs no other page. The contracts of the public
 -- functions say that the code returns and leaves what these definitions say, on any input: no function has a condition
 -- to meet.
-use Prim.Native.Nat.{ℕ, suc, _+_, _%_, _^_, _≤_, _<_}
+use Prim.Native.Nat.{ℕ, suc, _+_, _/_, _%_, _^_, _≤_, _<_}
 use mathlib.Core.Path.{_≡_}
 use mathlib.Core.Bool.{true, false, not}
 use mathlib.Core.List.{List, [], _∷_, _++_}
@@ -21,23 +21,17 @@ use Rattle.lookup.specs.Entries.{Allowed, familiesIn, codeIn, names, operationC
 use Rattle.lookup.specs.Lookup.{decodeIn}
 use Rattle.encoder.specs.Encoding.{encodeOf}
 use Rattle.memory.specs.Taints.{byteAt}
-use Rattle.vectors.specs.File.{vectorSlot, filesAfter, taintsAfter}
-use Rattle.access.specs.declared.transfer.Transfer.{Transfer}
-use Rattle.access.specs.declared.addressing.Addressing.{Addressing}
-use Rattle.access.specs.declared.Access.the-variants.{Moves}
+use Rattle.vectors.specs.File.{filesAfter, taintsAfter}
 use Rattle.plan.specs.declared.window.Window.{Window}
 use Rattle.plan.specs.Refusals.{answerIn, Given}
-use Rattle.access.specs.Accesses.{wordAccess}
 use Rattle.registers.specs.declared.Registers.{Registers}
 use Rattle.registers.specs.File.{zeroSlot, valueAt, taintsAt, setAt}
 use Rattle.machine.specs.declared.monitor.Monitor.{Monitor}
-use Rattle.machine.specs.Rule.{wordRule}
-use Rattle.machine.specs.declared.Shown.{Shown}
 use Rattle.machine.specs.declared.State.{State}
 use Rattle.machine.specs.declared.Stepped.{Stepped}
-use Rattle.machine.specs.Machine.{Machine, machineOf, opened, operandsOf}
-use Rattle.machine.specs.Refusals.{bad, classRefusals, refusals}
-use Rattle.machine.specs.Step.{shown, moved, Outcome, outcome, stepOf, performed, leaves}
+use Rattle.machine.specs.Machine.{Machine, machineOf, opened}
+use Rattle.machine.specs.Refusals.{classRefusals}
+use Rattle.machine.specs.Step.{shown, Outcome, outcome, performed, leaves}
 use Rattle.machine.specs.Exclusives.{StoresExclusive, withMonitor}
 use Rattle.session.specs.declared.StepReply.{StepReply}
 use Rattle.session.specs.Lent.{Holding, LeftAs, lentOutcome, lentStep, withRegister}
@@ -45,9 +39,9 @@ use Rattle.session.specs.Watch.{observed, Stored, Watched}
 use Rattle.secrecy.specs.Shows.{Shows}
 use Rattle.execution.specs.Walk.{Log, Result, short, afterSteps}
 use Rattle.execution.specs.Ends.{Kept, Ends, lastOf, Early}
-use Rattle.execution.specs.Run.{machineRun}
 use Rattle.execution.specs.Secrecy.{Same, Filled, SameRoom, ShowsRun}
-use Rattle.arm.specs.Choices.{armStep, armRun}
+use Rattle.arm.specs.Pseudocode.{hint}
+use Rattle.arm.specs.Choices.{badStart, marked, pageMoves, wordPage, operationOf, armRefusals, armStep, armRun, markRule}
 use Rattle.machine.specs.Real.{Real}
 use Rattle.encoder.specs.Exact.{Word}
 use Rattle.ascii.specs.Ascii.{asc, dec}
@@ -67,7 +61,7 @@ use Rattle.promises.specs.Answered.{Each, Answered, Is}
 
 -- all that a step returns and leaves, and its answer
 abbrev pub stepped : Window → ℕ → Machine → Outcome Machine
-stepped w word m = performed m (stepOf w word m)
+stepped w word m = performed m (armStep w word m)
 
 abbrev pub stepAnswer : Window → ℕ → Machine → ℕ
 stepAnswer w word m = answerNumber (stepped w word m .answer)
@@ -91,11 +85,11 @@ pub record Demand1 : Type 0 where
   pub listed : (bytes output : List ℕ) → Answered (Is (listOf bytes output)) (λ r. answerNumber (r .answer)) (0 ∷ 10 ∷ [])
   pub step : (w : Window) (word : ℕ) (m : Machine) → Answered (Is (stepped w word m)) (λ r. answerNumber (r .answer)) (0 ∷ 1 ∷ 2 ∷ 3 ∷ 4 ∷ 5 ∷ 6 ∷ 7 ∷ 8 ∷ [])
   pub run : (w : Window) (words : List ℕ) (m : Machine) (l : Log)
-      → Answered (Is (machineRun w words m l)) (λ r. answerNumber (r .answer)) (0 ∷ 1 ∷ 2 ∷ 3 ∷ 4 ∷ 5 ∷ 6 ∷ 7 ∷ 8 ∷ 10 ∷ [])
+      → Answered (Is (armRun w words m l)) (λ r. answerNumber (r .answer)) (0 ∷ 1 ∷ 2 ∷ 3 ∷ 4 ∷ 5 ∷ 6 ∷ 7 ∷ 8 ∷ 10 ∷ [])
   -- "Each refusal has its number in document 01 and is given exactly when 01 says": of a step, the first of 1 to 8 that
   -- holds, and 0 where none does; so that a number is answered exactly if its refusal holds and none before it
-  pub step-answers : (w : Window) (word : ℕ) (m : Machine) → stepAnswer w word m ≡ answerNumber (answerIn (refusals w word m))
-  pub step-given : (w : Window) (word : ℕ) (m : Machine) (n : ℕ) → ¬ (n ≡ 0) → (stepAnswer w word m ≡ n) ↔ Given n (refusals w word m)
+  pub step-answers : (w : Window) (word : ℕ) (m : Machine) → stepAnswer w word m ≡ answerNumber (answerIn (armRefusals w word m))
+  pub step-given : (w : Window) (word : ℕ) (m : Machine) (n : ℕ) → ¬ (n ≡ 0) → (stepAnswer w word m ≡ n) ↔ Given n (armRefusals w word m)
   -- of decoding, 2 and 3, and of a listing's line, 4 too
   pub decode-answers : (word : ℕ) → answerNumber (decodeOf word .answer) ≡ answerNumber (answerIn (ListN.take 2 (classRefusals word)))
   pub class-answers : (word : ℕ) → answerNumber (classOf word) ≡ answerNumber (answerIn (classRefusals word))
@@ -118,15 +112,15 @@ pub record Demand1 : Type 0 where
   pub encode-empty : (answerNumber (encodeOf empty .answer) ≡ 11) × (encodeOf empty .word ≡ 0)
   -- of a run, 1 and then 10 at its start, and only there: steps, code and address are 0, and nothing is written. 10 is for a
   -- trace shorter than two numbers a word, or a list of statuses "shorter than the words" (02, CR 8)
-  pub run-window : (w : Window) (words : List ℕ) (m : Machine) (l : Log) → bad w m ≡ true → NotBegun 1 m l (machineRun w words m l)
-  pub run-room : (w : Window) (words : List ℕ) (m : Machine) (l : Log) → bad w m ≡ false → short words l ≡ true → NotBegun 10 m l (machineRun w words m l)
-  pub run-early : (w : Window) (words : List ℕ) (m : Machine) (l : Log) → let number = answerNumber (machineRun w words m l .answer) in
-      Early number → NotBegun number m l (machineRun w words m l)
+  pub run-window : (w : Window) (words : List ℕ) (m : Machine) (l : Log) → badStart w m ≡ true → NotBegun 1 m l (armRun w words m l)
+  pub run-room : (w : Window) (words : List ℕ) (m : Machine) (l : Log) → badStart w m ≡ false → short words l ≡ true → NotBegun 10 m l (armRun w words m l)
+  pub run-early : (w : Window) (words : List ℕ) (m : Machine) (l : Log) → Real m → let number = answerNumber (armRun w words m l .answer) in
+      Early number → NotBegun number m l (armRun w words m l)
   -- after that every word is done and the answer is 0, or the word at the number of steps done is the one refused, and
   -- answer, code and address are that step's, from the machine as the steps before left it
-  pub run-answers : (w : Window) (words : List ℕ) (m : Machine) (l : Log) → bad w m ≡ false → short words l ≡ false
-      → let r = machineRun w words m l in
-      ¬ Early (answerNumber (r .answer)) × Ends (stepOf w) words m (r .steps) (lastOf r)
+  pub run-answers : (w : Window) (words : List ℕ) (m : Machine) (l : Log) → Real m → badStart w m ≡ false → short words l ≡ false
+      → let r = armRun w words m l in
+      ¬ Early (answerNumber (r .answer)) × Ends (armStep w) words m (r .steps) (lastOf r)
   -- "Setting a register gives back the whole file .. unchanged for register 31 as zero and for a number above 31; reading either of
   -- those gives 0, unmarked": of a file of 32 registers
   pub register-above : (file : Registers) (n value marks : ℕ) → ListN.length (file .value) ≡ 32 → ListN.length (file .taint) ≡ 32 → 31 < n
@@ -136,14 +130,15 @@ pub record Demand1 : Type 0 where
   -- "A refused step changes no register, byte, mark or program counter", and "keeps the monitor" (02, CR 3)
   pub refused-step : (w : Window) (word : ℕ) (m : Machine) → ¬ (stepAnswer w word m ≡ 0) → stepped w word m .machine ≡ m
   -- "a refused run keeps the steps done before and nothing of the refused one": machine, trace, statuses and number of steps
-  pub refused-run : (w : Window) (words : List ℕ) (m : Machine) (l : Log) → Kept (stepOf w) words m l (machineRun w words m l)
+  pub refused-run : (w : Window) (words : List ℕ) (m : Machine) (l : Log) → Kept (armStep w) words m l (armRun w words m l)
 
 pub record Demand2 : Type 0 where
-  -- "Each step does what Arm's published A64 definition says, with the choices that 01 makes where Arm leaves one": answer,
-  -- code, address, registers, memory, program counter and marks. It is said of the machines that there are, whose
-  -- registers have 64 bits and whose bytes have 8; code holds no others, and a step leaves one
-  pub step-as-arm : (w : Window) (word : ℕ) (m : Machine) → Real m → stepOf w word m ≡ armStep w word m
-  pub run-as-arm : (w : Window) (words : List ℕ) (m : Machine) (l : Log) → Real m → machineRun w words m l ≡ armRun w words m l
+  -- "Each step does what Arm's published A64 definition says, with the choices that 01 makes where Arm leaves one": `armStep` is the first
+  -- of 01's refusals that holds, and where none does what the page of the word's row does. The contracts of the step and of the run
+  -- say that code returns and leaves just this: answer, code, address, registers, memory, program counter and marks
+  pub step-by-page : (w : Window) (word : ℕ) (m : Machine) → stepAnswer w word m ≡ 0 → armStep w word m ≡ pageMoves w word m (wordPage word) (operationOf w word m)
+  -- What follows of machines that there are, whose registers have 64 and 128 bits and whose bytes have 8, says `Real`; code holds no others,
+  -- and a step leaves one
   pub step-real : (w : Window) (word : ℕ) (m : Machine) → Real m → Real (stepped w word m .machine)
   pub some-real : (m : Machine) × Real m
   -- "Every allocated word of the set has one record and one line of text": a word matches at most one row of 01's
@@ -169,33 +164,34 @@ pub record Demand3 : Type 0 where
   -- have equal values in every register and byte unmarked at the end." With 02: they "start and end with equal monitors" (CR
   -- 3), "lend lists of the same length and write the same statuses" (CR 8), and each byte of a register has its own mark (CR 13)
   pub two-runs : (w : Window) (words : List ℕ) (m n : Machine) (l k : Log) → Same m n → SameRoom l k
-      → ShowsRun Same (machineRun w words m l) (machineRun w words n k)
+      → ShowsRun Same (armRun w words m l) (armRun w words n k)
   -- its other half (02, CR 13): "fill every marked starting byte with 0 in one run and 255 in another, else alike; after the same steps
   -- every byte marked at the end differs", being 0 in the one and 255 in the other
   pub two-fillings : (w : Window) (words : List ℕ) (m n : Machine) (l k : Log) → Filled m n → SameRoom l k
-      → ShowsRun Filled (machineRun w words m l) (machineRun w words n k)
+      → ShowsRun Filled (armRun w words m l) (armRun w words n k)
   -- of a single step, likewise
-  pub two-steps : (w : Window) (word : ℕ) (m n : Machine) → Same m n → Shows Same (stepOf w word m) (stepOf w word n)
+  pub two-steps : (w : Window) (word : ℕ) (m n : Machine) → Same m n → Shows Same (armStep w word m) (armStep w word n)
   -- "In each run the marks at the end are exactly those that 01's rule makes of the starting marks over the steps done",
   -- by their words, addresses and statuses: 1 "changes no byte's mark, and either unmarks the status register" (02, CR 3)
-  pub marks-at-end : (w : Window) (words : List ℕ) (m : Machine) (l : Log)
-      → machineRun w words m l .machine .taints ≡ afterSteps (wordRule (w .origin)) words (machineRun w words m l .log) (machineRun w words m l .steps) (m .taints)
-  pub marks-of-step : (w : Window) (word : ℕ) (m : Machine)
-      → stepped w word m .machine .taints ≡ pick (eqb (stepAnswer w word m) 0) (wordRule (w .origin) word (stepped w word m .shown) (m .taints)) (m .taints)
+  pub marks-at-end : (w : Window) (words : List ℕ) (m : Machine) (l : Log) → Real m
+      → armRun w words m l .machine .taints ≡ afterSteps (markRule (w .origin)) words (armRun w words m l .log) (armRun w words m l .steps) (m .taints)
+  pub marks-of-step : (w : Window) (word : ℕ) (m : Machine) → Real m
+      → stepped w word m .machine .taints ≡ pick (eqb (stepAnswer w word m) 0) (markRule (w .origin) word (stepped w word m .shown) (m .taints)) (m .taints)
   -- "A password can't choose an address: a step that would take one from anything marked gets answer 5, unless one of 1
   -- to 4 comes first"
-  pub marked-address : (w : Window) (word : ℕ) (m : Machine) (t : Transfer) (a : Addressing) → wordAccess word ≡ Moves t a → operandsOf a m .tainted ≡ true
-      → stepAnswer w word m ≡ pick (bad w m) 1 (pick (eqb (answerNumber (classOf word)) 0) 5 (answerNumber (classOf word)))
+  -- where "anything" is a byte of the base, or of the used part of the index, and the word is no prefetch
+  pub marked-address : (w : Window) (word : ℕ) (m : Machine) → ¬ (operationOf w word m ≡ hint) → marked (wordPage word) word m ≡ true
+      → stepAnswer w word m ≡ pick (badStart w m) 1 (pick (eqb (answerNumber (classOf word)) 0) 5 (answerNumber (classOf word)))
 
 -- The requests of document 02, in its words
 pub record Requests : Type 0 where
   -- CR 1: "Every access with SP as its base, prefetches apart, now needs SP itself, before any offset, to be a multiple of
   -- 16": one that is done has it. Else "answer 6, address SP", and code 0, where none of 1 to 5 comes first, whatever the
   -- access itself would be. A literal's base is the program counter
-  pub stack-aligned : (w : Window) (word : ℕ) (m : Machine) (t : Transfer) (a : Addressing) → wordAccess word ≡ Moves t a → a .relative ≡ false → a .base ≡ 31
+  pub stack-aligned : (w : Window) (word : ℕ) (m : Machine) → ¬ (operationOf w word m ≡ hint) → wordPage word .based ≡ true → field 9 5 word ≡ 31
       → stepAnswer w word m ≡ 0 → ListN.getD (m .values) 31 0 % 16 ≡ 0
-  pub stack-refused : (w : Window) (word : ℕ) (m : Machine) (t : Transfer) (a : Addressing) → wordAccess word ≡ Moves t a → a .relative ≡ false → a .base ≡ 31
-      → bad w m ≡ false → answerNumber (classOf word) ≡ 0 → operandsOf a m .tainted ≡ false → ¬ (ListN.getD (m .values) 31 0 % 16 ≡ 0)
+  pub stack-refused : (w : Window) (word : ℕ) (m : Machine) → ¬ (operationOf w word m ≡ hint) → wordPage word .based ≡ true → field 9 5 word ≡ 31
+      → badStart w m ≡ false → answerNumber (classOf word) ≡ 0 → marked (wordPage word) word m ≡ false → ¬ (ListN.getD (m .values) 31 0 % 16 ≡ 0)
       → (stepAnswer w word m ≡ 6) × (stepped w word m .shown ≡ shown 0 (ListN.getD (m .values) 31 0) 0)
   -- CR 2: "The two must give the same record or refusal for every 32-bit word": the decoder that goes by the table, and the
   -- plain one
@@ -206,23 +202,23 @@ pub record Requests : Type 0 where
   -- "and their operation code": of each word that matches a row
   pub entry-code : (word : ℕ) (r : Row) → ¬ (r ≡ Row.NoRow) → matches word r ≡ true → codeIn (ListN.getD entries (field 31 22 word) 0) ≡ operationCode r word
   -- CR 3: "A load-exclusive arms it": one that is done leaves the monitor with the address that it shows, and the word's bytes
-  pub load-arms : (w : Window) (word : ℕ) (m : Machine) → matches word Row.LoadExclusiveRow ≡ true → stepAnswer w word m ≡ 0
+  pub load-arms : (w : Window) (word : ℕ) (m : Machine) → Real m → matches word Row.LoadExclusiveRow ≡ true → stepAnswer w word m ≡ 0
       → stepped w word m .machine .monitor ≡ record { address = stepped w word m .shown .address; size = 2 ^ field 31 30 word }
   -- "A store-exclusive stores and writes status 0 exactly if the monitor has the same address and size; otherwise it writes status 1
   -- and stores nothing, marks included. Either way the monitor opens": one that is done, with Rs for its status, and Rt
-  pub store-exclusive : (w : Window) (word : ℕ) (m : Machine) → matches word Row.StoreExclusiveRow ≡ true → stepAnswer w word m ≡ 0
+  pub store-exclusive : (w : Window) (word : ℕ) (m : Machine) → Real m → matches word Row.StoreExclusiveRow ≡ true → stepAnswer w word m ≡ 0
       → StoresExclusive (w .origin) (2 ^ field 31 30 word) (field 20 16 word) (field 4 0 word) m (stepped w word m)
   -- "Ordinary stores don't touch it", nor does any other word, refused or not, and its status is 0
-  pub others-keep : (w : Window) (word : ℕ) (m : Machine) → matches word Row.LoadExclusiveRow ≡ false → matches word Row.StoreExclusiveRow ≡ false
+  pub others-keep : (w : Window) (word : ℕ) (m : Machine) → Real m → matches word Row.LoadExclusiveRow ≡ false → matches word Row.StoreExclusiveRow ≡ false
       → (stepped w word m .machine .monitor ≡ m .monitor) × (stepped w word m .shown .status ≡ 0)
   -- "All tests come before the monitor is looked at": with any other the answer is the same, and so are code and address, a refusal's
   -- too; "a refused step keeps the monitor" is demand 1's `refused-step`
-  pub tests-first : (w : Window) (word : ℕ) (m : Machine) (r : Monitor) → let other = stepped w word (withMonitor r m) in
+  pub tests-first : (w : Window) (word : ℕ) (m : Machine) (r : Monitor) → Real m → let other = stepped w word (withMonitor r m) in
       (answerNumber (other .answer) ≡ stepAnswer w word m) × (other .shown .code ≡ stepped w word m .shown .code) × (other .shown .address ≡ stepped w word m .shown .address)
   -- "and the host can open it": registers and program counter stay, and the monitor is open, of size 0
   pub opens : (s : State) → (opened s .registers ≡ s .registers) × (opened s .pc ≡ s .pc) × (opened s .monitor .size ≡ 0)
   -- from an open one a store-exclusive that is done has status 1, whatever address it holds
-  pub open-fails : (w : Window) (word : ℕ) (m : Machine) → matches word Row.StoreExclusiveRow ≡ true → stepAnswer w word m ≡ 0 → m .monitor .size ≡ 0
+  pub open-fails : (w : Window) (word : ℕ) (m : Machine) → Real m → matches word Row.StoreExclusiveRow ≡ true → stepAnswer w word m ≡ 0 → m .monitor .size ≡ 0
       → stepped w word m .shown .status ≡ 1
   -- and another's step opens it exactly if it stored a byte that it watches, by the code, address and status that the step showed
   pub observed-opens : (code address status : ℕ) (s : State) (x : ℕ) → Stored code address status x → Watched (s .monitor) x → observed code address status s ≡ opened s
@@ -262,7 +258,7 @@ pub record Requests : Type 0 where
   -- record, memory, vector registers and marks, by their contracts, where the records and files at the end are such as code holds
   pub lent-step : (w : Window) (word : ℕ) (before after : State) (vs us vs″ us″ : List (List ℕ)) (m k m′ k′ m″ k″ : List ℕ) (r : Stepped) (reply : StepReply)
       → Holding after vs″ us″ → Holding (r .state) (filesAfter (r .vectors) vs) (taintsAfter (r .vectors) us)
-      → outcome r vs us m′ k′ ≡ leaves (stepOf w word) (machineOf before vs us m k)
+      → outcome r vs us m′ k′ ≡ leaves (armStep w word) (machineOf before vs us m k)
       → lentOutcome after reply vs″ us″ m″ k″ ≡ lentStep w word before vs us m k
       → LeftAs after r vs us vs″ us″ m′ k′ m″ k″ reply
   -- and of setting one register: the file is what setting by value returns, and program counter and monitor stay
@@ -272,8 +268,9 @@ pub record Requests : Type 0 where
   -- registers is answer 4, it is such a load
   pub vector-four : (word : ℕ) → field 26 26 word ≡ 1 → answerNumber (classOf word) ≡ 4
       → (matches word Row.PairRow ≡ true) × (field 22 22 word ≡ 1) × (field 4 0 word ≡ field 14 10 word)
-  -- "a load clears what it doesn't fill": after one that is done the bytes of the register behind those that were loaded are 0, and
-  -- unmarked; slots from 32 on are the vector registers
-  pub load-clears : (w : Window) (word : ℕ) (m n : Machine) (shown : Shown) (t : Transfer) (a : Addressing) → Real m → wordAccess word ≡ Moves t a → t .store ≡ false → vectorSlot (t .target) ≡ true
-      → stepOf w word m ≡ moved n shown → (i : ℕ) → t .bytes ≤ i
-      → (byteAt i (ListN.getD (n .values) (t .target) 0) ≡ 0) × (byteAt i (ListN.getD (n .taints .registers) (t .target) 0) ≡ 0)
+  -- "a load clears what it doesn't fill": after one that is done the bytes of Rt behind those that were loaded are 0, and unmarked. A code
+  -- below 64 is a load's, of so many bytes, and of a pair half of them are Rt's; the vector registers stand behind the general ones
+  pub load-clears : (w : Window) (word : ℕ) (m : Machine) → Real m → ¬ (operationOf w word m ≡ hint) → wordPage word .vector ≡ true → stepAnswer w word m ≡ 0 → let o = stepped w word m in
+      o .shown .code < 64 → (i : ℕ) → pick (wordPage word .paired) (o .shown .code / 2) (o .shown .code) ≤ i
+      → let rt = 32 + field 4 0 word in
+      (byteAt i (ListN.getD (o .machine .values) rt 0) ≡ 0) × (byteAt i (ListN.getD (o .machine .taints .registers) rt 0) ≡ 0)

@@ -16,18 +16,15 @@ use Rattle.vectors.specs.declared.Halves.{Halves}
 use Rattle.vectors.specs.File.{wide, withVector, Held}
 use Rattle.plan.specs.declared.window.Window.{Window}
 use Rattle.machine.specs.declared.State.{State}
-use Rattle.machine.specs.Rule.{wordRule}
 use Rattle.machine.specs.Machine.{Machine, machineOf}
-use Rattle.machine.specs.Refusals.{bad}
-use Rattle.machine.specs.Step.{Outcome, stepOf, leaves}
+use Rattle.machine.specs.Step.{Outcome, leaves}
 use Rattle.session.specs.declared.StepReply.{StepReply}
 use Rattle.session.specs.Vector.{vectorAt}
 use Rattle.session.specs.Lent.{Holding, lentOutcome, lentStep}
 use Rattle.execution.specs.Walk.{Log, log, Result, afterSteps}
 use Rattle.execution.specs.Ends.{Early}
-use Rattle.execution.specs.Run.{machineRun}
 use Rattle.execution.specs.Secrecy.{Same, Filled, SameRoom}
-use Rattle.arm.specs.Choices.{armStep, armRun}
+use Rattle.arm.specs.Choices.{badStart, armStep, armRun, markRule}
 use Rattle.machine.specs.Real.{Real}
 use Rattle.printer.specs.Writing.{writeOf}
 use Rattle.listing.specs.Listing.{listOf}
@@ -58,7 +55,7 @@ pub record StepCall : Type 0 where
   pub window : Window
   pub word : ℕ
   -- lent: the record, the vector registers and their marks, memory and marks, before and after; of the registers as many as their
-  -- types say
+  -- types say, and numbers that fit theirs (`arm::real`)
   pub session : State
   pub vectors : List (List ℕ)
   pub vector-taint : List (List ℕ)
@@ -71,6 +68,7 @@ pub record StepCall : Type 0 where
   pub taint′ : List ℕ
   pub held : Holding session vectors vector-taint
   pub held′ : Holding session′ vectors′ vector-taint′
+  pub real : Real (machineOf session vectors vector-taint memory taint)
   pub reply : StepReply
   pub allowed : lentOutcome session′ reply vectors′ vector-taint′ memory′ taint′ ≡ lentStep window word session vectors vector-taint memory taint
 
@@ -116,6 +114,7 @@ pub record RunCall : Type 0 where
   pub reply : RunReply
   pub held : Holding session (before .vectors) (before .vector-taint)
   pub held′ : Holding (reply .session) (after .vectors) (after .vector-taint)
+  pub real : Real (machineOf session (before .vectors) (before .vector-taint) (before .memory) (before .taint))
   pub allowed : hosted reply (after .vectors) (after .vector-taint) (after .memory) (after .taint) (after .trace) (after .statuses)
       ≡ hostRun window words (machineOf session (before .vectors) (before .vector-taint) (before .memory) (before .taint)) (log (before .trace) (before .statuses))
 
@@ -171,9 +170,8 @@ pub record Library : Type 0 where
         taints = record { registers = s .registers .taint ++ map wide vector-taint; bytes = taint };
         monitor = s .monitor;
       }
-  -- a step of the library is demand 2's, and Arm's where the machine is one that there is, as all are that code holds
-  pub step : (c : StepCall) → StepGives c (leaves (stepOf (c .window) (c .word)) (stepStart c))
-  pub step-as-arm : (c : StepCall) → Real (stepStart c) → StepGives c (leaves (armStep (c .window) (c .word)) (stepStart c))
+  -- a step of the library is Arm's
+  pub step : (c : StepCall) → StepGives c (leaves (armStep (c .window) (c .word)) (stepStart c))
   -- demand 1: it answers, and a refused one leaves record, vector registers, memory and marks
   pub step-answers : (c : StepCall) → oneOf (0 ∷ 1 ∷ 2 ∷ 3 ∷ 4 ∷ 5 ∷ 6 ∷ 7 ∷ 8 ∷ []) (c .reply .answer) ≡ true
   pub step-refused : (c : StepCall) → ¬ (c .reply .answer ≡ 0)
@@ -182,10 +180,9 @@ pub record Library : Type 0 where
   -- that a done one leaves
   pub two-steps : (c d : StepCall) → c .window ≡ d .window → c .word ≡ d .word → Same (stepStart c) (stepStart d) → (c .reply ≡ d .reply) × Same (stepEnd c) (stepEnd d)
   pub step-marks : (c : StepCall) → c .reply .answer ≡ 0
-      → stepEnd c .taints ≡ wordRule (c .window .origin) (c .word) (record { code = c .reply .code; address = c .reply .address; status = c .reply .status }) (stepStart c .taints)
-  -- a run of the library is demand 2's, and Arm's, likewise
-  pub run : (c : RunCall) → RunGives c (machineRun (c .window) (c .words) (runStart c) (lentLog c))
-  pub run-as-arm : (c : RunCall) → Real (runStart c) → RunGives c (armRun (c .window) (c .words) (runStart c) (lentLog c))
+      → stepEnd c .taints ≡ markRule (c .window .origin) (c .word) (record { code = c .reply .code; address = c .reply .address; status = c .reply .status }) (stepStart c .taints)
+  -- and so is a run
+  pub run : (c : RunCall) → RunGives c (armRun (c .window) (c .words) (runStart c) (lentLog c))
   -- it answers; with 1 and 10 steps, code and address are 0, and the record and all that is lent are as they were
   pub run-answers : (c : RunCall) → oneOf (0 ∷ 1 ∷ 2 ∷ 3 ∷ 4 ∷ 5 ∷ 6 ∷ 7 ∷ 8 ∷ 10 ∷ []) (c .reply .answer) ≡ true
   pub run-early : (c : RunCall) → Early (c .reply .answer)
@@ -194,7 +191,7 @@ pub record Library : Type 0 where
   pub two-runs : (c d : RunCall) → c .window ≡ d .window → c .words ≡ d .words → Same (runStart c) (runStart d) → SameRoom (lentLog c) (lentLog d) → RunsShow Same c d
   pub two-fillings : (c d : RunCall) → c .window ≡ d .window → c .words ≡ d .words → Filled (runStart c) (runStart d) → SameRoom (lentLog c) (lentLog d) → RunsShow Filled c d
   pub run-marks : (c : RunCall)
-      → runEnd c .taints ≡ afterSteps (wordRule (c .window .origin)) (c .words) (log (c .after .trace) (c .after .statuses)) (c .reply .steps) (runStart c .taints)
+      → runEnd c .taints ≡ afterSteps (markRule (c .window .origin)) (c .words) (log (c .after .trace) (c .after .statuses)) (c .reply .steps) (runStart c .taints)
   -- one vector register with its marks, read and set: it reads what was set, the others are as they were, and "a vector register above
   -- 31 reads 0, unmarked, and sets nothing"
   pub vector-set : (vectors vector-taint : List (List ℕ)) (n : ℕ) (value marks : Halves) → Held vectors → Held vector-taint → n < 32
@@ -221,4 +218,4 @@ pub record Library : Type 0 where
   pub touches : (word r : ℕ) → r ≡ touchesNumber word → (oneOf (0 ∷ 1 ∷ []) r ≡ true) × ((r ≡ 1)
       ↔ (((field 27 27 word ≡ 1) × (field 25 25 word ≡ 0)) ⊎ ((field 31 8 word ≡ 0xd50b74) × (any (eqb (field 7 5 word)) (1 ∷ 3 ∷ 4 ∷ []) ≡ true))))
   pub set-touches : (word : ℕ) → inSet word ≡ true → touchesMemory word ≡ true
-  pub never-stepped : (w : Window) (word : ℕ) (m : Machine) → touchesMemory word ≡ false → stepAnswer w word m ≡ pick (bad w m) 1 2
+  pub never-stepped : (w : Window) (word : ℕ) (m : Machine) → touchesMemory word ≡ false → stepAnswer w word m ≡ pick (badStart w m) 1 2

@@ -1,36 +1,30 @@
--- Two plugins, one memory: 02, CR 11, with the vector registers of CR 12 and by byte as CR 13 has it, sentence by sentence. `turnOf` is all
--- that a turn returns and leaves, of origin, ranges, words, the machine of the plugin whose turn it is and the lent trace and
--- statuses. `playOf` is a sequence of turns, as one of the two sees it: ours are its own. What a host is given of a turn is said
+-- Two plugins, one memory: 02, CR 11, with the vector registers of CR 12 and by byte as CR 13 has it, sentence by sentence. `armTurn` is
+-- all that a turn of Arm's steps returns and leaves, of origin, ranges, words, the machine of the plugin whose turn it is and the lent
+-- trace and statuses. `playOf` is a sequence of turns, as one of the two sees it: ours are its own. What a host is given of a turn is said
 -- below, field by field.
-use Prim.Native.Nat.{ℕ, _+_, _*_, _<_}
+use Prim.Native.Nat.{ℕ, _+_, _*_, _%_, _<_}
 use mathlib.Core.Path.{_≡_}
 use mathlib.Core.Bool.{true, false}
 use mathlib.Core.List.{List, [], _∷_, map}
 use mathlib.Core.Logic.{_↔_, _⊎_}
+use lib.Dec.{leb}
 use lib.ListN.{length, take}
 use Rattle.instruction.specs.Answers.{answerNumber}
-use Rattle.access.specs.declared.transfer.Transfer.{Transfer}
-use Rattle.access.specs.declared.addressing.Addressing.{Addressing}
-use Rattle.access.specs.declared.Access.the-variants.{Moves}
-use Rattle.access.specs.Accesses.{wordAccess}
 use Rattle.plan.specs.declared.ranges.Range.{Range}
 use Rattle.plan.specs.declared.ranges.Ranges.{Ranges}
 use Rattle.plan.specs.declared.ranges.Reach.the-variants.{Ranged}
 use Rattle.plan.specs.Refusals.{answerIn, Given}
-use Rattle.plan.specs.Admission.{totalOf}
 use Rattle.plan.specs.Ranges.{badRanges}
 use Rattle.machine.specs.declared.State.{State}
 use Rattle.machine.specs.declared.Shown.{Shown}
-use Rattle.machine.specs.Rule.{wordRule}
 use Rattle.machine.specs.Machine.{Machine, machineOf}
-use Rattle.machine.specs.Refusals.{refusalsIn}
 use Rattle.machine.specs.Real.{Real}
 use Rattle.machine.specs.Step.{moved, performed}
 use Rattle.session.specs.Lent.{Holding}
 use Rattle.execution.specs.Walk.{Log, log, Result, short, afterSteps}
 use Rattle.execution.specs.Ends.{Kept, Ends, lastOf, Early}
-use Rattle.execution.specs.Run.{plainWindow, badTurn, turnStep, turnOf}
-use Rattle.arm.specs.Choices.{armTurn}
+use Rattle.execution.specs.Run.{plainWindow}
+use Rattle.arm.specs.Choices.{armRefusalsIn, badTurnStart, armTurnStep, armTurn, markRule}
 use Rattle.host.specs.declared.RunReply.{RunReply}
 use Rattle.host.specs.Hosting.{hosted, hostedOf}
 use Rattle.turns.specs.Sight.{In, Allowed, Sees, Framed}
@@ -42,7 +36,7 @@ use Rattle.promises.specs.Library.{Slices, Gives}
 
 -- the answer of a step in a turn
 abbrev pub turnStepAnswer : ℕ → Ranges → ℕ → Machine → ℕ
-turnStepAnswer origin r word m = answerNumber (performed m (turnStep origin r word m) .answer)
+turnStepAnswer origin r word m = answerNumber (performed m (armTurnStep origin r word m) .answer)
 
 -- ---- milestarling_turn
 
@@ -56,8 +50,9 @@ pub record TurnCall : Type 0 where
   pub reply : RunReply
   pub held : Holding session (before .vectors) (before .vector-taint)
   pub held′ : Holding (reply .session) (after .vectors) (after .vector-taint)
+  pub real : Real (machineOf session (before .vectors) (before .vector-taint) (before .memory) (before .taint))
   pub allowed : hosted reply (after .vectors) (after .vector-taint) (after .memory) (after .taint) (after .trace) (after .statuses)
-      ≡ hostedOf (turnOf origin ranges words (machineOf session (before .vectors) (before .vector-taint) (before .memory) (before .taint)) (log (before .trace) (before .statuses)))
+      ≡ hostedOf (armTurn origin ranges words (machineOf session (before .vectors) (before .vector-taint) (before .memory) (before .taint)) (log (before .trace) (before .statuses)))
 
 -- the machine that is handed in, and the one that is left
 abbrev pub turnStart : TurnCall → Machine
@@ -70,7 +65,7 @@ abbrev pub turnLog : TurnCall → Log
 turnLog c = log (c .before .trace) (c .before .statuses)
 
 abbrev pub called : TurnCall → Result Machine
-called c = turnOf (c .origin) (c .ranges) (c .words) (turnStart c) (turnLog c)
+called c = armTurn (c .origin) (c .ranges) (c .words) (turnStart c) (turnLog c)
 
 -- the calls of a host for both plugins, in their order: each hands in what the plugin's own last call left, with the memory and marks
 -- that the last call of either left. Listed are ours
@@ -103,10 +98,11 @@ pub data AllShow (R : Machine → Machine → Type 0) : List TurnCall → List T
   neither : AllShow R [] []
   both : {cs ds : List TurnCall} → (c d : TurnCall) → TurnsShow R c d → AllShow R cs ds → AllShow R (c ∷ cs) (d ∷ ds)
 
--- for every order of turns and any calls of two hosts, from worlds in which our machines are in a relation, each of our calls shows the same
+-- for every order of turns and any calls of two hosts, from worlds in which our machines are in a relation, and the other's are such as
+-- there are, each of our calls shows the same
 abbrev pub CallsShow : ℕ → Ranges → (Machine → Machine → Type 0) → Type 0
 CallsShow origin r R =
-    (w v : World) (ts us : List Turn) (cs ds : List TurnCall) → SameOrder ts us → Calls origin r w ts cs → Calls origin r v us ds → R (ownMachine w) (ownMachine v) → AllShow R cs ds
+    (w v : World) (ts us : List Turn) (cs ds : List TurnCall) → SameOrder ts us → Calls origin r w ts cs → Calls origin r v us ds → Real (otherMachine w) → Real (otherMachine v) → R (ownMachine w) (ownMachine v) → AllShow R cs ds
 
 -- ---- ranges
 
@@ -126,59 +122,55 @@ pub record Plugins : Type 0 where
       ⊎ (Leaves origin len (r .shared) ⊎ (Leaves origin len (r .own) ⊎ Leaves origin len (r .other))))
   -- in every turn, to both, before 10, and then nothing is changed
   pub bad-both : (r : Ranges) (origin len : ℕ) → badRanges (swapped r) origin len ≡ badRanges r origin len
-  pub turn-ranges : (origin : ℕ) (r : Ranges) (words : List ℕ) (m : Machine) (l : Log) → badRanges r origin (length (m .memory)) ≡ true → NotBegun 1 m l (turnOf origin r words m l)
-  pub turn-window : (origin : ℕ) (r : Ranges) (words : List ℕ) (m : Machine) (l : Log) → badTurn origin r m ≡ true → NotBegun 1 m l (turnOf origin r words m l)
-  pub turn-room : (origin : ℕ) (r : Ranges) (words : List ℕ) (m : Machine) (l : Log) → badTurn origin r m ≡ false → short words l ≡ true → NotBegun 10 m l (turnOf origin r words m l)
-  pub turn-early : (origin : ℕ) (r : Ranges) (words : List ℕ) (m : Machine) (l : Log) → let number = answerNumber (turnOf origin r words m l .answer) in
-      Early number → NotBegun number m l (turnOf origin r words m l)
+  pub turn-ranges : (origin : ℕ) (r : Ranges) (words : List ℕ) (m : Machine) (l : Log) → badRanges r origin (length (m .memory)) ≡ true → NotBegun 1 m l (armTurn origin r words m l)
+  pub turn-window : (origin : ℕ) (r : Ranges) (words : List ℕ) (m : Machine) (l : Log) → badTurnStart origin r m ≡ true → NotBegun 1 m l (armTurn origin r words m l)
+  pub turn-room : (origin : ℕ) (r : Ranges) (words : List ℕ) (m : Machine) (l : Log) → badTurnStart origin r m ≡ false → short words l ≡ true → NotBegun 10 m l (armTurn origin r words m l)
+  pub turn-early : (origin : ℕ) (r : Ranges) (words : List ℕ) (m : Machine) (l : Log) → Real m → let number = answerNumber (armTurn origin r words m l .answer) in
+      Early number → NotBegun number m l (armTurn origin r words m l)
   -- "7 as before; 8 for a store touching the shared range; 12 for any other access not allowed": of a step, the first of 1 to 8 and 12
   -- that holds, and 0 where none does; so that a number is answered exactly if its refusal holds and none before it
-  pub step-answers : (origin : ℕ) (r : Ranges) (word : ℕ) (m : Machine) → turnStepAnswer origin r word m ≡ answerNumber (answerIn (refusalsIn (plainWindow origin) (Ranged r) word m))
-  pub step-given : (origin : ℕ) (r : Ranges) (word : ℕ) (m : Machine) (n : ℕ) → ¬ (n ≡ 0) → (turnStepAnswer origin r word m ≡ n) ↔ Given n (refusalsIn (plainWindow origin) (Ranged r) word m)
+  pub step-answers : (origin : ℕ) (r : Ranges) (word : ℕ) (m : Machine) → turnStepAnswer origin r word m ≡ answerNumber (answerIn (armRefusalsIn (plainWindow origin) (Ranged r) word m))
+  pub step-given : (origin : ℕ) (r : Ranges) (word : ℕ) (m : Machine) (n : ℕ) → ¬ (n ≡ 0) → (turnStepAnswer origin r word m ≡ n) ↔ Given n (armRefusalsIn (plainWindow origin) (Ranged r) word m)
   pub turn : (origin : ℕ) (r : Ranges) (words : List ℕ) (m : Machine) (l : Log)
-      → Answered (Is (turnOf origin r words m l)) (λ t. answerNumber (t .answer)) (0 ∷ 1 ∷ 2 ∷ 3 ∷ 4 ∷ 5 ∷ 6 ∷ 7 ∷ 8 ∷ 10 ∷ 12 ∷ [])
+      → Answered (Is (armTurn origin r words m l)) (λ t. answerNumber (t .answer)) (0 ∷ 1 ∷ 2 ∷ 3 ∷ 4 ∷ 5 ∷ 6 ∷ 7 ∷ 8 ∷ 10 ∷ 12 ∷ [])
   -- "A load must lie wholly in the shared range or in the plugin's own, a store wholly in its own": so does every access that is done
-  pub allowed : (origin : ℕ) (r : Ranges) (word : ℕ) (m n : Machine) (s : Shown) (t : Transfer) (a : Addressing) → turnStep origin r word m ≡ moved n s → wordAccess word ≡ Moves t a
-      → Allowed r (t .store) (s .address) (totalOf t)
+  -- a code of 64 or more is a store's, and what is left of it are the bytes; a prefetch has code 0
+  pub allowed : (origin : ℕ) (r : Ranges) (word : ℕ) (m n : Machine) (s : Shown) → Real m → armTurnStep origin r word m ≡ moved n s → ¬ (s .code ≡ 0) → Allowed r (leb 64 (s .code)) (s .address) (s .code % 64)
   -- "A refused run ends that turn only": it leaves what the steps done leave, run alone and not refused, and one that is begun ends with
   -- every word done or at the one that is refused
-  pub kept : (origin : ℕ) (r : Ranges) (words : List ℕ) (m : Machine) (l : Log) → Kept (turnStep origin r) words m l (turnOf origin r words m l)
-  pub ends : (origin : ℕ) (r : Ranges) (words : List ℕ) (m : Machine) (l : Log) → badTurn origin r m ≡ false → short words l ≡ false
-      → let t = turnOf origin r words m l in
-      ¬ Early (answerNumber (t .answer)) × Ends (turnStep origin r) words m (t .steps) (lastOf t)
+  pub kept : (origin : ℕ) (r : Ranges) (words : List ℕ) (m : Machine) (l : Log) → Kept (armTurnStep origin r) words m l (armTurn origin r words m l)
+  pub ends : (origin : ℕ) (r : Ranges) (words : List ℕ) (m : Machine) (l : Log) → Real m → badTurnStart origin r m ≡ false → short words l ≡ false
+      → let t = armTurn origin r words m l in
+      ¬ Early (answerNumber (t .answer)) × Ends (armTurnStep origin r) words m (t .steps) (lastOf t)
   -- the bytes and marks that a turn changes lie in its own range
-  pub own-range : (origin : ℕ) (r : Ranges) (words : List ℕ) (m : Machine) (l : Log) → Framed (λ i. ¬ In (r .own) (origin + i)) m (turnOf origin r words m l .machine)
+  pub own-range : (origin : ℕ) (r : Ranges) (words : List ℕ) (m : Machine) (l : Log) → Real m → Framed (λ i. ¬ In (r .own) (origin + i)) m (armTurn origin r words m l .machine)
   -- the marks at the end of a turn are the mark rule's over the steps done
-  pub marks : (origin : ℕ) (r : Ranges) (words : List ℕ) (m : Machine) (l : Log)
-      → turnOf origin r words m l .machine .taints ≡ afterSteps (wordRule origin) words (turnOf origin r words m l .log) (turnOf origin r words m l .steps) (m .taints)
-  -- and each turn is a run of Arm's steps, with the ranges as one more choice
-  pub turn-as-arm : (origin : ℕ) (r : Ranges) (words : List ℕ) (m : Machine) (l : Log) → Real m → turnOf origin r words m l ≡ armTurn origin r words m l
+  pub marks : (origin : ℕ) (r : Ranges) (words : List ℕ) (m : Machine) (l : Log) → Real m
+      → armTurn origin r words m l .machine .taints ≡ afterSteps (markRule origin) words (armTurn origin r words m l .log) (armTurn origin r words m l .steps) (m .taints)
   -- both see one sequence, so that what follows holds of the other too
-  pub either : (origin : ℕ) (r : Ranges) (ts : List Turn) (w : World) → playOf origin (swapped r) (map swapTurn ts) (swapWorld w) .world ≡ swapWorld (playOf origin r ts w .world)
+  pub either : (origin : ℕ) (r : Ranges) (ts : List Turn) (w : World) → playOf (armTurn origin) (swapped r) (map swapTurn ts) (swapWorld w) .world ≡ swapWorld (playOf (armTurn origin) r ts w .world)
   -- "For a fixed order of turns, change the other plugin's words, program counter, monitor, trace, registers, register marks,
   -- private bytes and their marks in any way: this plugin's answers, traces, registers, marks and private bytes are unchanged", its
   -- statuses, vector registers and monitor among them, after each of its turns
-  pub isolation : (origin : ℕ) (r : Ranges) {ts us : List Turn} → SameOrder ts us → (w v : World) → Unchanged (Sees origin r) (ownMachine w) (ownMachine v)
-      → ShowsPlay (Unchanged (Sees origin r)) (playOf origin r ts w) (playOf origin r us v)
+  pub isolation : (origin : ℕ) (r : Ranges) {ts us : List Turn} → SameOrder ts us → (w v : World) → Real (otherMachine w) → Real (otherMachine v) → Unchanged (Sees origin r) (ownMachine w) (ownMachine v)
+      → ShowsPlay (Unchanged (Sees origin r)) (playOf (armTurn origin) r ts w) (playOf (armTurn origin) r us v)
   -- "Demand 3 holds for each plugin over what it may read: its two runs are then all its turns in order, refused ones included .. What 01
   -- compares at the end is compared after each of its turns"; and its other half (CR 13), likewise
-  pub two-sequences : (origin : ℕ) (r : Ranges) {ts us : List Turn} → SameOrder ts us → (w v : World) → SameOver (Sees origin r) (ownMachine w) (ownMachine v)
-      → ShowsPlay (SameOver (Sees origin r)) (playOf origin r ts w) (playOf origin r us v)
-  pub two-fillings : (origin : ℕ) (r : Ranges) {ts us : List Turn} → SameOrder ts us → (w v : World) → FilledOver (Sees origin r) (ownMachine w) (ownMachine v)
-      → ShowsPlay (FilledOver (Sees origin r)) (playOf origin r ts w) (playOf origin r us v)
+  pub two-sequences : (origin : ℕ) (r : Ranges) {ts us : List Turn} → SameOrder ts us → (w v : World) → Real (otherMachine w) → Real (otherMachine v) → SameOver (Sees origin r) (ownMachine w) (ownMachine v)
+      → ShowsPlay (SameOver (Sees origin r)) (playOf (armTurn origin) r ts w) (playOf (armTurn origin) r us v)
+  pub two-fillings : (origin : ℕ) (r : Ranges) {ts us : List Turn} → SameOrder ts us → (w v : World) → Real (otherMachine w) → Real (otherMachine v) → FilledOver (Sees origin r) (ownMachine w) (ownMachine v)
+      → ShowsPlay (FilledOver (Sees origin r)) (playOf (armTurn origin) r ts w) (playOf (armTurn origin) r us v)
   -- the calls of a host are such a sequence, and all three hold of what they return and leave
-  pub calls : (origin : ℕ) (r : Ranges) {w : World} {ts : List Turn} {cs : List TurnCall} → Calls origin r w ts cs → Gave cs (playOf origin r ts w .reports)
+  pub calls : (origin : ℕ) (r : Ranges) {w : World} {ts : List Turn} {cs : List TurnCall} → Calls origin r w ts cs → Gave cs (playOf (armTurn origin) r ts w .reports)
   pub calls-isolated : (origin : ℕ) (r : Ranges) → CallsShow origin r (Unchanged (Sees origin r))
   pub calls-secret : (origin : ℕ) (r : Ranges) → CallsShow origin r (SameOver (Sees origin r))
   pub calls-filled : (origin : ℕ) (r : Ranges) → CallsShow origin r (FilledOver (Sees origin r))
-  -- a turn of the library is such a turn, and Arm's where the machine is one that there is, as all are that code holds
+  -- a turn of the library is such a turn
   pub call : (c : TurnCall) → Gives (c .reply) (c .after) (called c)
-  pub call-as-arm : (c : TurnCall) → Real (turnStart c)
-      → Gives (c .reply) (c .after) (armTurn (c .origin) (c .ranges) (c .words) (turnStart c) (turnLog c))
   -- it answers; with 1 and 10 steps, code and address are 0, and the record and all that is lent are as they were
   pub call-answers : (c : TurnCall) → oneOf (0 ∷ 1 ∷ 2 ∷ 3 ∷ 4 ∷ 5 ∷ 6 ∷ 7 ∷ 8 ∷ 10 ∷ 12 ∷ []) (c .reply .answer) ≡ true
   pub call-early : (c : TurnCall) → Early (c .reply .answer)
       → (c .reply .steps ≡ 0) × (c .reply .code ≡ 0) × (c .reply .address ≡ 0) × (c .reply .session ≡ c .session) × (c .after ≡ c .before)
   -- what it changes of memory and marks lies in its own range, and the marks at the end are the rule's
   pub call-own-range : (c : TurnCall) → Framed (λ i. ¬ In (c .ranges .own) (c .origin + i)) (turnStart c) (turnEnd c)
-  pub call-marks : (c : TurnCall) → turnEnd c .taints ≡ afterSteps (wordRule (c .origin)) (c .words) (log (c .after .trace) (c .after .statuses)) (c .reply .steps) (turnStart c .taints)
+  pub call-marks : (c : TurnCall) → turnEnd c .taints ≡ afterSteps (markRule (c .origin)) (c .words) (log (c .after .trace) (c .after .statuses)) (c .reply .steps) (turnStart c .taints)

@@ -16,9 +16,9 @@ use Rattle.plan.specs.declared.window.Window.{Window}
 use Rattle.plan.specs.Refusals.{answerIn}
 use Rattle.plan.specs.Admission.{admitOf}
 use Rattle.machine.specs.Machine.{codeOf}
-use Rattle.machine.specs.Step.{stepOf}
 use Rattle.machine.specs.Origins.{Place, ofRegister, ofMemory, taintOf}
 use Rattle.execution.specs.Ends.{alone}
+use Rattle.arm.specs.Choices.{armStep}
 use Rattle.why.specs.declared.Question.{Question}
 use Rattle.why.specs.declared.Reply.{Reply}
 use Rattle.why.specs.Trail.{Past, lent, taintsAt, Link, link, numbersOf}
@@ -144,4 +144,4 @@ pub record Why : Type 0 where
   -- just before that step is 0
   pub run-asked : (r : RunCall) (c : WhyCall) → OfRun r c → c .step ≤ r .reply .steps → ¬ (c .reply .answer ≡ 17) × ¬ (c .reply .answer ≡ 18)
   pub run-told : (r : RunCall) (c : WhyCall) → OfRun r c → c .step ≤ r .reply .steps → c .reply .answer ≡ 0
-      → (c .reply .links ≡ 0) ↔ (taintOf (alone (stepOf (r .window)) (r .words) (runStart r) (c .step) .machine .taints) (asked c) ≡ false)
+      → (c .reply .links ≡ 0) ↔ (taintOf (alone (armStep (r .window)) (r .words) (runStart r) (c .step) .machine .taints) (asked c) ≡ false)

@@ -11,9 +11,10 @@ use Rattle.vectors.specs.File.{wide, filesAfter, taintsAfter}
 use Rattle.vectors.proofs.Rows.{wide-same}
 use Rattle.plan.specs.declared.window.Window.{Window}
 use Rattle.machine.specs.Machine.{Machine, machineOf}
-use Rattle.machine.specs.Step.{outcome, stepOf, leaves}
+use Rattle.machine.specs.Step.{outcome, leaves}
 use Rattle.machine.specs.declared.State.{State}
 use Rattle.machine.specs.declared.Stepped.{Stepped}
+use Rattle.arm.specs.Choices.{armStep}
 use Rattle.session.specs.Lent.{Lent, Holding, LeftAs, lentOutcome, lentOf, lentStep, withRegister}
 use Rattle.session.specs.declared.StepReply.{StepReply}
 
@@ -41,7 +42,7 @@ module _ {s t : State} {vs us vs′ us′ : List (List ℕ)} {m k m′ k′ : Li
 
 pub step-exact : (w : Window) (word : ℕ) (before after : State) (vs us vs″ us″ : List (List ℕ)) (m k m′ k′ m″ k″ : List ℕ) (r : Stepped) (reply : StepReply)
     → Holding after vs″ us″ → Holding (r .state) (filesAfter (r .vectors) vs) (taintsAfter (r .vectors) us)
-    → outcome r vs us m′ k′ ≡ leaves (stepOf w word) (machineOf before vs us m k)
+    → outcome r vs us m′ k′ ≡ leaves (armStep w word) (machineOf before vs us m k)
     → lentOutcome after reply vs″ us″ m″ k″ ≡ lentStep w word before vs us m k
     → LeftAs after r vs us vs″ us″ m′ k′ m″ k″ reply
 step-exact w word before after vs us vs″ us″ m k m′ k′ m″ k″ r reply left right by-value in-place =

@@ -10,10 +10,11 @@ use Rattle.registers.specs.File.{setAt}
 use Rattle.vectors.specs.File.{filesAfter, taintsAfter, Held}
 use Rattle.plan.specs.declared.window.Window.{Window}
 use Rattle.machine.specs.Machine.{Machine, machineOf}
-use Rattle.machine.specs.Step.{Outcome, stepOf, leaves}
+use Rattle.machine.specs.Step.{Outcome, leaves}
 use Rattle.machine.specs.declared.State.{State}
 use Rattle.machine.specs.declared.Shown.{Shown}
 use Rattle.machine.specs.declared.Stepped.{Stepped}
+use Rattle.arm.specs.Choices.{armStep}
 use Rattle.session.specs.declared.StepReply.{StepReply}
 use Rattle.session.specs.declared.Replied.{Replied}
 
@@ -41,7 +42,7 @@ lentOf o = record { machine = o .machine; reply = replyOf (o .answer) (o .shown)
 
 -- what the step by value leaves and says
 abbrev pub lentStep : Window → ℕ → State → List (List ℕ) → List (List ℕ) → List ℕ → List ℕ → Lent
-lentStep w word s vectors vector-taint memory taint = lentOf (leaves (stepOf w word) (machineOf s vectors vector-taint memory taint))
+lentStep w word s vectors vector-taint memory taint = lentOf (leaves (armStep w word) (machineOf s vectors vector-taint memory taint))
 
 -- what is left in place, with what a step by value returns and leaves: the record, both files, memory and its marks, and what is said
 pub record LeftAs (after : State) (r : Stepped) (vs us vs′ us′ : List (List ℕ)) (m k m′ k′ : List ℕ) (reply : StepReply) : Type 0 where

@@ -151,6 +151,7 @@ fn step_replied(
 ) -> Replied
     ensures { λ r. ⌜ lentOutcome (r .state) (r .reply) (now (vectors .exit)) (now («vector_taint» .exit)) (now (memory .exit)) (now (taint .exit)) ≡ lentStep (record { origin = origin; readonly = readonly }) word state (now (vectors .entry)) (now («vector_taint» .entry)) (now (memory .entry)) (now (taint .entry)) ⌝ }
 {
+    arm::real(state, *vectors, *vector_taint, memory, taint);
     match machine::decide(
         word,
         state.pc,

@@ -3,7 +3,6 @@ use Prim.Native.Nat.{ℕ}
 use mathlib.Core.Path.{_≡_, sym, ap, subst}
 use mathlib.Core.Bool.{false}
 use mathlib.Core.List.{List}
-use mathlib.Core.Logic.{_↔_}
 use lib.ListN.{length}
 use native.Mathlib.Omega.{arith}
 use Rattle.instruction.specs.declared.answer.Answer.{Answer}
@@ -15,29 +14,22 @@ use Rattle.access.specs.declared.Access.the-variants.{Moves}
 use Rattle.access.specs.Accesses.{wordAccess}
 use Rattle.plan.specs.declared.ranges.Ranges.{Ranges}
 use Rattle.plan.specs.declared.ranges.Reach.the-variants.{Ranged}
-use Rattle.plan.specs.Refusals.{Refusal, Given}
+use Rattle.plan.specs.Refusals.{Refusal}
 use Rattle.plan.specs.Address.{addressOf}
 use Rattle.plan.specs.Admission.{totalOf}
 use Rattle.plan.specs.Ranges.{badRanges, admitIn}
 use Rattle.plan.proofs.Refusals.{Passed, each, first-by}
 use Rattle.machine.specs.Machine.{Machine, operandsOf}
 use Rattle.machine.specs.Refusals.{bad, accessRefusals, refusalsIn}
-use Rattle.machine.specs.Step.{Step, stopped, moved, performOf, stepIn, performed}
+use Rattle.machine.specs.Step.{Step, stopped, moved, performOf, stepIn}
 use Rattle.machine.specs.declared.Shown.{Shown}
-use Rattle.machine.proofs.Answers.{given-in, refuses-in}
 use Rattle.execution.specs.Walk.{Log, notBegun, short}
-use Rattle.execution.specs.Ends.{Kept, Ends, lastOf, Early}
+use Rattle.execution.specs.Ends.{Early}
 use Rattle.execution.specs.Run.{plainWindow, badTurn, turnStep, turnOf}
 use Rattle.execution.proofs.Refusals.{early-in, begun-in}
 use Rattle.execution.proofs.Turns.{neither-first}
-use Rattle.execution.proofs.Walks.{run-keeps, run-ends}
 use Rattle.turns.specs.Sight.{Allowed}
 use Rattle.turns.proofs.Ranges.{ranges-allow}
-
--- a step of a turn answers a number other than 0 exactly if its test holds and none before it: 1 to 8, then 12
-pub turn-given : (origin : ℕ) (r : Ranges) (word : ℕ) (m : Machine) (n : ℕ) → ¬ (n ≡ 0)
-    → (answerNumber (performed m (turnStep origin r word m) .answer) ≡ n) ↔ Given n (refusalsIn (plainWindow origin) (Ranged r) word m)
-turn-given origin r = given-in (plainWindow origin) (Ranged r)
 
 module _ (origin : ℕ) (r : Ranges) where
   window-fine : (m : Machine) → badTurn origin r m ≡ false → bad (plainWindow origin) m ≡ false
@@ -51,14 +43,6 @@ module _ (origin : ℕ) (r : Ranges) where
     -- one that is begun answers neither
     pub turn-begun : badTurn origin r m ≡ false → short ws l ≡ false → ¬ Early (answerNumber (turnOf origin r ws m l .answer))
     turn-begun = begun-in (plainWindow origin) (Ranged r) (badTurn origin r) window-fine ws m l
-
-    -- and ends with every word done, or at the one that is refused
-    pub turn-ends : badTurn origin r m ≡ false → short ws l ≡ false → Ends (turnStep origin r) ws m (turnOf origin r ws m l .steps) (lastOf (turnOf origin r ws m l))
-    turn-ends = run-ends (turnStep origin r) (refuses-in (plainWindow origin) (Ranged r)) (badTurn origin r) ws m l
-
-    -- a turn leaves what the steps done leave, run alone and not refused
-    pub turn-keeps : Kept (turnStep origin r) ws m l (turnOf origin r ws m l)
-    turn-keeps = run-keeps (turnStep origin r) (badTurn origin r) ws m l
 
 -- ---- every access that is done is allowed
 

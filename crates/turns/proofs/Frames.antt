@@ -44,7 +44,7 @@ use Rattle.turns.proofs.Ranges.{ranges-stay, other-unseen}
 
 -- ---- a relation that each step leads along, from the start of a run to its end
 
-abbrev Leads : {A : Type 0} → (A → A → Type 0) → A → Step A → Type 0
+abbrev pub Leads : {A : Type 0} → (A → A → Type 0) → A → Step A → Type 0
 Leads R m (stopped answer address) = Unit {0}
 Leads R m (moved n s) = R m n
 
@@ -58,7 +58,7 @@ module _ {A : Type 0} (R : A → A → Type 0) (same : (m : A) → R m m) (then 
   walk-leads [] m last = same m
   walk-leads (w ∷ ws) m last = go-leads m (walkOf f ws) (walk-leads ws) (f w m) (steps w m)
 
-  run-leads : (bad : A → Bool) (ws : List ℕ) (m : A) (l : Log) → R m (runOf bad f ws m l .machine)
+  pub run-leads : (bad : A → Bool) (ws : List ℕ) (m : A) (l : Log) → R m (runOf bad f ws m l .machine)
   unfolding runOf
   run-leads bad ws m l =
       let P : Result A → Type 0 = (λ (t : Result A). R m (t .machine)) in

@@ -3,3 +3,4 @@ pub mod Frames
 pub mod Plays
 pub mod Views
 pub mod Answers
+pub mod Arms

@@ -6,7 +6,7 @@ use Rattle.plan.specs.declared.ranges.Ranges.{Ranges}
 use Rattle.machine.specs.Machine.{Machine}
 use Rattle.machine.specs.Real.{Real}
 use Rattle.machine.proofs.Reals.{Below}
-use Rattle.execution.specs.Walk.{Log}
+use Rattle.execution.specs.Walk.{Log, Result}
 use Rattle.execution.specs.Run.{turnOf}
 use Rattle.execution.specs.Secrecy.{SameRoom, ShowsRun}
 use Rattle.turns.specs.Sight.{Sees, Framed}
@@ -33,7 +33,7 @@ module _ (R : Machine → Machine → Type 0) (origin : ℕ) (r : Ranges)
       record { framed = record { size = f .size; room = f .room; bytes = f .bytes; taints = f .taints }; small = turn-small origin (swapped r) ws (otherMachine w) l }
 
   -- the same order of turns, ours over the same words: whatever the other is and does, each of ours shows the same
-  pub play-shows : {ts us : List Turn} → SameOrder ts us → (w v : World) → R (ownMachine w) (ownMachine v) → ShowsPlay R (playOf origin r ts w) (playOf origin r us v)
+  pub play-shows : {ts us : List Turn} → SameOrder ts us → (w v : World) → R (ownMachine w) (ownMachine v) → ShowsPlay R (playOf (turnOf origin) r ts w) (playOf (turnOf origin) r us v)
   unfolding playOf
   play-shows end w v h = record { reports = Reports.none; machine = h }
   play-shows (same ws l k room o) w v h =
@@ -46,8 +46,8 @@ module _ (R : Machine → Machine → Type 0) (origin : ℕ) (r : Ranges)
       play-shows o (afterTheirs w p) (afterTheirs v q) (unseen (ownMachine w) (ownMachine v) p q h (in-common w ws l) (in-common v vs k))
 
 -- the same sequence, as the other sees it
-pub play-swapped : (origin : ℕ) (r : Ranges) (ts : List Turn) (w : World) → playOf origin (swapped r) (map swapTurn ts) (swapWorld w) .world ≡ swapWorld (playOf origin r ts w .world)
+pub play-swapped : (turn : Ranges → List ℕ → Machine → Log → Result Machine) (r : Ranges) (ts : List Turn) (w : World) → playOf turn (swapped r) (map swapTurn ts) (swapWorld w) .world ≡ swapWorld (playOf turn r ts w .world)
 unfolding playOf
-play-swapped origin r [] w = refl
-play-swapped origin r (ours ws l ∷ ts) w = play-swapped origin r ts (afterOurs w (turnOf origin r ws (ownMachine w) l .machine))
-play-swapped origin r (theirs ws l ∷ ts) w = play-swapped origin r ts (afterTheirs w (turnOf origin (swapped r) ws (otherMachine w) l .machine))
+play-swapped turn r [] w = refl
+play-swapped turn r (ours ws l ∷ ts) w = play-swapped turn r ts (afterOurs w (turn r ws (ownMachine w) l .machine))
+play-swapped turn r (theirs ws l ∷ ts) w = play-swapped turn r ts (afterTheirs w (turn (swapped r) ws (otherMachine w) l .machine))

@@ -11,16 +11,13 @@ use Rattle.plan.specs.declared.ranges.Ranges.{Ranges}
 use Rattle.plan.specs.declared.ranges.Reach.the-variants.{Ranged}
 use Rattle.machine.specs.Machine.{Machine}
 use Rattle.machine.specs.Real.{Real}
-use Rattle.machine.specs.Rule.{wordRule}
 use Rattle.machine.proofs.Reals.{Below}
-use Rattle.machine.proofs.Taints.{taintsIn, taints-in}
 use Rattle.secrecy.specs.route.Alike.{View, byTaint, exactly, Copied, Alike}
 use Rattle.secrecy.proofs.Numbers.{same-number}
 use Rattle.secrecy.proofs.Halves.{secret, opposed, exact}
-use Rattle.execution.specs.Walk.{Log, afterSteps}
+use Rattle.execution.specs.Walk.{Log}
 use Rattle.execution.specs.Run.{plainWindow, badTurn, turnStep, turnOf}
 use Rattle.execution.proofs.Secrecy.{Shaped, run-shown, run-logs, past-end}
-use Rattle.execution.proofs.Walks.{run-rule}
 use Rattle.turns.specs.Sight.{Sees, Framed}
 use Rattle.turns.specs.Turns.{World, ownMachine, Turn, playOf, SameOrder, ShowsPlay}
 use Rattle.turns.specs.Views.{Unchanged, RelatedOver, SameOver, FilledOver}
@@ -34,7 +31,7 @@ module _ {view : View} (copied : Copied view) {R : Machine → Machine → Type 
   bad-same : (m n : Machine) → R m n → badTurn origin r m ≡ badTurn origin r n
   bad-same m n h = rw (shape .memories m n h, shape .taints m n h, shape .pc m n h)
 
-  kept : {ts us : List Turn} → SameOrder ts us → (w v : World) → R (ownMachine w) (ownMachine v) → ShowsPlay R (playOf origin r ts w) (playOf origin r us v)
+  kept : {ts us : List Turn} → SameOrder ts us → (w v : World) → R (ownMachine w) (ownMachine v) → ShowsPlay R (playOf (turnOf origin) r ts w) (playOf (turnOf origin) r us v)
   kept =
       play-shows R origin r
       (λ ws m n l k h room. run-shown copied shape (plainWindow origin) (Ranged r) (ranges-safe origin r) (badTurn origin r) bad-same ws m n h l k room)
@@ -42,7 +39,7 @@ module _ {view : View} (copied : Copied view) {R : Machine → Machine → Type 
       unseen
 
 -- a machine that there is, on memory that another's turn has left
-real-over : (m p : Machine) → Real m → Below 256 (p .memory) → Real (over m p)
+pub real-over : (m p : Machine) → Real m → Below 256 (p .memory) → Real (over m p)
 real-over m p h small = record { registers = h .registers; marks = h .marks; values = h .values; marked = h .marked; bytes = small }
 
 -- ---- isolation
@@ -108,7 +105,7 @@ module _ {sees : ℕ → Type 0} where
 -- whatever the other's words, registers, marks, program counter, monitor, trace, statuses, private bytes and their marks: our answers,
 -- traces, statuses, registers, marks, monitor and private bytes are the same after each of our turns
 pub isolation : (origin : ℕ) (r : Ranges) {ts us : List Turn} → SameOrder ts us → (w v : World) → Unchanged (Sees origin r) (ownMachine w) (ownMachine v)
-    → ShowsPlay (Unchanged (Sees origin r)) (playOf origin r ts w) (playOf origin r us v)
+    → ShowsPlay (Unchanged (Sees origin r)) (playOf (turnOf origin) r ts w) (playOf (turnOf origin) r us v)
 isolation origin r = kept exact origin r unchanged-shape unchanged-over
 
 -- ---- demand 3 of each plugin, and its other half
@@ -178,15 +175,9 @@ module _ {related : Bool → ℕ → ℕ → Type 0} (copied : Copied (byTaint r
 -- two sequences with the same words and room in our turns, from equal untainted registers and untainted bytes of our own and of the
 -- shared range: all that 01 compares at the end is the same after each of our turns, over what we may read
 pub demand-3-each : (origin : ℕ) (r : Ranges) {ts us : List Turn} → SameOrder ts us → (w v : World) → SameOver (Sees origin r) (ownMachine w) (ownMachine v)
-    → ShowsPlay (SameOver (Sees origin r)) (playOf origin r ts w) (playOf origin r us v)
+    → ShowsPlay (SameOver (Sees origin r)) (playOf (turnOf origin) r ts w) (playOf (turnOf origin) r us v)
 demand-3-each origin r = kept secret origin r (related-shape secret) (related-over secret)
 
 pub other-half-each : (origin : ℕ) (r : Ranges) {ts us : List Turn} → SameOrder ts us → (w v : World) → FilledOver (Sees origin r) (ownMachine w) (ownMachine v)
-    → ShowsPlay (FilledOver (Sees origin r)) (playOf origin r ts w) (playOf origin r us v)
+    → ShowsPlay (FilledOver (Sees origin r)) (playOf (turnOf origin) r ts w) (playOf (turnOf origin) r us v)
 other-half-each origin r = kept opposed origin r (related-shape opposed) (related-over opposed)
-
--- ---- the taints after a turn are the taint rule's over the steps done
-
-pub taints-of-turn : (origin : ℕ) (r : Ranges) (words : List ℕ) (m : Machine) (l : Log)
-    → turnOf origin r words m l .machine .taints ≡ afterSteps (wordRule origin) words (turnOf origin r words m l .log) (turnOf origin r words m l .steps) (m .taints)
-taints-of-turn origin r words m l = run-rule taintsIn (wordRule origin) (turnStep origin r) (taints-in (plainWindow origin) (Ranged r)) (badTurn origin r) words m l

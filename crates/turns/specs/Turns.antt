@@ -7,7 +7,6 @@ use Rattle.plan.specs.declared.ranges.Ranges.{Ranges}
 use Rattle.machine.specs.declared.monitor.Monitor.{Monitor}
 use Rattle.machine.specs.Machine.{Machine}
 use Rattle.execution.specs.Walk.{Log, Result}
-use Rattle.execution.specs.Run.{turnOf}
 use Rattle.execution.specs.Secrecy.{SameRoom, ShowsRun}
 
 -- "each with its own registers, monitor": the 64 registers of a machine with their marks, its program counter and its monitor
@@ -65,13 +64,13 @@ pub record Played : Type 0 where
 abbrev pub reported : Log → Result Machine → Played → Played
 reported l t p = record { world = p .world; reports = record { lent = l; result = t } ∷ p .reports }
 
--- the turns in order, whatever each answers
-unfoldable pub playOf : ℕ → Ranges → List Turn → World → Played
-playOf origin r [] w = record { world = w; reports = [] }
-playOf origin r (ours ws l ∷ ts) w =
-    let t = turnOf origin r ws (ownMachine w) l in
-    reported l t (playOf origin r ts (afterOurs w (t .machine)))
-playOf origin r (theirs ws l ∷ ts) w = playOf origin r ts (afterTheirs w (turnOf origin (swapped r) ws (otherMachine w) l .machine))
+-- the turns in order, whatever each answers, by what a turn returns and leaves of the ranges of the plugin whose it is
+unfoldable pub playOf : (Ranges → List ℕ → Machine → Log → Result Machine) → Ranges → List Turn → World → Played
+playOf turn r [] w = record { world = w; reports = [] }
+playOf turn r (ours ws l ∷ ts) w =
+    let t = turn r ws (ownMachine w) l in
+    reported l t (playOf turn r ts (afterOurs w (t .machine)))
+playOf turn r (theirs ws l ∷ ts) w = playOf turn r ts (afterTheirs w (turn (swapped r) ws (otherMachine w) l .machine))
 
 -- the same turns and the same world as the other sees them
 abbrev pub swapTurn : Turn → Turn

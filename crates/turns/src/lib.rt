@@ -6,7 +6,7 @@ use plan::Ranges;
 ghost use mathlib.Core.Path.{_≡_};
 ghost use Rattle.machine.specs.Machine.{machineOf};
 ghost use Rattle.execution.specs.Walk.{log};
-ghost use Rattle.execution.specs.Run.{turnOf};
+ghost use Rattle.arm.specs.Choices.{armTurn};
 ghost use Rattle.host.specs.Hosting.{hosted, hostedOf};
 
 // One turn of the plugin that the ranges call own: a run from its record, which is handed in by value and comes back in the
@@ -26,8 +26,9 @@ pub extern "C" fn milestarling_turn(
     statuses: &mut [u8],
 ) -> RunReply
     ensures { λ r. ⌜ hosted r (now (vectors .exit)) (now («vector_taint» .exit)) (now (memory .exit)) (now (taint .exit)) (now (trace .exit)) (now (statuses .exit))
-        ≡ hostedOf (turnOf origin ranges (now (words .entry)) (machineOf session (now (vectors .entry)) (now («vector_taint» .entry)) (now (memory .entry)) (now (taint .entry))) (log (now (trace .entry)) (now (statuses .entry)))) ⌝ }
+        ≡ hostedOf (armTurn origin ranges (now (words .entry)) (machineOf session (now (vectors .entry)) (now («vector_taint» .entry)) (now (memory .entry)) (now (taint .entry))) (log (now (trace .entry)) (now (statuses .entry)))) ⌝ }
 {
+    arm::real(session, *vectors, *vector_taint, memory, taint);
     let ran = execution::turn(
         words,
         session,

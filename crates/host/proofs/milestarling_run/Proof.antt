@@ -15,4 +15,4 @@ milestarling-run-spec =
     (λ c. search needs)
     (λ c. search needs)
     (λ c. search needs)
-    (λ c. rw (c .answer-number .ensures) (ap hostedOf (c .before .before .before .before .before .before .before .before .before .before .run .ensures .0))))
+    (λ c. rw (c .answer-number .ensures) (ap hostedOf (c .before .before .before .before .before .before .before .before .before .before .run .ensures))))
