@@ -1,7 +1,7 @@
 -- The marks after Arm's step are those of the mark rule for its word and what it shows, and those at the end of a run the rule's over
 -- the steps done: a code of 64 or more tells a store, and what is left of it the bytes (`Made`). Assumes nothing.
 use Prim.Native.Nat.{ℕ, _+_, _%_, _<_}
-use mathlib.Core.Path.{_≡_, refl, subst}
+use mathlib.Core.Path.{_≡_, refl, subst, _∙_}
 use mathlib.Core.Bool.{Bool, true, false, not}
 use mathlib.Core.List.{List}
 use native.Mathlib.Omega.{arith}
@@ -25,6 +25,7 @@ use Rattle.execution.proofs.Walks.{Leaves, run-rule-in}
 use Rattle.arm.specs.Pseudocode.{Operation, hint, spFault, access}
 use Rattle.arm.specs.Choices.{badStart, wordPage, operationOf, pageMoves, armRefusalsIn, armStepIn, armRun, badTurnStart, armTurnStep, armTurn, markRule}
 use Rattle.arm.proofs.Steps.{Made}
+use Rattle.arm.proofs.Conditions.{page-conditions}
 use Rattle.arm.proofs.Arm.{top-is, page-step, step-in-as-arm}
 
 -- ---- a code
@@ -53,7 +54,9 @@ page-follows w word m (access store address size status s) made = rw (code-some 
 -- what is not refused has a page that makes an access of the machine
 pub page-made : (w : Window) (reach : Reach) (word : ℕ) (m : Machine) → Real m → Passed (armRefusalsIn w reach word m) → Made (wordPage word) word (operationOf w word m)
 page-made w reach word m r (window, (member, (wrong, (loose, rest)))) =
-    page-step w m (record { real = r; top = top-is w m window }) word (not-false (inSet word) member) wrong loose .1
+    let t = not-false (inSet word) member in
+    let conditions = page-conditions word t in
+    page-step w m (record { real = r; top = top-is w m window }) word t (conditions .0 ∙ wrong) (conditions .1 ∙ loose) .1
 
 pub marks-in : (w : Window) (reach : Reach) (word : ℕ) (m : Machine) → Real m → Follows taintsIn (markRule (w .origin) word) m (armStepIn w reach word m)
 unfolding armStepIn

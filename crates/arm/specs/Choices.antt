@@ -151,6 +151,4 @@ armTurn origin r = runOf (badTurnStart origin r) (armTurnStep origin r)
 -- the rule of marks for a word and what its step shows: none is moved where no byte is touched
 unfoldable pub markRule : ℕ → ℕ → Shown → Taints → Taints
 markRule origin word shown p =
-    let page = wordPage word in
-    pick (eqb (shown .code) 0) p
-    (marksOf (page .vector) (page .paired) (page .wback) (page .status) (leb 64 (shown .code)) (shown .status) (page .extent) origin word (shown .address) (shown .code % 64) p)
+    pick (eqb (shown .code) 0) p (marksOf (wordPage word) (leb 64 (shown .code)) (shown .status) origin word (shown .address) (shown .code % 64) p)
