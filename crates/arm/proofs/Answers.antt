@@ -14,7 +14,7 @@ use Rattle.bits.specs.Fields.{field}
 use Rattle.instruction.specs.declared.answer.Answer.{Answer}
 use Rattle.instruction.specs.declared.answer.Answer.the-variants.{Done, BadWindow, TaintedAddress, Misaligned}
 use Rattle.instruction.specs.Answers.{answerNumber}
-use Rattle.instruction.specs.Table.{rowOf}
+use Rattle.instruction.specs.Table.{inSet, rowOf}
 use Rattle.plan.specs.declared.window.Window.{Window}
 use Rattle.plan.specs.declared.ranges.Reach.{Reach}
 use Rattle.plan.specs.declared.ranges.Reach.the-variants.{Alone, Ranged}
@@ -27,6 +27,8 @@ use Rattle.machine.proofs.Answers.{Refuses, Numbered, Later, Late}
 use Rattle.arm.specs.Pseudocode.{Operation, hint, spFault, access}
 use Rattle.arm.specs.Pages.{Page}
 use Rattle.arm.specs.Choices.{badStart, marked, reachRefusals, pageRefusals, pageMoves, armOf, wordPage, operationOf, armRefusalsIn, armStepIn}
+use Rattle.arm.proofs.Conditions.{page-conditions}
+use Rattle.arm.proofs.Arm.{after-class}
 use Rattle.arm.proofs.Stack.{Faults, page-faults}
 
 -- ---- the first that holds
@@ -127,7 +129,8 @@ unfolding armStepIn
 class-first w reach word m =
     let page = firstOf stopped (pageMoves w word m (wordPage word) (operationOf w word m)) (pageRefusals w reach word m (wordPage word) (operationOf w word m)) in
     ap (pick (badStart w m) (stopped BadWindow 0))
-    (by-answer stopped page 0 (classRefusals word) ((refl, (λ h. omega arith)), ((refl, (λ h. omega arith)), ((refl, (λ h. omega arith)), tt))))
+    (sym (after-class page page (inSet word) (page-conditions word) (λ t u v. refl))
+    ∙ by-answer stopped page 0 (classRefusals word) ((refl, (λ h. omega arith)), ((refl, (λ h. omega arith)), ((refl, (λ h. omega arith)), tt))))
 
 -- a base or an index with a marked byte is never used for an access; a lower answer comes first
 page-marked : (w : Window) (reach : Reach) (word : ℕ) (m : Machine) (page : Page) (o : Operation) → ¬ (o ≡ hint) → marked page word m ≡ true

@@ -109,7 +109,7 @@ top-is w m h = ltb-false (2 ^ 64) (w .origin + length (m .memory)) (first _ _ _ 
 -- ---- answers 2 to 4
 
 -- by the table's conditions and by the page's
-after-class : (x y : Step Machine) (member : Bool) {wrong loose undefined unpredictable : Bool}
+pub after-class : (x y : Step Machine) (member : Bool) {wrong loose undefined unpredictable : Bool}
     → (member ≡ true → (wrong ≡ undefined) × (loose ≡ unpredictable)) → (member ≡ true → wrong ≡ false → loose ≡ false → x ≡ y)
     → pick (not member) (stopped NotInSet 0) (pick wrong (stopped Undefined 0) (pick loose (stopped Unpredictable 0) x))
     ≡ pick (not member) (stopped NotInSet 0) (pick undefined (stopped Undefined 0) (pick unpredictable (stopped Unpredictable 0) y))

@@ -57,7 +57,7 @@ module _ (s : Arm) (word : ℕ) (b : field 9 5 word ≡ 31) (h : ¬ (SP s % 16 �
 
   ordered-faults : Faults s (ordered word s)
   unfolding ordered
-  ordered-faults = rw (b, skew) (settled s (sized word))
+  ordered-faults = rw (b, skew) (settled s (pick (eqb (field 1 1 (field 23 22 word)) 1) LOAD (plain (field 0 0 (field 23 22 word)))))
 
   immediate-faults : (wback postindex : Bool) (scale offset : ℕ) → Faults s (immediate wback postindex scale offset word s)
   unfolding immediate
@@ -83,13 +83,13 @@ module _ (s : Arm) (word : ℕ) (b : field 9 5 word ≡ 31) (h : ¬ (SP s % 16 �
   unfolding vectorPaired
   vector-paired-faults wback postindex = rw (b, skew) (settled s (plain (field 22 22 word)))
 
-  pair-faults : Faults s (pair word s)
+  pair-faults : (mode : ℕ) → Faults s (pair mode word s)
   unfolding pair
-  pair-faults = pick-by (Faults s) (eqb (field 24 23 word) 0b01) (λ e. paired-faults true true) (λ e. pick-by (Faults s) (eqb (field 24 23 word) 0b11) (λ f. paired-faults true false) (λ f. paired-faults false false))
+  pair-faults mode = pick-by (Faults s) (eqb mode 0b01) (λ e. paired-faults true true) (λ e. pick-by (Faults s) (eqb mode 0b11) (λ f. paired-faults true false) (λ f. paired-faults false false))
 
-  vector-pair-faults : Faults s (vectorPair word s)
+  vector-pair-faults : (mode : ℕ) → Faults s (vectorPair mode word s)
   unfolding vectorPair
-  vector-pair-faults = pick-by (Faults s) (eqb (field 24 23 word) 0b01) (λ e. vector-paired-faults true true) (λ e. pick-by (Faults s) (eqb (field 24 23 word) 0b11) (λ f. vector-paired-faults true false) (λ f. vector-paired-faults false false))
+  vector-pair-faults mode = pick-by (Faults s) (eqb mode 0b01) (λ e. vector-paired-faults true true) (λ e. pick-by (Faults s) (eqb mode 0b11) (λ f. vector-paired-faults true false) (λ f. vector-paired-faults false false))
 
   load-exclusive-faults : Faults s (loadExclusive word s)
   unfolding loadExclusive
@@ -109,8 +109,8 @@ module _ (s : Arm) (word : ℕ) (b : field 9 5 word ≡ 31) (h : ¬ (SP s % 16 �
   pub page-faults : (vector : Bool) (l : Row) → pageOf vector l word .based ≡ true → Faults s (pageOf vector l word .operation word s)
   page-faults vector NoRow e = tt
   page-faults vector LiteralRow e = no-base e
-  page-faults true PairRow e = vector-pair-faults
-  page-faults false PairRow e = pair-faults
+  page-faults true PairRow e = vector-pair-faults _
+  page-faults false PairRow e = pair-faults _
   page-faults vector OrderedRow e = ordered-faults
   page-faults true UnscaledRow e = vector-unscaled-faults
   page-faults false UnscaledRow e = unscaled-faults

@@ -16,7 +16,8 @@ use Rattle.access.specs.declared.transfer.Transfer.{Transfer}
 use Rattle.access.specs.declared.addressing.Addressing.{Addressing}
 use Rattle.access.specs.declared.Access.{Access}
 use Rattle.access.specs.declared.Access.the-variants.{Nothing, Moves}
-use Rattle.access.proofs.Bounds.{Bounded, Within, bounded, Moving, moving}
+use Rattle.access.specs.route.Bounds.{Bounded, Within, Moving}
+use Rattle.access.proofs.Bounds.{bounded, moving}
 use Rattle.vectors.specs.File.{vectorSlot}
 use Rattle.plan.specs.declared.window.Window.{Window}
 use Rattle.plan.specs.Address.{sumOf, addressOf}
