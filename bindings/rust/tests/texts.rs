@@ -137,6 +137,7 @@ const MNEMONICS: [&str; 42] = [
     "ldnpsw", "stgp", "ldtr", "ldxr", "rprfm", "ld", "ldrq", "ld1",
 ];
 
+#[rustfmt::skip]
 const REGISTERS: [&str; 44] = [
     "x0", "x1", "x9", "x10", "x29", "x30", "x31", "w0", "w5", "w30", "w31", "xzr", "wzr", "sp", "wsp", "x01", "x-1",
     "x", "lr", "X2", "pldl1keep", "plil2strm", "pstl3keep", "pldl4keep", "plil1", "pldslckeep", "b0", "b31", "h7",
