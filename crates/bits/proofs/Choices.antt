@@ -55,7 +55,7 @@ pub each : {A : Type 0} (d : A) (t : List (ℕ × A)) (code : A → ℕ) → ((a
 each d t code back p h a = ap p (sym (back a)) ∙ looked p d t h (code a)
 
 -- what `_` of a match says of a number: it is no key, as a tuple nested to the left
-abbrev pub Absent : Type 0 → {A : Type 0} → List (ℕ × A) → ℕ → Type 0
+abbrev pub Absent : {A : Type 0} → Type 0 → List (ℕ × A) → ℕ → Type 0
 Absent B [] k = B
 Absent B (e ∷ es) k = Absent (B × (k ≡ e.0 → ⊥)) es k
 

@@ -1,5 +1,7 @@
 // Fields of instruction words, signed numbers and their extension, and numbers of bytes. The definitions are in specs/, their
 // laws in proofs/.
+#![tactic(auto)]
+
 mod extend;
 mod join;
 mod number;
