@@ -1,5 +1,7 @@
 // An instruction as one access: what it moves between registers and memory, and how its address is formed.
 // What comes after it knows no families. Registers are slots: 0 to 30, 31 for SP, 32 for none.
+#![tactic(auto)]
+
 mod addressing;
 mod transfer;
 

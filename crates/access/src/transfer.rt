@@ -9,7 +9,7 @@ use instruction::{AccessSize, ExclusiveOp, PairOp, SizedOp};
 // Each register's bytes are moved; the second of a pair lies behind the first, and a single register has no
 // bytes there. A loaded number keeps its sign up to the extent, in bytes; it is as long as the number where
 // zeros stand above. An ordered access lies in one block of 16 bytes. An exclusive one goes by the monitor.
-#[derive(Drop)]
+#[derive(Clone, Copy)]
 pub struct Transfer {
     pub store: bool,
     pub ordered: bool,

@@ -1,11 +1,13 @@
 // Arm's pages as definitions, and the theorems that every step and every run does what they say: in specs/ and proofs/.
 // The code adds nothing to the machine's: its contracts say the theorems of whatever code can be handed.
+#![tactic(auto)]
+
 ghost use Rattle.std.specs.Prelude.{◌≡◌, ℕ, ◌<◌, ◌^◌, get_or};
 ghost use Rattle.machine.specs.Machine.{machine_of};
 ghost use Rattle.machine.specs.Real.{Real};
 ghost use Rattle.machine.specs.Step.{outcome, leaves};
 ghost use Rattle.execution.specs.Walk.{log, run_of};
-ghost use Rattle.execution.specs.Run.{result};
+ghost use Rattle.execution.specs.Run.{result_of};
 ghost use Rattle.arm.specs.Choices.{bad_start, arm_step};
 
 use execution::Ran;
@@ -21,7 +23,7 @@ pub fn step(
     memory: &mut [u8],
     taint: &mut [u8],
 ) -> Stepped
-    ensures* { λ r. ⌜ outcome r vectors vector_taint memory.new taint.new ≡ leaves (arm_step window word) (machine_of state vectors vector_taint memory.old taint.old) ⌝ }
+    ensures { outcome result vectors vector_taint memory.new taint.new ≡ leaves (arm_step window word) (machine_of state vectors vector_taint memory.old taint.old) }
 {
     real(state, vectors, vector_taint, memory, taint);
     machine::step(word, state, vectors, vector_taint, window, memory, taint)
@@ -39,7 +41,7 @@ pub fn run(
     trace: &mut [u64],
     statuses: &mut [u8],
 ) -> Ran
-    ensures* { λ r. ⌜ result r vectors.new vector_taint.new memory.new taint.new trace.new statuses.new ≡ run_of (bad_start window) (arm_step window) words.now (machine_of state vectors.old vector_taint.old memory.old taint.old) (log trace.old statuses.old) ⌝ }
+    ensures { result_of result vectors.new vector_taint.new memory.new taint.new trace.new statuses.new ≡ run_of (bad_start window) (arm_step window) words.now (machine_of state vectors.old vector_taint.old memory.old taint.old) (log trace.old statuses.old) }
 {
     real(state, *vectors, *vector_taint, memory, taint);
     execution::run(
@@ -64,7 +66,7 @@ pub fn real(
     memory: &[u8],
     taint: &[u8],
 )
-    ensures* { λ r. ⌜ Real (machine_of state vectors vector_taint memory.now taint.now) ⌝ }
+    ensures { Real (machine_of state vectors vector_taint memory.now taint.now) }
 {
     let file = state.registers;
     let value = file.value;
@@ -77,13 +79,13 @@ pub fn real(
 }
 
 fn values(v: &[u64])
-    ensures* { λ r. ⌜ ((n : ℕ) → get_or v.now n 0 < 2 ^ 64) ⌝ }
+    ensures { (n : ℕ) → get_or v.now n 0 < 2 ^ 64 }
 {
     nothing();
 }
 
 fn bytes(b: &[u8])
-    ensures* { λ r. ⌜ ((n : ℕ) → get_or b.now n 0 < 256) ⌝ }
+    ensures { (n : ℕ) → get_or b.now n 0 < 256 }
 {
     nothing();
 }

@@ -1,4 +1,6 @@
 // Bytes of text, put into a line at a position.
+#![tactic(auto)]
+
 mod piece;
 
 pub use piece::{put_byte, put_decimal, put_eight, put_four, put_text, put_three, put_two};

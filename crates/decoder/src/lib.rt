@@ -1,4 +1,6 @@
 // A word to its instruction. Every word has an answer, and nobody has to check first.
+#![tactic(auto)]
+
 pub mod family;
 mod row;
 pub mod undefined;

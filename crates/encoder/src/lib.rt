@@ -1,4 +1,6 @@
 // An instruction to its word. The round trips are proved in proofs/.
+#![tactic(auto)]
+
 mod offset;
 mod word;
 

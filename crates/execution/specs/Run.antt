@@ -31,6 +31,6 @@ abbrev pub turn_of : ℕ → Ranges → List ℕ → Machine → Log → Result 
 turn_of origin r words m l = run_of (bad_turn origin r) (turn_step origin r) words m l
 
 -- what the code returns and leaves
-abbrev pub result : Ran → List (List ℕ) → List (List ℕ) → List ℕ → List ℕ → List ℕ → List ℕ → Result Machine
-result r vectors vector_taint memory taint trace statuses =
+abbrev pub result_of : Ran → List (List ℕ) → List (List ℕ) → List ℕ → List ℕ → List ℕ → List ℕ → Result Machine
+result_of r vectors vector_taint memory taint trace statuses =
     record { machine = machine_of r.state vectors vector_taint memory taint; log = log trace statuses; steps = r.steps; answer = r.answer; shown = r.shown }

@@ -1,10 +1,12 @@
 // A run: a step for each word of a list, up to the first refusal, with a trace of the steps done and their statuses.
+#![tactic(auto)]
+
 ghost use Rattle.std.specs.Prelude.{◌≡◌, List, ℕ, ◌+◌, ◌*◌, ◌≤◌, ◌<◌, length, set};
 ghost use Rattle.machine.specs.Rule.{word_rule};
 ghost use Rattle.machine.specs.Machine.{Machine, machine_of};
 ghost use Rattle.machine.specs.Step.{shown, step_in};
 ghost use Rattle.execution.specs.Walk.{walk_of, Log, log, glue, not_begun, too_short, after_steps};
-ghost use Rattle.execution.specs.Run.{machine_run, turn_of, result};
+ghost use Rattle.execution.specs.Run.{machine_run, turn_of, result_of};
 ghost use Rattle.execution.specs.Secrecy.{Same, Filled, SameRoom, ShowsRun};
 
 use instruction::Answer;
@@ -36,12 +38,12 @@ pub fn run(
     trace: &mut [u64],
     statuses: &mut [u8],
 ) -> Ran
-    ensures* exact { λ r. ⌜ result r vectors.new vector_taint.new memory.new taint.new trace.new statuses.new ≡ machine_run window words.now (machine_of state vectors.old vector_taint.old memory.old taint.old) (log trace.old statuses.old) ⌝ }
-    ensures* rule { λ r. ⌜ (machine_of r.state vectors.new vector_taint.new memory.new taint.new).taints ≡ after_steps (word_rule window.origin) words.now (log trace.new statuses.new) r.steps (machine_of state vectors.old vector_taint.old memory.old taint.old).taints ⌝ }
-    ensures* secret { λ r. ⌜ ((other : Machine) (lent : Log) → Same (machine_of state vectors.old vector_taint.old memory.old taint.old) other → SameRoom (log trace.old statuses.old) lent
-        → ShowsRun Same (result r vectors.new vector_taint.new memory.new taint.new trace.new statuses.new) (machine_run window words.now other lent)) ⌝ }
-    ensures* filled { λ r. ⌜ ((other : Machine) (lent : Log) → Filled (machine_of state vectors.old vector_taint.old memory.old taint.old) other → SameRoom (log trace.old statuses.old) lent
-        → ShowsRun Filled (result r vectors.new vector_taint.new memory.new taint.new trace.new statuses.new) (machine_run window words.now other lent)) ⌝ }
+    ensures exact { result_of result vectors.new vector_taint.new memory.new taint.new trace.new statuses.new ≡ machine_run window words.now (machine_of state vectors.old vector_taint.old memory.old taint.old) (log trace.old statuses.old) }
+    ensures rule { (machine_of result.state vectors.new vector_taint.new memory.new taint.new).taints ≡ after_steps (word_rule window.origin) words.now (log trace.new statuses.new) result.steps (machine_of state vectors.old vector_taint.old memory.old taint.old).taints }
+    ensures secret { (other : Machine) (lent : Log) → Same (machine_of state vectors.old vector_taint.old memory.old taint.old) other → SameRoom (log trace.old statuses.old) lent
+        → ShowsRun Same (result_of result vectors.new vector_taint.new memory.new taint.new trace.new statuses.new) (machine_run window words.now other lent) }
+    ensures filled { (other : Machine) (lent : Log) → Filled (machine_of state vectors.old vector_taint.old memory.old taint.old) other → SameRoom (log trace.old statuses.old) lent
+        → ShowsRun Filled (result_of result vectors.new vector_taint.new memory.new taint.new trace.new statuses.new) (machine_run window words.now other lent) }
 {
     if plan::is_bad(window, memory.len() as u64, taint.len() as u64, state.pc) {
         return not_begun(state, Answer::BadWindow);
@@ -77,7 +79,7 @@ pub fn turn(
     trace: &mut [u64],
     statuses: &mut [u8],
 ) -> Ran
-    ensures* { λ r. ⌜ result r vectors.new vector_taint.new memory.new taint.new trace.new statuses.new ≡ turn_of origin ranges words.now (machine_of state vectors.old vector_taint.old memory.old taint.old) (log trace.old statuses.old) ⌝ }
+    ensures { result_of result vectors.new vector_taint.new memory.new taint.new trace.new statuses.new ≡ turn_of origin ranges words.now (machine_of state vectors.old vector_taint.old memory.old taint.old) (log trace.old statuses.old) }
 {
     let window = Window {
         origin,
@@ -108,7 +110,7 @@ pub fn turn(
 
 // Whether a trace or a status list is shorter than so many words ask: answer 10.
 pub fn is_short(words: usize, trace: usize, statuses: usize) -> bool
-    ensures* { λ r. ⌜ r ≡ too_short words trace statuses ⌝ }
+    ensures { result ≡ too_short words trace statuses }
 {
     if trace / 2 < words {
         return true;
@@ -117,7 +119,7 @@ pub fn is_short(words: usize, trace: usize, statuses: usize) -> bool
 }
 
 fn not_begun(state: State, answer: Answer) -> Ran
-    ensures* { λ r. ⌜ ((vs us : List (List ℕ)) (m k t s : List ℕ) → result r vs us m k t s ≡ not_begun answer (machine_of state vs us m k) (log t s)) ⌝ }
+    ensures { (vs us : List (List ℕ)) (m k t s : List ℕ) → result_of result vs us m k t s ≡ not_begun answer (machine_of state vs us m k) (log t s) }
 {
     Ran {
         state,
@@ -142,7 +144,7 @@ fn walk(
     statuses: &mut [u8],
 ) -> Ran
     requires { (length words.now * 2 ≤ length trace.old) × (length words.now ≤ length statuses.old) }
-    ensures* { λ r. ⌜ result r vectors.new vector_taint.new memory.new taint.new trace.new statuses.new ≡ glue 0 (log trace.old statuses.old) (walk_of (step_in window reach) words.now (machine_of start vectors.old vector_taint.old memory.old taint.old) (shown 0 0 0)) ⌝ }
+    ensures { result_of result vectors.new vector_taint.new memory.new taint.new trace.new statuses.new ≡ glue 0 (log trace.old statuses.old) (walk_of (step_in window reach) words.now (machine_of start vectors.old vector_taint.old memory.old taint.old) (shown 0 0 0)) }
 {
     let mut state = start;
     let mut last = machine::no_code(0);
@@ -190,7 +192,7 @@ fn walk(
 
 // What is returned after so many steps, with the answer of the last step tried and what it shows.
 fn ended(state: State, steps: usize, answer: Answer, shown: Shown) -> Ran
-    ensures* { λ r. ⌜ ((vs us : List (List ℕ)) (m k t s : List ℕ) → result r vs us m k t s ≡ record { machine = machine_of state vs us m k; log = log t s; steps = steps; answer = answer; shown = shown }) ⌝ }
+    ensures { (vs us : List (List ℕ)) (m k t s : List ℕ) → result_of result vs us m k t s ≡ record { machine = machine_of state vs us m k; log = log t s; steps = steps; answer = answer; shown = shown } }
 {
     Ran {
         state,
@@ -203,7 +205,7 @@ fn ended(state: State, steps: usize, answer: Answer, shown: Shown) -> Ran
 // The two numbers of a step in the trace, and its status; then the number of steps done.
 fn noted(trace: &mut [u64], statuses: &mut [u8], i: usize, shown: Shown) -> usize
     requires { (i * 2 + 2 ≤ length trace.old) × (i < length statuses.old) }
-    ensures* { λ r. ⌜ (r ≡ i + 1) × (trace.new ≡ set (set trace.old (i * 2) shown.code) (i * 2 + 1) shown.address) × (statuses.new ≡ set statuses.old i shown.status) ⌝ }
+    ensures { (result ≡ i + 1) × (trace.new ≡ set (set trace.old (i * 2) shown.code) (i * 2 + 1) shown.address) × (statuses.new ≡ set statuses.old i shown.status) }
 {
     trace[i * 2] = shown.code;
     trace[i * 2 + 1] = shown.address;

@@ -1,5 +1,7 @@
 // The machine, the text, the reader and the listing for a host in another language. Only numbers, structs of numbers and
 // lent slices cross: an answer as its number, and a session's record as it is.
+#![tactic(auto)]
+
 ghost use Rattle.std.specs.Prelude.{◌≡◌};
 ghost use Rattle.instruction.specs.Answers.{answer_number};
 ghost use Rattle.machine.specs.Machine.{machine_of};

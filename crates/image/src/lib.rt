@@ -1,5 +1,7 @@
 // Memory images in Intel HEX: a whole text is read into lent memory, or refused. A first pass over the text finds the first
 // fault, and a second writes: so a refused text leaves memory as it was, and nothing of it is kept.
+#![tactic(auto)]
+
 mod line;
 mod place;
 mod text;

@@ -5,7 +5,7 @@ ghost use Rattle.instruction.specs.Answers.{answer_number};
 
 use crate::family::Instruction;
 
-#[derive(Drop)]
+#[derive(Clone, Copy)]
 pub enum Answer {
     Done,
     BadWindow,

@@ -3,12 +3,12 @@
 use crate::exclusive::{AccessSize, ExclusiveOp, StoreExclusiveOp};
 use crate::operation::{LiteralOp, PairMode, PairOp, SizedOp};
 
-#[derive(Drop)]
+#[derive(Clone, Copy)]
 pub struct Instruction {
     pub family: Family,
 }
 
-#[derive(Drop)]
+#[derive(Clone, Copy)]
 pub enum Family {
     // 01's empty record, of a word that is not an instruction.
     Empty,
@@ -26,13 +26,13 @@ pub enum Family {
 }
 
 // The target of a prefetch is its hint.
-#[derive(Drop)]
+#[derive(Clone, Copy)]
 pub struct LiteralOperands {
     pub target: u32,
     pub offset: i64,
 }
 
-#[derive(Drop)]
+#[derive(Clone, Copy)]
 pub struct PairOperands {
     pub first: u32,
     pub second: u32,
@@ -41,7 +41,7 @@ pub struct PairOperands {
     pub offset: i64,
 }
 
-#[derive(Drop)]
+#[derive(Clone, Copy)]
 pub struct OffsetOperands {
     pub target: u32,
     pub base: u32,
@@ -49,7 +49,7 @@ pub struct OffsetOperands {
 }
 
 // The option says how the index is extended; scaled is 01's S, 0 or 1: the index is shifted by the size.
-#[derive(Drop)]
+#[derive(Clone, Copy)]
 pub struct IndexOperands {
     pub target: u32,
     pub base: u32,
@@ -58,14 +58,14 @@ pub struct IndexOperands {
     pub scaled: u32,
 }
 
-#[derive(Drop)]
+#[derive(Clone, Copy)]
 pub struct ExclusiveOperands {
     pub size: AccessSize,
     pub target: u32,
     pub base: u32,
 }
 
-#[derive(Drop)]
+#[derive(Clone, Copy)]
 pub struct StoreExclusiveOperands {
     pub size: AccessSize,
     pub status: u32,

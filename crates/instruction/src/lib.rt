@@ -1,5 +1,7 @@
 // What an instruction is: the types, all by value. What words and instructions say of each other is
 // defined in specs/.
+#![tactic(auto)]
+
 mod answer;
 mod exclusive;
 mod family;

@@ -1,5 +1,7 @@
 // The lent forms of a session's record for callers that hold the record by value: each lends a record of its own, and
 // returns what is then in it. Vector registers are lent on.
+#![tactic(auto)]
+
 ghost use Rattle.std.specs.Prelude.{◌≡◌};
 ghost use Rattle.session.specs.Lent.{with_register, lent_outcome, lent_step};
 

@@ -1,4 +1,6 @@
 // The listing of a run of bytes: a line for each word, and one for bytes that are left over.
+#![tactic(auto)]
+
 mod line;
 
 ghost use Rattle.std.specs.Prelude.{◌≡◌, leb, length};

@@ -1,5 +1,7 @@
 // The second decoder: bits 31 to 22 of a word are looked up in a table, and the bits below decide among the families that
 // the entry names. The table is lent, so that many words take it once.
+#![tactic(auto)]
+
 mod constant;
 mod finish;
 

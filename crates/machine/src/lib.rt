@@ -1,5 +1,7 @@
 // One step of the machine, in two halves: the first decodes a word, plans the access and makes it in memory, or
 // refuses and changes nothing; the second sets registers, and gives back the whole state.
+#![tactic(auto)]
+
 mod effect;
 mod monitor;
 
@@ -24,7 +26,7 @@ use registers::Registers;
 use vectors::VectorWrites;
 
 #[repr(C)]
-#[derive(Drop)]
+#[derive(Clone, Copy)]
 pub struct State {
     pub registers: Registers,
     pub pc: u64,
@@ -32,7 +34,7 @@ pub struct State {
 }
 
 // What a done step shows; the status is 0 but for a store-exclusive that fails.
-#[derive(Drop)]
+#[derive(Clone, Copy)]
 pub struct Shown {
     pub code: u64,
     pub address: u64,

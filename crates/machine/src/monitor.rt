@@ -7,7 +7,7 @@ use access::Transfer;
 
 // Where the last load-exclusive was, and how many bytes it had. It is open where the size is 0.
 #[repr(C)]
-#[derive(Drop)]
+#[derive(Clone, Copy)]
 pub struct Monitor {
     pub address: u64,
     pub size: u64,

@@ -1,5 +1,7 @@
 // The bytes of a number at the start of a part of memory, and their taints. The part is lent from the first
 // byte of an access to the end of memory. A byte past the end reads 0 and is not written.
+#![tactic(auto)]
+
 mod eight;
 mod ones;
 

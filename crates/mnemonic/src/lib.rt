@@ -1,5 +1,7 @@
 // Mnemonics, and the letter of the first operand behind each: w or x for a register, b, h, s, d or q for a
 // vector register, and # for the hint of a prefetch.
+#![tactic(auto)]
+
 mod names;
 mod stems;
 mod table;
@@ -18,7 +20,7 @@ pub use names::{NAMES, Name, name_at};
 
 // The letters are packed into a number, the first lowest. The shape has their number in its low byte, and the letter
 // of the operand above it.
-#[derive(Drop)]
+#[derive(Clone, Copy)]
 pub struct Mnemonic {
     pub letters: u64,
     pub shape: u16,

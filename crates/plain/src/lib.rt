@@ -1,4 +1,6 @@
 // An instruction as plain numbers, which cross to any language and need no second decoding, and back.
+#![tactic(auto)]
+
 mod named;
 mod numbers;
 mod record;

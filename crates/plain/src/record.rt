@@ -5,7 +5,7 @@ use instruction::Answer;
 
 // A field that the family hasn't got is 0.
 #[repr(C)]
-#[derive(Drop)]
+#[derive(Clone, Copy)]
 pub struct Plain {
     // 1 to 9 in the order of 01's table, and 0 for the empty instruction.
     pub family: u32,

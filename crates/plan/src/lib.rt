@@ -1,5 +1,7 @@
 // What an access is to do, before anything is changed: a refusal, or where it touches memory. A plan looks at
 // numbers alone, and at no byte of memory.
+#![tactic(auto)]
+
 mod address;
 mod admission;
 mod operands;

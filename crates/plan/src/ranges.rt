@@ -10,7 +10,7 @@ use instruction::Answer;
 
 // So many bytes from an address on. A range may be empty.
 #[repr(C)]
-#[derive(Drop)]
+#[derive(Clone, Copy)]
 pub struct Range {
     pub address: u64,
     pub length: u64,
@@ -18,7 +18,7 @@ pub struct Range {
 
 // What both plugins read and neither stores to, what one has for its own, and what the other has.
 #[repr(C)]
-#[derive(Drop)]
+#[derive(Clone, Copy)]
 pub struct Ranges {
     pub shared: Range,
     pub own: Range,
@@ -26,7 +26,7 @@ pub struct Ranges {
 }
 
 // What an access may reach: all of the window, of which stores leave the read-only beginning; or what ranges allow.
-#[derive(Drop)]
+#[derive(Clone, Copy)]
 pub enum Reach {
     Alone,
     Ranged(Ranges),

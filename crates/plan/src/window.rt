@@ -4,7 +4,7 @@ ghost use Rattle.plan.specs.Window.{bad_window};
 
 // Memory is lent; its first byte has address origin, and its first readonly bytes are not stored to.
 #[repr(C)]
-#[derive(Drop)]
+#[derive(Clone, Copy)]
 pub struct Window {
     pub origin: u64,
     pub readonly: u64,

@@ -1,4 +1,6 @@
 // The line of text of a word, put into a line at a position or written to a buffer.
+#![tactic(auto)]
+
 mod store;
 
 ghost use Rattle.std.specs.Prelude.{◌≡◌};

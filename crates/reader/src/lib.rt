@@ -1,5 +1,7 @@
 // A line of text to its word. The text is scanned into keys and numbers; they say which instruction alone can
 // have this line; the text is taken exactly if it is that instruction's line, as printer::write gives it.
+#![tactic(auto)]
+
 mod build;
 mod compare;
 mod first;

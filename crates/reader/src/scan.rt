@@ -7,7 +7,7 @@ ghost use Rattle.reader.specs.route.Scan.{keyed, digited, moved_to, plain_of, st
 
 // Word 0 is the mnemonic, 1 the first operand, 2 the second register or a literal's offset, 4 the base, 5 the
 // offset or the index, 6 how the index is extended, 7 by how much it is shifted.
-#[derive(Drop)]
+#[derive(Clone, Copy)]
 pub struct Scan {
     pub keys: [u64; 8],
     pub nums: [u64; 8],

@@ -1,5 +1,7 @@
 // Instructions as plain numbers for a host in another language: a word's answer, its numbers, and the word of numbers. An
 // answer crosses as its number.
+#![tactic(auto)]
+
 ghost use Rattle.std.specs.Prelude.{◌≡◌};
 ghost use Rattle.instruction.specs.Answers.{answer_number};
 ghost use Rattle.plain.specs.Coding.{decode_plain};

@@ -2,6 +2,8 @@
 // but 0 is tainted. A file is handed over and given back by value.
 // A register is asked for by number in two ways: 31 is SP, or it is the zero register, which no number from
 // 32 on is told from: both read 0, untainted, and setting them changes nothing.
+#![tactic(auto)]
+
 mod lent;
 
 ghost use Rattle.std.specs.Prelude.{◌≡◌};
@@ -10,7 +12,7 @@ ghost use Rattle.registers.specs.File.{zero_slot, value_at, taints_at, set_at};
 pub use lent::value_in;
 
 #[repr(C)]
-#[derive(Drop)]
+#[derive(Clone, Copy)]
 pub struct Registers {
     pub value: [u64; 32],
     pub taint: [u64; 32],

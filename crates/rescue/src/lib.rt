@@ -1,4 +1,6 @@
 // Rescue of damaged listings, line by line: a line is kept, restored from its text, or dropped.
+#![tactic(auto)]
+
 mod line;
 mod put;
 
@@ -19,7 +21,7 @@ const GAIN_MAX: usize = 10;
 const ROW_MAX: usize = 30;
 
 // What becomes of a line, and the word whose line is put out.
-#[derive(Drop)]
+#[derive(Clone, Copy)]
 pub enum Fate {
     Kept(u32),
     Restored(u32),

@@ -1,6 +1,8 @@
 // A session's record, which its host keeps, lent and changed in place: by a step, and by setting one register. Both copy
 // the record out, and store it back whole after the step or with the register; vector registers are changed where they are.
 // Between two steps the host opens the monitor, or tells what another has stored, by value.
+#![tactic(auto)]
+
 mod watch;
 
 ghost use Rattle.std.specs.Prelude.{◌≡◌};

@@ -1,5 +1,7 @@
 // A listing of an image that comes in fragments. A lister holds the bytes behind the last whole word, and each call
 // hands out the lines of the words that are whole. A refused call changes nothing, and may be repeated.
+#![tactic(auto)]
+
 mod words;
 
 ghost use Rattle.std.specs.Prelude.{◌≡◌, []};
@@ -10,7 +12,7 @@ use instruction::Answer;
 // The bytes over, how many of them count, and whether the lister is closed, which any number but 0 says. No bits of it
 // are without a meaning, so that a host can keep it among its own.
 #[repr(C)]
-#[derive(Drop)]
+#[derive(Clone, Copy)]
 pub struct Lister {
     pub first: u8,
     pub second: u8,

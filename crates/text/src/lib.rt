@@ -1,4 +1,6 @@
 // The line of text of a word, in pieces.
+#![tactic(auto)]
+
 mod form;
 mod hint;
 mod index;

@@ -4,14 +4,14 @@ ghost use Rattle.ascii.specs.Ascii.{dec};
 ghost use Rattle.text.specs.route.Pieces.{Low, Leads};
 
 // Up to eight bytes, the first lowest, with zeros above them.
-#[derive(Drop)]
+#[derive(Clone, Copy)]
 pub struct Piece {
     pub bytes: u64,
     pub length: usize,
 }
 
 // A line of text in six pieces, of which some may be empty.
-#[derive(Drop)]
+#[derive(Clone, Copy)]
 pub struct Pieces {
     pub name: Piece,
     pub first: Piece,

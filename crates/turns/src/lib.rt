@@ -1,5 +1,7 @@
 // Two plugins that take turns on one memory: what a host calls for each turn. Sequences of turns, and what neither plugin sees of
 // the other, are definitions and theorems alone.
+#![tactic(auto)]
+
 ghost use Rattle.std.specs.Prelude.{◌≡◌};
 ghost use Rattle.machine.specs.Machine.{machine_of};
 ghost use Rattle.execution.specs.Walk.{log};

@@ -1,16 +1,18 @@
 // The vector registers: thirty-two of two 64-bit halves, one array of arrays; and their taints, an array of the same form with a
 // byte for each byte. Both are handed in by value or lent; a number above 31 reads 0, untainted, and sets nothing.
+#![tactic(auto)]
+
 ghost use Rattle.std.specs.Prelude.{◌≡◌};
 ghost use Rattle.vectors.specs.File.{halves_at, with_vector, vector_slot, normal_halves, files_after, taints_after, no_writes, Held};
 
-#[derive(Drop)]
+#[derive(Clone, Copy)]
 pub struct Halves {
     pub low: u64,
     pub high: u64,
 }
 
 // What a step writes to the vector registers, in this order; a number above 31 writes none.
-#[derive(Drop)]
+#[derive(Clone, Copy)]
 pub struct VectorWrites {
     pub first: u32,
     pub value: Halves,

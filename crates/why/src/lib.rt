@@ -1,5 +1,7 @@
 // Why a byte of a register, of a vector register or of memory is tainted: by the byte that it was copied from, each time at an
 // earlier step, back to the start.
+#![tactic(auto)]
+
 mod marks;
 mod refusal;
 mod source;
@@ -21,7 +23,7 @@ use source::{LastSet, Spot};
 // Kind 0 is a byte of a register, by the register's number and the byte's; kind 1 a byte of memory, by its address; kind 2 a byte of a
 // vector register.
 #[repr(C)]
-#[derive(Drop)]
+#[derive(Clone, Copy)]
 pub struct Question {
     pub kind: u64,
     pub number: u64,

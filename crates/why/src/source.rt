@@ -9,14 +9,14 @@ use access::{Access, Transfer};
 
 // A byte of a register, 16 times its slot plus the byte, or the index of a byte in memory. Vector registers have the slots from
 // 32 on.
-#[derive(Drop)]
+#[derive(Clone, Copy)]
 pub enum Spot {
     Part(u64),
     Cell(u64),
 }
 
 // Where a step takes a byte's taint from: it keeps its own, has none, or has that of the byte copied.
-#[derive(Drop)]
+#[derive(Clone, Copy)]
 pub enum Came {
     Kept,
     Cleared,
