@@ -1,0 +1,23 @@
+-- `ascii::piece::put_four` meets its contract. Assumes nothing.
+use mathlib.Core.Path.{refl}
+use native.Mathlib.Omega.{arith}
+use lib.ListN.{length-set}
+use Rattle.ascii.proofs.Pieces.{after, further, in_room}
+use Rattle.ascii.proofs.piece.put_four.Goals as goal
+
+pub bounds-line-at-then-at-line : goal.bounds-line-at-then-at-line
+bounds-line-at-then-at-line c = simp length-set (omega arith)
+
+pub bounds-line-at-then-at-line-2 : goal.bounds-line-at-then-at-line-2
+bounds-line-at-then-at-line-2 c = simp length-set (omega arith)
+
+pub bounds-line-at-then-at-line-3 : goal.bounds-line-at-then-at-line-3
+bounds-line-at-then-at-line-3 c = simp length-set (omega arith)
+
+pub returns-then-at-line : goal.returns-then-at-line
+returns-then-at-line c =
+    let (one, two, three) = further c.args.at in
+    in_room (rw (one, two, three)) refl (omega arith)
+
+pub returns : goal.returns
+returns c = after c.put_two-next.ensures c.put_two.ensures
