@@ -69,6 +69,7 @@ pub fn access_bytes(size: AccessSize) -> u32
 }
 
 // The operation of a code, which is one of its row.
+#[tactic(auto, unfolding(crate::specs::Operations::exclusive_at))]
 pub fn exclusive_at(code: u32) -> ExclusiveOp
     ensures { result ≡ exclusive_at code }
 {
@@ -80,6 +81,7 @@ pub fn exclusive_at(code: u32) -> ExclusiveOp
     }
 }
 
+#[tactic(auto, unfolding(crate::specs::Operations::store_exclusive_at))]
 pub fn store_exclusive_at(code: u32) -> StoreExclusiveOp
     ensures { result ≡ store_exclusive_at code }
 {
@@ -90,6 +92,7 @@ pub fn store_exclusive_at(code: u32) -> StoreExclusiveOp
 }
 
 // The size of a size field.
+#[tactic(auto, unfolding(crate::specs::Operations::size_at))]
 pub fn size_at(scale: u32) -> AccessSize
     ensures { result ≡ size_at scale }
 {

@@ -99,6 +99,7 @@ pub fn sized_code(op: SizedOp) -> u32
 }
 
 // The operation with these bits; an undefined code gives a prefetch.
+#[tactic(auto, unfolding(crate::specs::Operations::sized_at))]
 pub fn sized_at(code: u32) -> SizedOp
     ensures { result ≡ sized_at code }
 {
@@ -208,6 +209,7 @@ pub fn literal_opc(op: LiteralOp) -> u32
 }
 
 // The literal with these bits; an undefined code gives a prefetch.
+#[tactic(auto, unfolding(crate::specs::Operations::literal_at))]
 pub fn literal_at(code: u32) -> LiteralOp
     ensures { result ≡ literal_at code }
 {
@@ -242,6 +244,7 @@ pub fn pair_code(op: PairOp) -> u32
 }
 
 // The pair with these bits; an undefined code gives a load of doublewords.
+#[tactic(auto, unfolding(crate::specs::Operations::pair_at))]
 pub fn pair_at(code: u32) -> PairOp
     ensures { result ≡ pair_at code }
 {
@@ -306,6 +309,7 @@ pub fn mode_code(mode: PairMode) -> u32
     }
 }
 
+#[tactic(auto, unfolding(crate::specs::Operations::mode_at))]
 pub fn mode_at(mode: u32) -> PairMode
     ensures { result ≡ mode_at mode }
 {
