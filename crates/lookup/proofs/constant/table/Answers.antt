@@ -4,9 +4,8 @@ use Rattle.bits.specs.Fields.{part}
 use Rattle.instruction.specs.Undefined.{undefined_size, undefined_literal, undefined_pair}
 use Rattle.lookup.specs.Entries.{entry_of, entries}
 use Rattle.lookup.proofs.Rule.{equal_true}
-use Rattle.lookup.proofs.constant.table.Statement.{statement}
-use Rattle.lookup.proofs.constant.table.Tie as tie
+use Rattle.lookup.proofs.constant.table.Goals as goal
 
-pub table_spec : {M : Type 1} → statement M
+pub returns : goal.returns
 unfolding entries entry_of part undefined_size undefined_literal undefined_pair
-table_spec = tie.close (tie.spec (λ c. equal_true _ entries refl))
+returns c = equal_true _ entries refl
