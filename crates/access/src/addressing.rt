@@ -23,6 +23,7 @@ pub struct Addressing {
 }
 
 // A base and an offset.
+#[tactic(auto, unfolding(crate::specs::Addressings::based))]
 pub fn based(base: u32, offset: u64, post: bool, written: u32) -> Addressing
     ensures { result ≡ based base offset post written }
 {
@@ -74,6 +75,7 @@ fn in_mode(mode: PairMode, base: u32, offset: u64) -> Addressing
     }
 }
 
+#[tactic(auto, unfolding(crate::specs::Addressings::indexed_mode))]
 pub fn indexed(op: SizedOp, o: IndexOperands) -> Addressing
     ensures { result ≡ indexed_mode op o }
 {
@@ -90,6 +92,7 @@ pub fn indexed(op: SizedOp, o: IndexOperands) -> Addressing
 }
 
 // An index is shifted by the size where S is 1.
+#[tactic(auto, unfolding(crate::specs::Addressings::shift_of))]
 fn shift(op: SizedOp, scaled: u32) -> u32
     ensures { result ≡ shift_of op scaled }
 {
@@ -99,6 +102,7 @@ fn shift(op: SizedOp, scaled: u32) -> u32
     0
 }
 
+#[tactic(auto, unfolding(crate::specs::Addressings::literal_mode))]
 pub fn literal(o: LiteralOperands) -> Addressing
     ensures { result ≡ literal_mode (twos_complement o.offset) }
 {

@@ -22,6 +22,7 @@ pub enum Access {
     Moves(Transfer, Addressing),
 }
 
+#[tactic(auto, unfolding(crate::specs::Accesses::access_of))]
 pub fn access_of(instruction: Instruction) -> Access
     ensures { result ≡ access_of instruction }
 {
@@ -47,6 +48,7 @@ fn family_access(family: Family) -> Access
     }
 }
 
+#[tactic(auto, unfolding(crate::specs::Accesses::sized_access))]
 fn sized_access(op: SizedOp, target: u32, ordered: bool, addressing: Addressing) -> Access
     ensures { result ≡ sized_access op target ordered addressing }
 {
@@ -56,6 +58,7 @@ fn sized_access(op: SizedOp, target: u32, ordered: bool, addressing: Addressing)
     Access::Moves(transfer::sized(op, target, ordered), addressing)
 }
 
+#[tactic(auto, unfolding(crate::specs::Accesses::is_prefetch))]
 fn is_prefetch(op: SizedOp) -> bool
     ensures { result ≡ is_prefetch op }
 {
@@ -76,6 +79,7 @@ fn literal_access(op: LiteralOp, o: LiteralOperands) -> Access
     }
 }
 
+#[tactic(auto, unfolding(crate::specs::Accesses::literal_moves))]
 fn literal_moves(vector: u32, bytes: u32, extent: u32, o: LiteralOperands) -> Access
     ensures { result ≡ literal_moves vector bytes extent o }
 {
@@ -85,12 +89,14 @@ fn literal_moves(vector: u32, bytes: u32, extent: u32, o: LiteralOperands) -> Ac
     )
 }
 
+#[tactic(auto, unfolding(crate::specs::Accesses::pair_access))]
 fn pair_access(op: PairOp, o: PairOperands) -> Access
     ensures { result ≡ pair_access op o }
 {
     Access::Moves(transfer::pair(op, o.first, o.second), addressing::paired(o))
 }
 
+#[tactic(auto, unfolding(crate::specs::Accesses::exclusive_access))]
 fn exclusive_access(op: ExclusiveOp, o: ExclusiveOperands) -> Access
     ensures { result ≡ exclusive_access op o }
 {
@@ -102,6 +108,7 @@ fn exclusive_access(op: ExclusiveOp, o: ExclusiveOperands) -> Access
 }
 
 // The slot of the writeback is that of the status.
+#[tactic(auto, unfolding(crate::specs::Accesses::store_exclusive_access))]
 fn store_exclusive_access(o: StoreExclusiveOperands) -> Access
     ensures { result ≡ store_exclusive_access o }
 {

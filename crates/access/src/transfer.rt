@@ -21,6 +21,7 @@ pub struct Transfer {
     pub exclusive: bool,
 }
 
+#[tactic(auto, unfolding(crate::specs::Transfers::sized_transfer))]
 pub fn sized(op: SizedOp, target: u32, ordered: bool) -> Transfer
     ensures { result ≡ sized_transfer op target ordered }
 {
@@ -38,6 +39,7 @@ pub fn sized(op: SizedOp, target: u32, ordered: bool) -> Transfer
 }
 
 // The slot of a register that is moved: a vector register's where bit 26 is 1.
+#[tactic(auto, unfolding(crate::specs::Transfers::slot_of))]
 fn slot(vector: u32, register: u32) -> u32
     ensures { result ≡ slot_of vector register }
 {
@@ -57,6 +59,7 @@ fn sized_extent(op: SizedOp, bytes: u32) -> u32
     extent(instruction::opc_field(op), bytes)
 }
 
+#[tactic(auto, unfolding(crate::specs::Transfers::extent_of))]
 fn extent(opc: u32, bytes: u32) -> u32
     ensures { result ≡ extent_of opc bytes }
 {
@@ -69,6 +72,7 @@ fn extent(opc: u32, bytes: u32) -> u32
     bytes
 }
 
+#[tactic(auto, unfolding(crate::specs::Transfers::literal_transfer))]
 pub fn literal(vector: u32, bytes: u32, extent: u32, target: u32) -> Transfer
     ensures { result ≡ literal_transfer vector bytes extent target }
 {
@@ -84,6 +88,7 @@ pub fn literal(vector: u32, bytes: u32, extent: u32, target: u32) -> Transfer
     }
 }
 
+#[tactic(auto, unfolding(crate::specs::Transfers::pair_transfer))]
 pub fn pair(op: PairOp, first: u32, second: u32) -> Transfer
     ensures { result ≡ pair_transfer op first second }
 {
@@ -109,6 +114,7 @@ fn pair_extent(op: PairOp, bytes: u32) -> u32
     bytes
 }
 
+#[tactic(auto, unfolding(crate::specs::Transfers::exclusive_transfer))]
 pub fn exclusive(op: ExclusiveOp, size: AccessSize, target: u32) -> Transfer
     ensures { result ≡ exclusive_transfer op size target }
 {
@@ -123,6 +129,7 @@ pub fn store_exclusive(size: AccessSize, target: u32) -> Transfer
 }
 
 // An access of the ninth family, which is ordered where it is not exclusive.
+#[tactic(auto, unfolding(crate::specs::Transfers::monitored_transfer))]
 fn monitored(store: bool, exclusive: bool, size: AccessSize, target: u32) -> Transfer
     ensures { result ≡ monitored_transfer store exclusive size target }
 {
