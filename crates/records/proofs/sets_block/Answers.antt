@@ -3,9 +3,8 @@ use mathlib.Core.Path.{refl}
 use Rattle.bits.specs.Fields.{part}
 use Rattle.records.specs.Space.{sets_block}
 use Rattle.records.proofs.Spaces.{or_assoc, or_false}
-use Rattle.records.proofs.sets_block.Statement.{statement}
-use Rattle.records.proofs.sets_block.Tie as tie
+use Rattle.records.proofs.sets_block.Goals as goal
 
-pub sets_block_spec : {M : Type 1} → statement M
+pub returns : goal.returns
 unfolding sets_block part
-sets_block_spec = tie.close (tie.spec (λ c. rw (or_assoc, or_false) refl))
+returns c = rw (or_assoc, or_false) refl
