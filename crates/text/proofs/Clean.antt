@@ -1,7 +1,7 @@
 -- The bytes of a text are printed: none is a tab or a newline. Assumes nothing.
-use Prim.Native.Nat.{ℕ, zero, suc, ◌+◌, ◌/◌, ◌%◌, ◌<◌}
+use Prim.Native.Nat.{ℕ, zero, suc, ◌/◌, ◌<◌}
 use mathlib.Core.Path.{◌≡◌, refl}
-use mathlib.Core.Bool.{Bool, true, false, ◌||◌, ◌&&◌}
+use mathlib.Core.Bool.{Bool, true, false, ◌&&◌}
 use mathlib.Core.List.{List, [], ◌∷◌, ◌++◌}
 use native.Mathlib.Omega.{arith}
 use borrow.Author.Tests.{ltb-true}
@@ -21,7 +21,7 @@ use Rattle.instruction.specs.declared.family.IndexOperands.{IndexOperands}
 use Rattle.instruction.specs.Operations.{sized_code, vector_of, size_of, opc_of, scale_of, sized_stores, pair_code, pair_load, mode_code, exclusive_code, store_exclusive_code, access_scale}
 use Rattle.instruction.specs.Table.{instruction_of}
 use Rattle.mnemonic.specs.Operands.{Operand, Narrow, Wide, Hint, VectorB, VectorH, VectorS, VectorD, VectorQ, sized_operand, literal_operand, pair_operand, access_operand}
-use Rattle.mnemonic.specs.Mnemonics.{size_letter, suffix, stemmed, plain_name, unscaled_name, ordered_name, literal_sized, pair_name, exclusive_name}
+use Rattle.mnemonic.specs.Mnemonics.{size_letter, stemmed, plain_name, unscaled_name, ordered_name, literal_sized, pair_name, exclusive_name}
 use Rattle.bits.specs.Fields.{field}
 use Rattle.text.specs.Hints.{unnamed, hint_text}
 use Rattle.text.specs.Texts.{is_zero, register_text, base_text, operand_text, offset_tail, pre_tail, post_tail, pair_tail, extend_name, amount_text, extend_text, index_tail, front_text, literal_text, pair_text, sized_text, exclusive_text, store_exclusive_text, family_text, text_of, word_text}

@@ -1,0 +1,13 @@
+-- `text::form::pre` meets its contract. Assumes nothing.
+use mir.Facts.{to_z-of_z}
+use mathlib.Core.Path.{refl}
+use mathlib.Core.List.{◌++◌}
+use Rattle.text.specs.Texts.{pre_tail}
+use Rattle.text.specs.route.Pieces.{text_in}
+use Rattle.text.specs.route.Lines.{front_in}
+use Rattle.text.proofs.Forms.{sign_shown, close_shown, ended}
+use Rattle.text.proofs.form.pre.Goals as goal
+
+pub returns : goal.returns
+unfolding pre_tail
+returns c = ended (front_in c.args.m c.args.first ++ text_in c.args.second) c.bracketed.ensures.0 sign_shown (rw (to_z-of_z c.ranges.offset) at c.signed.ensures) close_shown refl c.line_of.ensures

@@ -1,0 +1,14 @@
+-- `text::index::amount` meets its contract. Assumes nothing.
+use borrow.Author.Tests.{ne_eqb}
+use Rattle.text.specs.route.Lines.{amount_part}
+use Rattle.text.specs.Texts.{amount_text}
+use Rattle.text.proofs.Forms.{amount_shown, bracket_shown}
+use Rattle.text.proofs.index.amount.Goals as goal
+
+pub returns-then-scaled-eq1 : goal.returns-then-scaled-eq1
+unfolding amount_part amount_text
+returns-then-scaled-eq1 c = rw c.if-scaled-eq1.true (amount_shown _ c.requires)
+
+pub returns : goal.returns
+unfolding amount_part amount_text
+returns c = simp (ne_eqb _ _ c.if-scaled-eq1.false) bracket_shown
