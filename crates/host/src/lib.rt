@@ -56,8 +56,7 @@ pub struct ListerReply {
 
 // A run from a session's record, which is handed in by value and comes back in the reply, and from its vector registers and
 // their taints, which are lent. Where the run is not begun, nothing is changed.
-#[unsafe(no_mangle)]
-pub extern "C" fn milestarling_run(
+pub fn milestarling_run(
     words: &[u32],
     session: State,
     vectors: &mut [[u64; 2]; 32],
@@ -95,8 +94,7 @@ pub extern "C" fn milestarling_run(
 }
 
 // The text of a word, at the start of a buffer.
-#[unsafe(no_mangle)]
-pub extern "C" fn milestarling_text(word: u32, buffer: &mut [u8]) -> TextReply
+pub fn milestarling_text(word: u32, buffer: &mut [u8]) -> TextReply
     ensures { text_outcome result buffer.new ≡ numbered (write_of word buffer.old) }
 {
     let written = printer::write(word, buffer);
@@ -108,8 +106,7 @@ pub extern "C" fn milestarling_text(word: u32, buffer: &mut [u8]) -> TextReply
 }
 
 // The word whose line a text is.
-#[unsafe(no_mangle)]
-pub extern "C" fn milestarling_word(text: &[u8]) -> WordReply
+pub fn milestarling_word(text: &[u8]) -> WordReply
     ensures { ReadAs text.now result }
 {
     let reading = reader::read(text);
@@ -121,8 +118,7 @@ pub extern "C" fn milestarling_word(text: &[u8]) -> WordReply
 }
 
 // The listing of bytes, at the start of an output.
-#[unsafe(no_mangle)]
-pub extern "C" fn milestarling_list(bytes: &[u8], output: &mut [u8]) -> TextReply
+pub fn milestarling_list(bytes: &[u8], output: &mut [u8]) -> TextReply
     ensures { text_outcome result output.new ≡ numbered (list_of bytes.now output.old) }
 {
     let listed = listing::list(bytes, output);
@@ -134,8 +130,7 @@ pub extern "C" fn milestarling_list(bytes: &[u8], output: &mut [u8]) -> TextRepl
 }
 
 // The lines of the words that are whole with one more fragment of a stream, at the start of an output.
-#[unsafe(no_mangle)]
-pub extern "C" fn milestarling_lister_push(
+pub fn milestarling_lister_push(
     lister: Lister,
     fragment: &[u8],
     output: &mut [u8],
@@ -146,8 +141,7 @@ pub extern "C" fn milestarling_lister_push(
 }
 
 // The line of the bytes over at the end of a stream, at the start of an output.
-#[unsafe(no_mangle)]
-pub extern "C" fn milestarling_lister_close(lister: Lister, output: &mut [u8]) -> ListerReply
+pub fn milestarling_lister_close(lister: Lister, output: &mut [u8]) -> ListerReply
     ensures { lister_outcome result output.new ≡ lister_numbered (call_of lister (close output.old)) }
 {
     lister_reply(lister.close(output))

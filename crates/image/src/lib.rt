@@ -20,8 +20,7 @@ pub struct Reply {
 }
 
 // Reads a text into memory, and clears the taint of each byte that it writes. Where it is refused nothing is changed.
-#[unsafe(no_mangle)]
-pub extern "C" fn milestarling_import(
+pub fn milestarling_import(
     text: &[u8],
     origin: u64,
     readonly: u64,

@@ -28,16 +28,14 @@ pub struct EncodedReply {
 }
 
 // Answers 2, 3 and 4, which depend on the word alone, or 0.
-#[unsafe(no_mangle)]
-pub extern "C" fn milestarling_classify(word: u32) -> u64
+pub fn milestarling_classify(word: u32) -> u64
     ensures { result ≡ class_number word }
 {
     answer_number(decoder::classify(word))
 }
 
 // Whether a word touches memory, of the set or not: 1, or 0. One that doesn't is no load or store, and never needs a step.
-#[unsafe(no_mangle)]
-pub extern "C" fn milestarling_touches_memory(word: u32) -> u64
+pub fn milestarling_touches_memory(word: u32) -> u64
     ensures { result ≡ touches_number word }
 {
     if is_load_or_store(word) | sets_block(word) {
@@ -61,8 +59,7 @@ fn sets_block(word: u32) -> bool
 }
 
 // The numbers of a word's instruction.
-#[unsafe(no_mangle)]
-pub extern "C" fn milestarling_decode(word: u32) -> PlainReply
+pub fn milestarling_decode(word: u32) -> PlainReply
     ensures { result ≡ decode_numbered (decode_plain word) }
 {
     let decoded = plain::decode(word);
@@ -75,8 +72,7 @@ pub extern "C" fn milestarling_decode(word: u32) -> PlainReply
 }
 
 // The word whose instruction has these numbers.
-#[unsafe(no_mangle)]
-pub extern "C" fn milestarling_encode(numbers: Plain) -> EncodedReply
+pub fn milestarling_encode(numbers: Plain) -> EncodedReply
     ensures { EncodedAs numbers result }
 {
     let encoded = plain::encode(numbers);

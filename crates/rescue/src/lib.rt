@@ -39,8 +39,7 @@ pub struct Reply {
 
 // Puts the lines that are kept and restored at the start of the output, and a line for each line of the input at the
 // start of the report. Where either has no room, both are unchanged.
-#[unsafe(no_mangle)]
-pub extern "C" fn milestarling_rescue(input: &[u8], output: &mut [u8], report: &mut [u8]) -> Reply
+pub fn milestarling_rescue(input: &[u8], output: &mut [u8], report: &mut [u8]) -> Reply
     ensures { RescueOf input.now output.old report.old (outcome result output.new report.new) }
 {
     if !fits(input, output.len(), report.len()) {

@@ -42,8 +42,7 @@ struct Replied {
     reply: StepReply,
 }
 
-#[unsafe(no_mangle)]
-pub extern "C" fn milestarling_step(
+pub fn milestarling_step(
     word: u32,
     state: &mut State,
     vectors: &mut [[u64; 2]; 32],
@@ -69,8 +68,7 @@ pub extern "C" fn milestarling_step(
     stepped.reply
 }
 
-#[unsafe(no_mangle)]
-pub extern "C" fn milestarling_set_register(state: &mut State, n: u32, value: u64, marks: u64)
+pub fn milestarling_set_register(state: &mut State, n: u32, value: u64, marks: u64)
     ensures { state.new ≡ with_register n value marks state.old }
 {
     *state = with_register(*state, n, value, marks);
@@ -78,8 +76,7 @@ pub extern "C" fn milestarling_set_register(state: &mut State, n: u32, value: u6
 
 // A vector register and its taints, which a host reads and sets by the register's number; one above 31 reads 0, untainted,
 // and sets nothing.
-#[unsafe(no_mangle)]
-pub extern "C" fn milestarling_vector(
+pub fn milestarling_vector(
     n: u32,
     vectors: &[[u64; 2]; 32],
     vector_taint: &[[u64; 2]; 32],
@@ -96,8 +93,7 @@ pub extern "C" fn milestarling_vector(
     }
 }
 
-#[unsafe(no_mangle)]
-pub extern "C" fn milestarling_set_vector(
+pub fn milestarling_set_vector(
     vectors: &mut [[u64; 2]; 32],
     vector_taint: &mut [[u64; 2]; 32],
     n: u32,
@@ -120,8 +116,7 @@ pub extern "C" fn milestarling_set_vector(
 }
 
 // The record with its monitor open.
-#[unsafe(no_mangle)]
-pub extern "C" fn milestarling_opened(state: State) -> State
+pub fn milestarling_opened(state: State) -> State
     ensures { result ≡ opened state }
 {
     machine::open(state)
@@ -129,8 +124,7 @@ pub extern "C" fn milestarling_opened(state: State) -> State
 
 // The record after a step of another that showed this code, address and status: the monitor is open where that step has
 // stored a byte that it watches.
-#[unsafe(no_mangle)]
-pub extern "C" fn milestarling_observed(state: State, code: u64, address: u64, status: u64) -> State
+pub fn milestarling_observed(state: State, code: u64, address: u64, status: u64) -> State
     ensures { result ≡ observed code address status state }
 {
     let monitor = state.monitor;

@@ -13,10 +13,8 @@ use machine::State;
 use plan::Ranges;
 
 // One turn of the plugin that the ranges call own: a run from its record, which is handed in by value and comes back in the
-// reply, and from its vector registers and their taints, which are lent. Where the turn is not begun, nothing is changed. It
-// stands apart from the host's run: in one archive both would call the walk, which is then no longer inlined into either.
-#[unsafe(no_mangle)]
-pub extern "C" fn milestarling_turn(
+// reply, and from its vector registers and their taints, which are lent. Where the turn is not begun, nothing is changed.
+pub fn milestarling_turn(
     words: &[u32],
     session: State,
     vectors: &mut [[u64; 2]; 32],

@@ -39,8 +39,7 @@ pub struct Reply {
 }
 
 // For C: a slice is a pointer and a length, and steps are counted by numbers of 64 bits.
-#[unsafe(no_mangle)]
-pub extern "C" fn milestarling_why(
+pub fn milestarling_why(
     words: &[u32],
     trace: &[u64],
     statuses: &[u8],
