@@ -1,5 +1,5 @@
 -- Ranges that share a byte: the code subtracts the lower address from the higher, where the definition adds. Assumes nothing.
-use Rattle.std.proofs.Common.{◌≡◌, ℕ, ◌+◌, ◌-◌, ◌<◌, ◌≤◌, Bool, true, false, ◌&&◌, ltb, refl, ◌∙◌, arith, lt-ltb, ne_eqb}
+use Rattle.std.proofs.Common.{◌≡◌, ◌+◌, ◌-◌, ◌<◌, ◌≤◌, Bool, true, false, ◌&&◌, ltb, refl, ◌∙◌, arith, lt-ltb, ne_eqb}
 use Rattle.plan.specs.declared.ranges.Range.{Range}
 use Rattle.plan.specs.Ranges.{share}
 use Rattle.plan.proofs.Tests.{same_test}

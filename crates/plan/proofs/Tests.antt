@@ -18,7 +18,6 @@ use Rattle.plan.specs.Refusals.{Refusal, first_of, answer_in}
 use Rattle.plan.specs.Admission.{total_of, outside, placed, admit_of}
 use Rattle.plan.specs.Ranges.{admit_ranges, admit_in}
 use Rattle.plan.specs.route.Reaches.{reach_of}
-use Rattle.plan.specs.declared.ranges.Ranges.{Ranges}
 use Rattle.plan.specs.declared.ranges.Reach.{Reach}
 use Rattle.plan.specs.declared.ranges.Reach.TheVariants.{Alone, Ranged}
 use Rattle.plan.specs.Address.{sum_of, address_of}

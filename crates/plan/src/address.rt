@@ -7,6 +7,7 @@ use crate::operands::Operands;
 use access::Addressing;
 
 // The base with the offset and the index added.
+#[tactic(auto, unfolding(crate::specs::Address::sum_of))]
 pub fn sum(a: Addressing, o: Operands) -> u64
     ensures { result ≡ sum_of a o }
 {
@@ -15,6 +16,7 @@ pub fn sum(a: Addressing, o: Operands) -> u64
     std::num::wrapping_add_u64(o.base, far)
 }
 
+#[tactic(auto, unfolding(crate::specs::Address::shifted_of))]
 fn shifted(option: u32, shift: u32, register: u64) -> u64
     ensures { result ≡ shifted_of option shift register }
 {

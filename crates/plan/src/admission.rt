@@ -26,6 +26,7 @@ pub fn admission(t: Transfer, address: u64, window: Window, reach: Reach, len: u
     ranges::reached(t.store, total, address, window, reach)
 }
 
+#[tactic(auto, unfolding(crate::specs::Admission::misaligned))]
 fn is_misaligned(ordered: bool, total: u64, address: u64) -> bool
     requires { total ≤ 8589934590 }
     ensures { result ≡ misaligned ordered total address }
@@ -36,6 +37,7 @@ fn is_misaligned(ordered: bool, total: u64, address: u64) -> bool
     false
 }
 
+#[tactic(auto, unfolding(crate::specs::Admission::unaligned))]
 fn is_unaligned(exclusive: bool, total: u64, address: u64) -> bool
     ensures { result ≡ unaligned exclusive total address }
 {
@@ -56,6 +58,7 @@ fn remains(address: u64, total: u64) -> bool
 }
 
 // Answer 7, of so many bytes at an address.
+#[tactic(auto, unfolding(crate::specs::Admission::outside))]
 pub fn is_outside(total: u64, address: u64, origin: u64, len: u64) -> bool
     ensures { result ≡ outside total address origin len }
 {
@@ -80,6 +83,7 @@ pub fn guard(store: bool, address: u64, window: Window) -> Answer
     Answer::Done
 }
 
+#[tactic(auto, unfolding(crate::specs::Admission::guarded))]
 fn is_guarded(store: bool, address: u64, window: Window) -> bool
     requires { window.origin ≤ address }
     ensures { result ≡ guarded store address window }

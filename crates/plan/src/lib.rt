@@ -62,6 +62,7 @@ pub fn admitted(transfer: Transfer, address: u64, window: Window, len: u64) -> A
 }
 
 // Whether SP is the base of an access and not a multiple of 16.
+#[tactic(auto, unfolding(crate::specs::Plans::misaligned_stack))]
 fn is_misaligned_stack(slot: u32, base: u64) -> bool
     ensures { result ≡ misaligned_stack slot base }
 {

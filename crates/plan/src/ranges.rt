@@ -33,6 +33,7 @@ pub enum Reach {
 }
 
 // Answer 1, of ranges in a window with len bytes of memory.
+#[tactic(auto, unfolding(crate::specs::Ranges::bad_ranges))]
 pub fn are_bad(r: Ranges, origin: u64, len: u64) -> bool
     ensures { result ≡ bad_ranges r origin len }
 {
@@ -48,6 +49,7 @@ pub fn are_bad(r: Ranges, origin: u64, len: u64) -> bool
     is_missed(r.other, origin, len)
 }
 
+#[tactic(auto, unfolding(crate::specs::Ranges::overlap))]
 fn overlaps(r: Ranges) -> bool
     ensures { result ≡ overlap r }
 {
@@ -67,6 +69,7 @@ fn is_missed(r: Range, origin: u64, len: u64) -> bool
 }
 
 // Whether two ranges have a byte in common.
+#[tactic(auto, unfolding(crate::specs::Ranges::share))]
 fn shares(p: Range, q: Range) -> bool
     ensures { result ≡ share p q }
 {
@@ -106,6 +109,7 @@ fn within(store: bool, total: u64, address: u64, r: Ranges) -> Answer
 }
 
 // A store that touches the shared range.
+#[tactic(auto, unfolding(crate::specs::Ranges::common))]
 fn is_common(store: bool, total: u64, address: u64, shared: Range) -> bool
     ensures { result ≡ common store total address shared }
 {
@@ -122,6 +126,7 @@ fn is_common(store: bool, total: u64, address: u64, shared: Range) -> bool
 }
 
 // An access that lies neither in the plugin's own range nor, being a load, in the shared one.
+#[tactic(auto, unfolding(crate::specs::Ranges::strays))]
 fn is_astray(store: bool, total: u64, address: u64, r: Ranges) -> bool
     ensures { result ≡ strays store total address r }
 {

@@ -11,6 +11,7 @@ pub struct Window {
 }
 
 // Answer 1, of a window with len bytes of memory and as many taint bytes as said, and a program counter.
+#[tactic(auto, unfolding(crate::specs::Window::bad_window))]
 pub fn is_bad(window: Window, len: u64, taints: u64, pc: u64) -> bool
     ensures { result ≡ bad_window window len taints pc }
 {
