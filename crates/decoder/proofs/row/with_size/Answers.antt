@@ -29,6 +29,4 @@ returns-in-6 c = sym (keyed _ Row.RegisterRow (c.requires, omega arith, c.in-6.i
 
 pub returns-in_default : goal.returns-in_default
 unfolding part
-returns-in_default c =
-    let r = c.in_default.in_default-own.rest in
-    sym (unkeyed _ (no_sized _ c.requires c.if-unsigned-eq1.false r.0.0.0.1 r.0.0.1 r.0.1 r.1))
+returns-in_default c = sym (unkeyed _ (no_sized _ c.requires c.if-unsigned-eq1.false (λ e. omega arith) (λ e. omega arith) (λ e. omega arith) (λ e. omega arith)))
