@@ -25,7 +25,7 @@ OWN_MODULES = "Statement Tie Lts Reads Kinds Needs Goals Given".split()
 
 def norm(name):
     """The spelling by which an old name and the table's are compared: older Rattles wrote dashes for underscores."""
-    return name.replace("_", "-")
+    return name.replace("_", "-").lower()
 
 
 def closing(text, at):
@@ -158,8 +158,8 @@ class Walker:
         head, rest = fields[0], fields[1:]
         if norm(head) in map(norm, START_FIELDS):
             head = next(it for it in START_FIELDS if norm(it) == norm(head))
-            if rest and head in ("args", "ranges", "utf8"):
-                rest[0] = self.variable(rest[0])
+            if head in ("args", "ranges", "utf8"):
+                rest = [self.variable(it) for it in rest]
             return [head, *rest], place
         if norm(head) == "type-inv":
             return ["type_inv", *rest], place
@@ -172,6 +172,18 @@ class Walker:
         # port.py may have turned the step's name already
         for at in self.table.chain(place):
             if norm(self.table.own[at][1]) == norm(head):
+                return [self.table.own[at][1], *self.inner(at, rest)], place
+        # today's places may be fewer, so that a walk ends too far up: then the step is the last below it
+        below = [it for it in self.table.chain(start) if self.table.own[it][0] and norm(self.table.own[it][0]) == norm(head)]
+        if below:
+            self.report("found-further-down")
+            at = below[-1]
+            old, new = self.table.own[at]
+            return self.arm(at, old, rest, start) or self.known(old, rest, start) or [new, *self.inner(at, rest)], place
+        # older Rattles counted otherwise where a name was also another thing's
+        for at in self.table.chain(place):
+            if self.table.own[at][0] and norm(self.table.own[at][0]).rstrip("0123456789") == norm(head).rstrip("0123456789"):
+                self.report(f"by-its-stem:{head}")
                 return [self.table.own[at][1], *self.inner(at, rest)], place
         self.report(f"no-step:{head}")
         raise Unresolved(head)
@@ -208,6 +220,8 @@ class Walker:
         if not rest:
             return rest
         rest = list(rest)
+        # a test's fact: `taken` or `left` in an older Rattle
+        rest[0] = {"taken": "true", "left": "false"}.get(rest[0], rest[0])
         clauses = self.table.names[place]
         if rest[0] == "ensures" and clauses and clauses.get("fields"):
             # a clause with a name is a field, where it was the whole or a part of a tuple
@@ -219,8 +233,8 @@ class Walker:
                 rest[1:1] = [fields[0]]
             else:
                 self.report(f"clauses:{'.'.join(rest)}-of-{'+'.join(fields)}")
-        if rest[0] in ("new", "range", "auto", "keys") and len(rest) > 1:
-            rest[1] = self.variable(rest[1])
+        if rest[0] in ("new", "range", "auto", "result"):
+            rest[1:] = [self.variable(it) for it in rest[1:]]
         elif rest[0] not in ("ensures", "true", "false", "invariant", "result", "given", "is", "was"):
             rest[0] = self.variable(rest[0])
         return rest
@@ -276,14 +290,18 @@ class Walker:
 
 
 def unnumbered(body, params):
-    """`args.t2` was what `args` says of the second parameter today."""
-    holders = ["args", *re.findall(rf"let\s+({IDENT})\s*=\s*{IDENT}\.args\s+in\s", body)]
+    """`args.t2` was what `args` says of the second parameter today. Fields of a name for `c.args` get the source's spelling."""
+    holders = re.findall(rf"let\s+({IDENT})\s*=\s*{IDENT}\.args\s+in\s", body)
 
     def one(m):
-        k = int(m[2]) - 1
-        return f"{m[1]}.{params[k]}" if k < len(params) else m[0]
+        fields = m[2].replace("-", "_")
+        number = re.match(r"\.t(\d+)(?!\w)", fields)
+        if number and int(number[1]) <= len(params):
+            fields = "." + params[int(number[1]) - 1] + fields[number.end() :]
+        return m[1] + fields
 
-    return re.sub(rf"(?<![\w'-])({'|'.join(map(re.escape, holders))}|ranges)\.t(\d+)(?![\w'-])", one, body)
+    names = "|".join(map(re.escape, ["args", "ranges", *holders]))
+    return re.sub(rf"(?<![\w'-])({names})((?:\.[\w'-]+)+)", one, body)
 
 
 def is_search(body):
@@ -340,27 +358,42 @@ def convert(path, crate, function, table, report):
     """Returns the texts of Answers.antt and Invariants.antt for a Proof.antt (either may be None), or a word that says why not."""
     text = open(path, encoding="utf-8").read()
     parts = blocks(text)
-    main = [k for k, it in enumerate(parts) if "tie.spec" in "\n".join(it["lines"])]
-    if len(main) != 1 or "tie.close" not in text:
+    is_cycle = not isinstance(table, Table)
+    main = [it for it in parts if ("-lts.spec" if is_cycle else "tie.spec") in "\n".join(it["lines"])]
+    if len(main) != 1 or (not is_cycle and "tie.close" not in text):
         return "not of the form tie.close (tie.spec ..)"
-    main = parts[main[0]]
+    main = main[0]
     whole = "\n".join(main["lines"])
-    spec = whole.index("tie.spec") + len("tie.spec")
-    # the bracket around tie.spec, if there is one
-    opens = whole.rfind("(", 0, spec)
-    if whole[opens + 1 : spec].strip() == "tie.spec":
-        inner = whole[spec : closing(whole, opens)]
-        after = whole[closing(whole, opens) + 1 :]
+    groups = []
+    if is_cycle:
+        # close μ .. (λ t. F-lts.spec (..) (F-at t) F.Post (λ c. ..) ..) ..
+        for name, one in table.items():
+            m = re.search(rf"(?<![\w.-]){re.escape(name.replace('_', '-'))}-lts\.spec\s", whole) or re.search(rf"(?<![\w.-]){re.escape(name)}-lts\.spec\s", whole)
+            if not m:
+                return f"no answers for {name}"
+            end, depth = m.end(), 0
+            while end < len(whole) and depth >= 0:
+                depth += (whole[end] in "([{") - (whole[end] in ")]}")
+                end += 1
+            answered = arguments(whole[m.end() : end - (depth < 0)])
+            first = next(k for k, it in enumerate(answered) if re.match(r"\(\s*λ", it))
+            groups.append((one, answered[first:]))
     else:
-        inner, after = whole[spec:], ""
-    if after.strip(") \n"):
-        return f"something follows tie.spec: {after.strip()[:60]}"
-    args = arguments(inner)
+        spec = whole.index("tie.spec") + len("tie.spec")
+        # the bracket around tie.spec, if there is one
+        opens = whole.rfind("(", 0, spec)
+        if whole[opens + 1 : spec].strip() == "tie.spec":
+            inner = whole[spec : closing(whole, opens)]
+            after = whole[closing(whole, opens) + 1 :]
+        else:
+            inner, after = whole[spec:], ""
+        if after.strip(") \n"):
+            return f"something follows tie.spec: {after.strip()[:60]}"
+        groups.append((table, arguments(inner)))
     unfolding = [it for it in main["lines"] if it.startswith("unfolding")]
-    where = []
 
     # the lemmas of the file, and what belongs to the old form
-    uses, kept, named, given = [], [], {}, {}
+    uses, kept, named, given, measures = [], [], {}, {}, []
     for part in parts:
         joined = "\n".join(part["lines"])
         if part is main:
@@ -373,7 +406,9 @@ def convert(path, crate, function, table, report):
             uses.append(part)
             continue
         m = re.match(rf"(?:abbrev |pub |unfoldable )*({IDENT})\s*:\s*tie\.(Need-|invariant|decreases)", joined)
-        if m:
+        if is_cycle and re.search(r"\bIn \d+ |: Measures \d+ ", joined):
+            measures.append(part)
+        elif m:
             (named if m[2] == "Need-" else given)[m[1]] = part
         else:
             kept.append(part)
@@ -388,19 +423,22 @@ def convert(path, crate, function, table, report):
                 return m[1].split(), body, [it for it in lines[1:k] if it.strip().startswith("unfolding")]
         raise ValueError(f"no definition of {name} as one line")
 
-    count = len(table.needs)
-    leading = 0
-    while leading < len(args) and (args[leading] in given or re.match(r"(invariant|decreases)-", args[leading])):
-        leading += 1
-    loops = len(table.entry.get("loops") or [])
-    if leading < 2 * loops and len(args) - count == 2 * loops:
-        leading = 2 * loops
-    goals = list(zip(args[leading:], range(count)))
-    if len(args) - leading != count:
-        goals = aligned(args[leading:], table.needs)
-        if goals is None:
-            return f"{len(args) - leading} answers for {count} goals"
-        report("aligned-by-guess of this")
+    pairs, invariants = [], []
+    for one, args in groups:
+        count = len(one.needs)
+        leading = 0
+        while leading < len(args) and (args[leading] in given or re.match(r"(invariant|decreases)-", args[leading])):
+            leading += 1
+        loops = len(one.entry.get("loops") or [])
+        if leading < 2 * loops and len(args) - count == 2 * loops:
+            leading = 2 * loops
+        goals = list(zip(args[leading:], range(count)))
+        if len(args) - leading != count:
+            goals = aligned(args[leading:], one.needs)
+            if goals is None:
+                return f"{len(args) - leading} answers for {count} goals"
+            report("aligned-by-guess of this")
+        pairs.append((one, args[:leading], goals))
 
     head = parts[0]["comment"] if parts and parts[0]["comment"] else []
 
@@ -414,31 +452,36 @@ def convert(path, crate, function, table, report):
             if part is not parts[0]:
                 lines += part["comment"]
             lines += part["lines"]
-        return lines
+        return [it for it in sorted(more_uses) if not any(re.search(r"[{ ]w64[,}]", line) for line in lines)] + lines
 
+    more_uses = set()
     # invariants and measures
-    invariants = []
-    for k in range(leading):
-        arg = args[k]
-        goal = given_name(table, arg, k, leading)
-        if goal is None:
-            return f"{leading} leading arguments for {len(table.entry['loops'])} loops"
-        if arg in given:
-            names, body, opened = definition(given[arg], arg)
-            comment = given[arg]["comment"] if given[arg] is not parts[0] else []
-        else:
-            m = re.fullmatch(r"\(\s*λ\s+([^.]*)\.\s*(.*)\)", arg, re.S)
-            if not m:
-                return f"an invariant that is not read: {arg[:60]}"
-            names, body, opened, comment = m[1].split(), m[2], [], []
-        body = loop_body(set(names), body)
-        if re.fullmatch(r"Unit \{0\}", body.strip()):
-            continue
-        invariants += [*comment, f"abbrev pub {goal} : goal.{goal}", *opened, f"{goal} l = {body}", ""]
+    for one, args, _ in pairs:
+        for k, arg in enumerate(args):
+            goal = given_name(one, arg, k, len(args))
+            if goal is None:
+                return f"{len(args)} leading arguments for {len(one.entry['loops'])} loops"
+            if arg in given:
+                names, body, opened = definition(given[arg], arg)
+                comment = given[arg]["comment"] if given[arg] is not parts[0] else []
+            else:
+                m = re.fullmatch(r"\(\s*λ\s+([^.]*)\.\s*(.*)\)", arg, re.S)
+                if not m:
+                    return f"an invariant that is not read: {arg[:60]}"
+                names, body, opened, comment = m[1].split(), m[2], [], []
+            if re.fullmatch(r"Unit \{0\}", body.strip()):
+                continue
+            invariants += [*comment, f"abbrev pub {goal} : goal.{goal}", *opened, f"{goal} l = {loop_body(set(names), body)}", ""]
+    for name, one in table.items() if is_cycle else ():
+        for part in measures:
+            m = re.search(r"^μ-(\S+) κs (\S+) = (.*)", "\n".join(part["lines"]), re.M | re.S)
+            if m and norm(m[1]) == norm(name):
+                body = re.sub(rf"(?<![\w.]){m[2]}((?:\.1)*)\.0", lambda it: "l." + one.params[it[1].count("1")], m[3])
+                invariants += [f"abbrev pub decreases-{name} : goal.decreases-{name}", f"decreases-{name} l = {body}", ""]
 
     answers = []
-    for arg, k in goals:
-        (old, goal), place = table.needs[k], table.asked_at[k]
+    for one, arg, k in [(one, *it) for one, _, goals in pairs for it in goals]:
+        (old, goal), place = one.needs[k], one.asked_at[k]
         comment, opened = [], list(unfolding)
         if arg in named:
             names, body, own = definition(named[arg], arg)
@@ -459,9 +502,15 @@ def convert(path, crate, function, table, report):
             continue
         if is_search(body):
             continue
-        walker = Walker(table, place, lambda what: report(what + " at " + goal if ":" in what or what in ("bare-record", "walks-past-start") else what))
+        walker = Walker(one, place, lambda what: report(what + " at " + goal if ":" in what or what in ("bare-record", "walks-past-start") else what))
         body = walker.body(body, {names[0]: (names[0], place)})
-        body = unnumbered(body, table.params)
+        if is_cycle:
+            # the measure stood before the `requires`
+            body = re.sub(rf"(?<![\w.'-]){re.escape(names[0])}\.requires(\.[01])?(?![\w-])", lambda m: names[0] + {".0": ".decreases", ".1": ".requires", None: ".requires-raw"}[m[1]], body)
+        body = unnumbered(body, one.params)
+        if re.search(r"to_z-of_z \(sfits_of", body):
+            body = re.sub(r"to_z-of_z \(sfits_of", "to_z-of_z {w = w64} (sfits_of", body)
+            more_uses.add("use mir.Syntax.{w64}")
         shown = [names[0]] + [it for it in names[1:] if re.search(rf"(?<![\w.-]){re.escape(it)}(?![\w-])", body)]
         if len(shown) > 1:
             report("more-arguments at " + goal)
@@ -469,13 +518,13 @@ def convert(path, crate, function, table, report):
             body = "\n    " + body.strip().replace("\n    ", "\n    ")
         else:
             body = " " + body.strip()
-        answers += [*comment, f"pub {goal} : goal.{goal}", *opened, f"{goal} {' '.join(shown)} ={body}", ""]
+        answers += [*comment, f"pub {goal} : goal.{goal}", *opened, f"{goal} {'t ' * is_cycle}{' '.join(shown)} ={body}", ""]
 
     lemmas = []
     for part in kept:
         joined = "\n".join(part["lines"])
         m = re.search(rf"\(({IDENT}) : tie\.({IDENT})\)", joined)
-        place = m and next((it for it in table.today if norm(it) == norm(m[2])), None)
+        place = m and not is_cycle and next((it for it in table.today if norm(it) == norm(m[2])), None)
         if place:
             # a lemma over the record of a place
             first = re.search(rf"^({IDENT})((?:\s+{IDENT})*)\s*=(?!\S)", joined, re.M)
@@ -535,6 +584,8 @@ def trimmed(lines, used):
             if "◌" in name:
                 bits = [b for b in name.split("◌") if b]
                 seen = all(b in used for b in bits)
+            elif re.search(r"[^\w'-]", name):
+                seen = name in used
             else:
                 seen = name in words
             if seen:
@@ -584,12 +635,18 @@ def add_auto(crate):
     open(path, "w", encoding="utf-8").write("\n".join(lines))
 
 
+SOURCES = []
+
+
 def params_of(names, crate, function):
-    """The parameters of a function, which the table has for each call of it."""
+    """The parameters of a function: the table has them for each call of it, and else the source."""
     words = "::".join([crate, *function.split(".")])
     for entry in names.values():
         if isinstance(entry, dict) and words in (entry.get("params") or {}):
             return entry["params"][words]
+    found = [m for text in SOURCES for m in re.finditer(rf"\bfn {re.escape(words.split('::')[-1])}\s*(?:<[^(]*>)?\(([^)]*)\)", text)]
+    if len(found) == 1:
+        return [re.sub(r"&|\bmut\b|\s|'\w+", "", it.split(":")[0]) for it in found[0][1].split(",") if it.strip()]
     return ["self"] if function.split(".")[-2:-1] and function.split(".")[-2][0].isupper() else []
 
 
@@ -612,14 +669,24 @@ def main():
             print(f"{name}: no names.json, so nothing was turned\n{said}")
             continue
         add_auto(crate)
+        SOURCES.clear()
+        for folder, _, files in os.walk(os.path.join(crate, "src")):
+            SOURCES.extend(open(os.path.join(folder, it), encoding="utf-8").read() for it in files if it.endswith(".rt"))
         turned, left, counts = 0, [], {}
         for folder, _, files in sorted(os.walk(os.path.join(crate, "proofs"))):
             if "Proof.antt" not in files:
                 continue
             path = os.path.join(folder, "Proof.antt")
             function = os.path.relpath(folder, os.path.join(crate, "proofs")).replace(os.sep, ".")
-            entry = names.get(f"Rattle-{name}-proofs.{function}.Lts")
-            if entry is None:
+            key = f"Rattle-{name}-proofs.{function}.Lts"
+            if key in names:
+                table = Table(names[key], params_of(names, name, function))
+            else:
+                # a cycle of calls has a table for each of its functions
+                above = function.rpartition(".")[0]
+                table = {it.split(".Lts-")[1]: Table(entry, params_of(names, name, ".".join(filter(None, [above, it.split(".Lts-")[1]]))))
+                         for it, entry in names.items() if it.startswith(key + "-")}
+            if not table:
                 left.append((path, "names.json has no such function"))
                 continue
 
@@ -628,7 +695,7 @@ def main():
                 counts[key] = counts.get(key, 0) + 1
 
             try:
-                made = convert(path, name, function, Table(entry, params_of(names, name, function)), report)
+                made = convert(path, name, function, table, report)
             except (ValueError, KeyError, IndexError) as e:
                 made = f"{type(e).__name__}: {e}"
             if isinstance(made, str):
