@@ -31,6 +31,20 @@ counted_part() { # COMMAND...
     fi
 }
 
+# rt ci passes where an edit that it must refuse is bad, which is one whose text stands in no file any more, and counts those on its
+# line `rt: ok`.
+edits_are_good() {
+    local told
+    if ! told=$(grep '^rt: ok' "$said"); then
+        echo "rt ci has no line rt: ok"
+        return 1
+    fi
+    if [[ $told =~ ,\ [1-9][0-9]*\ bad ]]; then
+        echo "rt ci found bad must-fail edits: $told"
+        return 1
+    fi
+}
+
 # The last line, and the status: that of rt ci, or 1 where only another part failed.
 verdict() {
     echo "$passed passed, $failed failed"

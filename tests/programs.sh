@@ -2,9 +2,10 @@
 # Runs the programs `list` and `assemble` on inputs that come, end and fail in every way, which the stored ones can't all do,
 # and the demo.
 # Most are cut from the stored input, and what must come is cut from the stored output, which other tools have made; the
-# rest is written out here. `rt check list assemble replay` builds the programs.
+# rest is written out here. The programs are built first where they have changed.
 set -uo pipefail
 cd "$(dirname "${BASH_SOURCE[0]}")/.." || exit 1
+bash tools/programs.sh list assemble replay || exit 1
 room=$(mktemp -d) || exit 1
 trap 'rm -rf "$room"' EXIT
 tried=0 failed=0
@@ -110,7 +111,7 @@ target/bin/list < "$room/given" > /dev/full 2> "$room/said"
 : > "$room/came"
 fails list "an output that is full" write
 
-# ---- a compiled lock, which is replayed too: tools/lock_example.py makes these files, and `rt check replay` the program
+# ---- a compiled lock, which is replayed too: tools/lock_example.py makes these files
 
 cp examples/lock.bin "$room/given"
 cp tests/lock.listing "$room/expected"

@@ -2,7 +2,7 @@
 """Times the program list beside GNU's and LLVM's objdump: words that each lists in a second, on the same bytes.
 
     apt-get install llvm-19 binutils-aarch64-linux-gnu
-    rt check list
+    bash tools/programs.sh list
     python3 tools/bench_list.py [MEBIBYTES] [--list PROGRAM] [--runs NUMBER]
 
 The image has the words of crates/list/stdin again and again, shuffled anew each time. All programs write to

@@ -1,7 +1,7 @@
 # shellcheck shell=bash
 # Sourced at the top of the repository by the scripts that need the Rattle kit. This is the one place that names the kit's version:
 # a missing kit ends the script, and another one is said, since proofs that this kit finds another may not.
-kit_needed=rattle-kit-5b-plain
+kit_needed=rattle-kit-13f
 if ! command -v rt > /dev/null; then
     {
         echo "rt isn't there, the command of the Rattle kit. Rattle is a language like Rust with proofs built in, in which this"

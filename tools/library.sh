@@ -1,20 +1,17 @@
 #!/usr/bin/env bash
 # Builds target/staticlib/libmilestarling.a, the library for C and Rust, and proves all that it is made of. rt makes an
-# archive of what one crate exports: host; session, for the functions over a session's record; records, for instructions as
-# numbers; why, for why a byte is tainted; turns, for the turns of two plugins; image, for memory images; and rescue, for
-# damaged listings. Hosts link them as one, by the project's name, with one object more that says the header's version. It is
-# built anew unless this very archive was built of these very sources by this kit.
+# archive of what the crate milestarling exports; one object more is put into it, which says the header's version. It is built
+# anew unless this very archive was built of these very sources by this kit.
 set -euo pipefail
 cd "$(dirname "${BASH_SOURCE[0]}")/.."
 source tools/kit.sh
 archive=target/staticlib/libmilestarling.a
-parts=(host session records why turns image rescue)
 
 built_of() {
     rt version
     grep '^#define MILESTARLING_VERSION' include/milestarling.h
     sha256sum "$archive" crates.txt
-    find crates -type f \( -name '*.rt' -o -name '*.antt' \) -print0 | sort -z | xargs -0 sha256sum
+    find crates -name out -prune -o -type f \( -name '*.rt' -o -name '*.antt' \) -print0 | sort -z | xargs -0 sha256sum
 }
 
 if [ -f "$archive" ] && [ -f "$archive.made" ] && built_of | cmp -s - "$archive.made"; then
@@ -22,11 +19,8 @@ if [ -f "$archive" ] && [ -f "$archive.made" ] && built_of | cmp -s - "$archive.
     exit
 fi
 rm -f "$archive.made"
-# One after the other: they share crates, and two at a time may each take the other's half-written ones for changed.
-rt check "${parts[@]}"
-for part in "${parts[@]}"; do
-    rt staticlib "$part"
-done
+mkdir -p target/staticlib
+(cd crates/milestarling && rt lib)
 # The text is for those who look for it in a file: the Rust package's build.rs, or strings.
 version=target/staticlib/version.o
 cc -x c -std=c99 -O2 -fPIC -Iinclude -c -o "$version" - << 'END'
@@ -38,7 +32,7 @@ END
 rm -f "$archive"
 {
     echo "create $archive"
-    printf 'addlib target/staticlib/lib%s.a\n' "${parts[@]}"
+    echo "addlib crates/milestarling/out/libmilestarling.a"
     echo "addmod $version"
     echo save
     echo end

@@ -1,7 +1,7 @@
 #!/usr/bin/env python3
 """Holds the program `trails` against why_model.py on other questions than the stored ones.
 
-    rt check trails && python3 tools/why_random.py 100000 target/bin/trails [SEED]
+    bash tools/programs.sh trails && python3 tools/why_random.py 100000 target/bin/trails [SEED]
 
 Some runs are damaged, and some questions. It stops at the first answer that differs.
 """

@@ -1,7 +1,7 @@
 #!/usr/bin/env python3
 """Asks the program `trails` why bytes are tainted at the end of the runs in crates/replay.
 
-    rt check trails && python3 tools/why_replayed.py target/bin/trails
+    bash tools/programs.sh trails && python3 tools/why_replayed.py target/bin/trails
 
 The runs, their traces and statuses, and what is tainted at their end were stored by replay_cases.py and the tools that it holds
 against each other. Asked about is every byte of memory, every byte of a register that is tainted, and some that aren't: a byte is
