@@ -1,10 +1,12 @@
 // Standard input and output of the programs. A read or a write that fails is said on standard error, with the system's
 // reason, and is never taken for an end.
+#![tactic(auto)]
+
 ghost use Rattle.std.specs.Prelude.{◌≤◌, ◌<◌, ◌≡◌, false, length};
 ghost use Rattle.io.specs.Counts.{IsPrefixLen};
 ghost use Rattle.console.specs.Came.{Came};
 
-use libc::{STDIN_FILENO, STDOUT_FILENO};
+use std::io::{Error, Read};
 
 // What one read gives: bytes at the start of the buffer, the end of the input, or a failure, which is said.
 #[derive(Drop)]
@@ -15,28 +17,27 @@ pub enum Input {
 }
 
 // One read, of whatever has come.
-pub fn read(buf: &mut [u8]) -> Input
+pub fn read<R: std::io::Input + Eprint>(rt: &R, buf: &mut [u8]) -> Input
     ensures { Came result buf.new }
 {
-    let got = libc::read(STDIN_FILENO, buf);
-    if got < 0 {
-        os::fail(b"read");
-        return Input::Failed;
+    let mut reader = rt.reader();
+    match reader.read(buf) {
+        Ok(0) => Input::End,
+        Ok(n) => Input::Bytes(n),
+        Err(reason) => {
+            say(rt, "read", reason);
+            Input::Failed
+        }
     }
-    let n = io::count(got, buf);
-    if n == 0 {
-        return Input::End;
-    }
-    Input::Bytes(n)
 }
 
 // Reads until a buffer is full, the input ends or a read fails, and says how many bytes came.
-pub fn fill(buf: &mut [u8]) -> usize
+pub fn fill<R: std::io::Input + Eprint>(rt: &R, buf: &mut [u8]) -> usize
     ensures { IsPrefixLen result buf.new }
 {
     let mut done = 0;
     while done < buf.len() {
-        let n = more(&mut buf[done..]);
+        let n = more(rt, &mut buf[done..]);
         if n == 0 {
             return done;
         }
@@ -45,10 +46,10 @@ pub fn fill(buf: &mut [u8]) -> usize
     done
 }
 
-fn more(buf: &mut [u8]) -> usize
+fn more<R: std::io::Input + Eprint>(rt: &R, buf: &mut [u8]) -> usize
     ensures { result ≤ length buf.new }
 {
-    match read(buf) {
+    match read(rt, buf) {
         Input::Bytes(n) => n,
         Input::End => 0,
         Input::Failed => 0,
@@ -56,14 +57,21 @@ fn more(buf: &mut [u8]) -> usize
 }
 
 // Writes the start of an output, and says whether all of it was written: not where the output ends before it.
-pub fn write(output: &[u8], end: usize) -> bool
+pub fn write<R: Print + Eprint>(rt: &R, output: &[u8], end: usize) -> bool
     ensures { length output.now < end → result ≡ false }
 {
     if end <= output.len() {
-        if io::write_all(STDOUT_FILENO, &output[0..end]) {
-            return true;
+        match rt.write_all(&output[0..end]) {
+            Ok(()) => {
+                return true;
+            }
+            Err(reason) => say(rt, "write", reason),
         }
-        os::fail(b"write");
     }
     false
+}
+
+// A failure, as what failed and the system's reason. Where that can't be written either, there is no one to say it to.
+fn say<R: Eprint>(rt: &R, what: &str, reason: Error) {
+    let _ = eprintln!(rt; "{what}: {reason}");
 }
