@@ -1,5 +1,7 @@
 // Reads lines of text from standard input and writes the word and the answer of each on standard output, in
 // constant memory. The reading is done by the crate reader; here bytes are only moved.
+#![tactic(auto)]
+
 ghost use Rattle.std.specs.Prelude.{◌≡◌, false, ◌≤◌, ◌+◌, ◌*◌, eqb, length};
 ghost use Rattle.bits.specs.Choice.{pick};
 ghost use Rattle.assemble.specs.Lines.{newlines};
@@ -28,7 +30,7 @@ struct Progress {
 
 // A proved loop has to end, and nothing says that the input does. So the loop counts its turns down, from a
 // number that no run uses up.
-fn main() {
+fn main(rt: HostRuntime) {
     let mut line = [0u8; LINE];
     let mut kept = Kept {
         going: true,
@@ -36,29 +38,29 @@ fn main() {
     };
     let mut turns = u64::MAX;
     while turns > 0 && kept.going {
-        kept = assemble_some(&mut line, kept.count);
+        kept = assemble_some(&rt, &mut line, kept.count);
         turns -= 1;
     }
 }
 
 // Answers the lines that end in what one read gives. It stops after the end of the input, and after a read or a write that
 // failed, which is said where it happens: a line that such an input breaks off in is not answered.
-fn assemble_some(line: &mut [u8], count: usize) -> Kept
+fn assemble_some(rt: &(impl std::io::Input + Print + Eprint), line: &mut [u8], count: usize) -> Kept
     requires { count ≤ length line.old }
     ensures { result.count ≤ length line.new }
 {
     let mut block = io::buffer();
-    match console::read(&mut block) {
+    match console::read(rt, &mut block) {
         Input::Bytes(n) => {
             let mut output = io::large_buffer();
             let progress = assemble_bytes(&block[..n], line, count, &mut output);
             Kept {
-                going: console::write(&output, progress.end),
+                going: console::write(rt, &output, progress.end),
                 count: progress.count,
             }
         }
         Input::End => {
-            finish(line, count);
+            finish(rt, line, count);
             ended()
         }
         Input::Failed => ended(),
@@ -106,13 +108,13 @@ fn take_byte(byte: u8, line: &mut [u8], progress: Progress, output: &mut [u8]) -
 }
 
 // The last line may lack its newline.
-fn finish(line: &[u8], count: usize)
+fn finish(rt: &(impl Print + Eprint), line: &[u8], count: usize)
     requires { count ≤ length line.now }
 {
     if count > 0 {
         let mut output = [0u8; 16];
         let end = put_answer(&mut output, 0, line, count);
-        console::write(&output, end);
+        console::write(rt, &output, end);
     }
 }
 

@@ -4,11 +4,11 @@ use crate::{case, record, text};
 use instruction::{Answer, Instruction};
 
 // Says whether the line was written.
-pub fn write_answer(c: Case) -> bool {
+pub fn write_answer(rt: &(impl Print + Eprint), c: Case) -> bool {
     // More bytes than any line has.
     let mut line = [0u8; 256];
     let end = put_answer(&mut line, c);
-    console::write(&line, end)
+    console::write(rt, &line, end)
 }
 
 fn put_answer(line: &mut [u8], c: Case) -> usize {

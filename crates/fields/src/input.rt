@@ -3,8 +3,8 @@ use registers::Registers;
 use vectors::Halves;
 
 // Says whether the input had as many.
-pub fn fill(bytes: &mut [u8]) -> bool {
-    console::fill(bytes) == bytes.len()
+pub fn fill(rt: &(impl Input + Eprint), bytes: &mut [u8]) -> bool {
+    console::fill(rt, bytes) == bytes.len()
 }
 
 // The number of so many bytes, at most 8, from an index on.

@@ -1,4 +1,6 @@
 // Cases of the programs that call the library: numbers of their input, and lines of their output, fields parted by tabs.
+#![tactic(auto)]
+
 mod input;
 mod line;
 

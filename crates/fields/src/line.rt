@@ -4,12 +4,12 @@ use registers::Registers;
 use vectors::Halves;
 
 // A line that says something of a case.
-pub fn remark(output: &mut [u8], number: u64, what: &[u8]) -> bool {
+pub fn remark(rt: &(impl Print + Eprint), output: &mut [u8], number: u64, what: &[u8]) -> bool {
     let number_end = put_name(output, number);
     let tab_end = ascii::put_byte(output, number_end, b'\t');
     let what_end = ascii::put_text(output, tab_end, what);
     let end = ascii::put_byte(output, what_end, b'\n');
-    console::write(output, end)
+    console::write(rt, output, end)
 }
 
 // The start of a line about a case.

@@ -1,5 +1,7 @@
 // Lists the words of standard input on standard output, in constant memory: a line for each word, as soon as its four
 // bytes have come. The listing is made by the crate stream; here bytes are only moved.
+#![tactic(auto)]
+
 ghost use Rattle.std.specs.Prelude.{◌≡◌, false, ◌++◌, suc, ◌≤◌, ◌+◌, ◌*◌, length, take};
 ghost use Rattle.instruction.specs.Answers.{answer_number};
 ghost use Rattle.listing.specs.Listing.{listing_of, line_most};
@@ -24,7 +26,7 @@ struct Turn {
 
 // A proved loop has to end, and nothing says that the input does. So the loop counts its turns down, from a
 // number that no run uses up.
-fn main() {
+fn main(rt: HostRuntime) {
     let mut part = [0u8; PART];
     let mut output = [0u8; ROOM];
     let mut turn = Turn {
@@ -34,29 +36,29 @@ fn main() {
     let mut turns = u64::MAX;
     while turns > 0 && turn.going {
         let lister = turn.lister;
-        turn = list_some(lister, &mut part, &mut output);
+        turn = list_some(&rt, lister, &mut part, &mut output);
         turns -= 1;
     }
 }
 
 // Lists what one read gives. It stops after the end of the input, and after a read or a write that failed, which is said
 // where it happens: such an input has no `short` line.
-fn list_some(lister: Lister, part: &mut [u8], output: &mut [u8]) -> Turn
+fn list_some(rt: &(impl std::io::Input + Print + Eprint), lister: Lister, part: &mut [u8], output: &mut [u8]) -> Turn
     requires { (refuses lister ≡ false) × (length part.old ≡ 16384) × (4096 * suc line_most + 10 ≤ length output.old) }
     ensures { refuses result.lister ≡ false }
 {
-    match console::read(part) {
+    match console::read(rt, part) {
         Input::Bytes(n) => {
             let pushed = push_part(lister, &part[..n], output);
             let next = pushed.lister;
             Turn {
                 lister: next,
-                going: console::write(output, pushed.length),
+                going: console::write(rt, output, pushed.length),
             }
         }
         Input::End => {
             let closed = close(lister, output);
-            console::write(output, closed.length);
+            console::write(rt, output, closed.length);
             Turn {
                 lister,
                 going: false,

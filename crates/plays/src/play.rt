@@ -26,14 +26,14 @@ struct Head {
 
 // Replays the next play of the input, and says whether to go on: not where the input ends, nor after a play that is cut
 // short or too large.
-pub fn replay(number: u64, output: &mut [u8]) -> bool {
+pub fn replay(rt: &(impl Input + Print + Eprint), number: u64, output: &mut [u8]) -> bool {
     let mut bytes = [0u8; 144];
-    let n = console::fill(&mut bytes);
+    let n = console::fill(rt, &mut bytes);
     if n == 0 {
         return false;
     }
     if n < 144 {
-        fields::remark(output, number, b"cut short");
+        fields::remark(rt, output, number, b"cut short");
         return false;
     }
     let head = head_of(&bytes);
@@ -42,10 +42,10 @@ pub fn replay(number: u64, output: &mut [u8]) -> bool {
         || head.first > MOST_ENTRIES
         || head.second > MOST_ENTRIES
     {
-        fields::remark(output, number, b"too large");
+        fields::remark(rt, output, number, b"too large");
         return false;
     }
-    replay_sized(number, head, &bytes, output)
+    replay_sized(rt, number, head, &bytes, output)
 }
 
 fn head_of(bytes: &[u8]) -> Head {
@@ -72,7 +72,7 @@ fn range_of(bytes: &[u8], at: usize) -> Range {
 }
 
 // A play within the limits.
-fn replay_sized(number: u64, head: Head, start: &[u8], output: &mut [u8]) -> bool
+fn replay_sized(rt: &(impl Input + Print + Eprint), number: u64, head: Head, start: &[u8], output: &mut [u8]) -> bool
     requires { (head.memory ≤ 256) × (head.taint ≤ 256) × (head.first ≤ 32) × (head.second ≤ 32) }
 {
     let mut first = [0u8; 1280];
@@ -85,7 +85,7 @@ fn replay_sized(number: u64, head: Head, start: &[u8], output: &mut [u8]) -> boo
     let taint_end = head.taint;
     let turns = head.turns;
     let stage = head.stage;
-    replay_in(
+    replay_in(rt, 
         number,
         turns,
         stage,
@@ -99,7 +99,7 @@ fn replay_sized(number: u64, head: Head, start: &[u8], output: &mut [u8]) -> boo
 }
 
 // A play in buffers of its sizes.
-fn replay_in(
+fn replay_in(rt: &(impl Input + Print + Eprint), 
     number: u64,
     turns: u64,
     stage: Stage,
@@ -110,17 +110,17 @@ fn replay_in(
     taint: &mut [u8],
     output: &mut [u8],
 ) -> bool {
-    if !read_rest(first, second, memory, taint) {
-        fields::remark(output, number, b"cut short");
+    if !read_rest(rt, first, second, memory, taint) {
+        fields::remark(rt, output, number, b"cut short");
         return false;
     }
-    replay_read(
+    replay_read(rt, 
         number, turns, stage, start, first, second, memory, taint, output,
     )
 }
 
 // A play that is read but for its turns.
-fn replay_read(
+fn replay_read(rt: &(impl Input + Print + Eprint), 
     number: u64,
     turns: u64,
     stage: Stage,
@@ -140,7 +140,7 @@ fn replay_read(
         second: plugin::state_of(start, 120, second),
         goes_on: true,
     };
-    turn::take_all(
+    turn::take_all(rt, 
         number,
         turns,
         stage,
@@ -156,15 +156,15 @@ fn replay_read(
 }
 
 // Says whether the input had as much.
-fn read_rest(first: &mut [u8], second: &mut [u8], memory: &mut [u8], taint: &mut [u8]) -> bool {
-    if !fields::fill(first) {
+fn read_rest(rt: &(impl Input + Eprint), first: &mut [u8], second: &mut [u8], memory: &mut [u8], taint: &mut [u8]) -> bool {
+    if !fields::fill(rt, first) {
         return false;
     }
-    if !fields::fill(second) {
+    if !fields::fill(rt, second) {
         return false;
     }
-    if !fields::fill(memory) {
+    if !fields::fill(rt, memory) {
         return false;
     }
-    fields::fill(taint)
+    fields::fill(rt, taint)
 }

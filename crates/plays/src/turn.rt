@@ -24,7 +24,7 @@ pub struct Stage {
 }
 
 // Says whether all turns were taken.
-pub fn take_all(
+pub fn take_all(rt: &(impl Input + Print + Eprint), 
     number: u64,
     turns: u64,
     stage: Stage,
@@ -40,7 +40,7 @@ pub fn take_all(
     let mut pair = start;
     let mut i = 0;
     while i < turns && pair.goes_on {
-        let next = take(
+        let next = take(rt, 
             number,
             stage,
             pair,
@@ -58,7 +58,7 @@ pub fn take_all(
     pair.goes_on
 }
 
-fn take(
+fn take(rt: &(impl Input + Print + Eprint), 
     number: u64,
     stage: Stage,
     pair: Pair,
@@ -71,8 +71,8 @@ fn take(
     output: &mut [u8],
 ) -> Pair {
     let mut bytes = [0u8; 32];
-    if !fields::fill(&mut bytes) {
-        fields::remark(output, number, b"cut short");
+    if !fields::fill(rt, &mut bytes) {
+        fields::remark(rt, output, number, b"cut short");
         return plugin::stopped(pair);
     }
     let who = fields::number(&bytes, 0, 8);
@@ -80,10 +80,10 @@ fn take(
     let room = fields::number(&bytes, 16, 8);
     let places = fields::number(&bytes, 24, 8);
     if count > MOST_WORDS || room > MOST_TRACE || places > MOST_STATUSES {
-        fields::remark(output, number, b"too large");
+        fields::remark(rt, output, number, b"too large");
         return plugin::stopped(pair);
     }
-    take_sized(
+    take_sized(rt, 
         number,
         who,
         count as usize,
@@ -102,7 +102,7 @@ fn take(
 }
 
 // A turn within the limits.
-fn take_sized(
+fn take_sized(rt: &(impl Input + Print + Eprint), 
     number: u64,
     who: u64,
     count: usize,
@@ -124,7 +124,7 @@ fn take_sized(
     let mut trace = [u64::MAX; 40];
     let mut statuses = [u8::MAX; 20];
     let end = 4 * count;
-    take_read(
+    take_read(rt, 
         number,
         who,
         count,
@@ -144,7 +144,7 @@ fn take_sized(
 }
 
 // A turn in buffers of its sizes.
-fn take_read(
+fn take_read(rt: &(impl Input + Print + Eprint), 
     number: u64,
     who: u64,
     count: usize,
@@ -163,11 +163,11 @@ fn take_read(
 ) -> Pair
     requires { count ≤ 16 }
 {
-    if !fields::fill(bytes) {
-        fields::remark(output, number, b"cut short");
+    if !fields::fill(rt, bytes) {
+        fields::remark(rt, output, number, b"cut short");
         return plugin::stopped(pair);
     }
-    take_words(
+    take_words(rt, 
         number,
         who,
         count,
@@ -187,7 +187,7 @@ fn take_read(
 }
 
 // A turn that is read.
-fn take_words(
+fn take_words(rt: &(impl Print + Eprint), 
     number: u64,
     who: u64,
     count: usize,
@@ -207,7 +207,7 @@ fn take_words(
     requires { count ≤ 16 }
 {
     let words = words_of(bytes, count);
-    take_in(
+    take_in(rt, 
         number,
         who,
         &words[0..count],
@@ -239,7 +239,7 @@ fn words_of(bytes: &[u8], count: usize) -> [u32; 16]
 }
 
 // A turn by the plugin whose it is.
-fn take_in(
+fn take_in(rt: &(impl Print + Eprint), 
     number: u64,
     who: u64,
     words: &[u32],
@@ -260,7 +260,7 @@ fn take_in(
     let first = pair.first;
     let second = pair.second;
     if who == 0 {
-        let after = taken(
+        let after = taken(rt, 
             number,
             who,
             words,
@@ -281,7 +281,7 @@ fn take_in(
             goes_on: true,
         };
     }
-    let after = taken(
+    let after = taken(rt, 
         number,
         who,
         words,
@@ -304,7 +304,7 @@ fn take_in(
 }
 
 // The plugin after its turn, whose lines are written.
-fn taken(
+fn taken(rt: &(impl Print + Eprint), 
     number: u64,
     who: u64,
     words: &[u32],
@@ -343,7 +343,7 @@ fn taken(
         trace,
         statuses,
     );
-    console::write(output, end);
+    console::write(rt, output, end);
     let after = ran.session;
     after
 }

@@ -35,14 +35,14 @@ struct Head {
 
 // Replays the next case of the input, and says whether to go on: not where the input ends, nor after a case
 // that is cut short or too large, nor after a write that failed.
-pub fn replay(number: u64, output: &mut [u8], again: &mut [u8]) -> bool {
+pub fn replay(rt: &(impl Input + Print + Eprint), number: u64, output: &mut [u8], again: &mut [u8]) -> bool {
     let mut bytes = [0u8; 80];
-    let n = console::fill(&mut bytes);
+    let n = console::fill(rt, &mut bytes);
     if n == 0 {
         return false;
     }
     if n < 80 {
-        fields::remark(output, number, b"cut short");
+        fields::remark(rt, output, number, b"cut short");
         return false;
     }
     let head = head_of(&bytes);
@@ -52,10 +52,10 @@ pub fn replay(number: u64, output: &mut [u8], again: &mut [u8]) -> bool {
         || head.trace > MOST_TRACE
         || head.statuses > MOST_STATUSES
     {
-        fields::remark(output, number, b"too large");
+        fields::remark(rt, output, number, b"too large");
         return false;
     }
-    replay_sized(number, head, output, again)
+    replay_sized(rt, number, head, output, again)
 }
 
 fn head_of(bytes: &[u8]) -> Head {
@@ -74,7 +74,7 @@ fn head_of(bytes: &[u8]) -> Head {
 }
 
 // A case within the limits.
-fn replay_sized(number: u64, head: Head, output: &mut [u8], again: &mut [u8]) -> bool
+fn replay_sized(rt: &(impl Input + Print + Eprint), number: u64, head: Head, output: &mut [u8], again: &mut [u8]) -> bool
     requires { (head.words ≤ 512) × (head.memory ≤ 4096) × (head.taint ≤ 4096) × (head.trace ≤ 1024) × (head.statuses ≤ 512) }
 {
     // The registers and the vector registers with their taints, and 512 words.
@@ -84,30 +84,30 @@ fn replay_sized(number: u64, head: Head, output: &mut [u8], again: &mut [u8]) ->
     let start_end = 1536 + 4 * head.words;
     let memory_end = head.memory;
     let taint_end = head.taint;
-    if !read_rest(
+    if !read_rest(rt, 
         &mut start[0..start_end],
         &mut memory[0..memory_end],
         &mut taint[0..taint_end],
     ) {
-        fields::remark(output, number, b"cut short");
+        fields::remark(rt, output, number, b"cut short");
         return false;
     }
-    replay_read(number, head, start, memory, taint, output, again)
+    replay_read(rt, number, head, start, memory, taint, output, again)
 }
 
 // Says whether the input had as much.
-fn read_rest(start: &mut [u8], memory: &mut [u8], taint: &mut [u8]) -> bool {
-    if !fields::fill(start) {
+fn read_rest(rt: &(impl Input + Eprint), start: &mut [u8], memory: &mut [u8], taint: &mut [u8]) -> bool {
+    if !fields::fill(rt, start) {
         return false;
     }
-    if !fields::fill(memory) {
+    if !fields::fill(rt, memory) {
         return false;
     }
-    fields::fill(taint)
+    fields::fill(rt, taint)
 }
 
 // A case that is read: the lines of its run, and those of its steps where they are others.
-fn replay_read(
+fn replay_read(rt: &(impl Print + Eprint), 
     number: u64,
     head: Head,
     start: [u8; 3584],
@@ -119,7 +119,7 @@ fn replay_read(
     requires { (head.words ≤ 512) × (head.memory ≤ 4096) × (head.taint ≤ 4096) × (head.trace ≤ 1024) × (head.statuses ≤ 512) }
 {
     let end = put_case(output, number, head, start, memory, taint, false);
-    if !console::write(output, end) {
+    if !console::write(rt, output, end) {
         return false;
     }
     if !is_stepped(head) {
@@ -129,10 +129,10 @@ fn replay_read(
     if show::is_same(output, end, again, again_end) {
         return true;
     }
-    if !fields::remark(output, number, b"by steps") {
+    if !fields::remark(rt, output, number, b"by steps") {
         return false;
     }
-    console::write(again, again_end)
+    console::write(rt, again, again_end)
 }
 
 // A run that lacks room for what it notes isn't begun, for which there is no step; nor is there one without a word. Whatever

@@ -9,24 +9,24 @@ const MOST: u64 = 16384;
 
 // Answers the next case of the input, and says whether to go on: not where the input ends, nor after a case that is
 // cut short or too large, nor after a write that failed.
-pub fn answer(number: u64, output: &mut [u8]) -> bool {
+pub fn answer(rt: &(impl Input + Print + Eprint), number: u64, output: &mut [u8]) -> bool {
     let mut head = [0u8; HEAD];
-    let n = console::fill(&mut head);
+    let n = console::fill(rt, &mut head);
     if n == 0 {
         return false;
     }
     if n < HEAD {
-        fields::remark(output, number, b"cut short");
+        fields::remark(rt, output, number, b"cut short");
         return false;
     }
     let given = fields::number(&head, 0, 8);
     let room = fields::number(&head, 8, 8);
     let space = fields::number(&head, 16, 8);
     if given > MOST || room > MOST || space > MOST {
-        fields::remark(output, number, b"too large");
+        fields::remark(rt, output, number, b"too large");
         return false;
     }
-    answer_sized(
+    answer_sized(rt, 
         number,
         given as usize,
         room as usize,
@@ -36,13 +36,13 @@ pub fn answer(number: u64, output: &mut [u8]) -> bool {
 }
 
 // A case within the limits.
-fn answer_sized(number: u64, given: usize, room: usize, space: usize, output: &mut [u8]) -> bool
+fn answer_sized(rt: &(impl Input + Print + Eprint), number: u64, given: usize, room: usize, space: usize, output: &mut [u8]) -> bool
     requires { (given ≤ 16384) × (room ≤ 16384) × (space ≤ 16384) }
 {
     let mut input = [0u8; 16384];
     let mut lines = [u8::MAX; 16384];
     let mut report = [u8::MAX; 16384];
-    answer_in(
+    answer_in(rt, 
         number,
         &mut input[0..given],
         &mut lines[0..room],
@@ -52,21 +52,21 @@ fn answer_sized(number: u64, given: usize, room: usize, space: usize, output: &m
 }
 
 // A case in buffers of its sizes.
-fn answer_in(
+fn answer_in(rt: &(impl Input + Print + Eprint), 
     number: u64,
     input: &mut [u8],
     lines: &mut [u8],
     report: &mut [u8],
     output: &mut [u8],
 ) -> bool {
-    if !fields::fill(input) {
-        fields::remark(output, number, b"cut short");
+    if !fields::fill(rt, input) {
+        fields::remark(rt, output, number, b"cut short");
         return false;
     }
     let name_end = fields::put_name(output, number);
     let line_end = ascii::put_byte(output, name_end, b'\n');
     let end = put_rescue(output, line_end, input, lines, report);
-    console::write(output, end)
+    console::write(rt, output, end)
 }
 
 // What is said, what is put out, the report, and the bytes behind both.

@@ -16,14 +16,14 @@ const MOST_TAINT: usize = 1024;
 
 // Answers the next case of the input, and says whether to go on: not where the input ends, nor after a case that is
 // cut short or too large, nor after a write that failed.
-pub fn answer(number: u64, output: &mut [u8]) -> bool {
+pub fn answer(rt: &(impl Input + Print + Eprint), number: u64, output: &mut [u8]) -> bool {
     let mut bytes = [0u8; 72];
-    let n = console::fill(&mut bytes);
+    let n = console::fill(rt, &mut bytes);
     if n == 0 {
         return false;
     }
     if n < head::BYTES {
-        fields::remark(output, number, b"cut short");
+        fields::remark(rt, output, number, b"cut short");
         return false;
     }
     let run = head::read(&bytes);
@@ -32,14 +32,14 @@ pub fn answer(number: u64, output: &mut [u8]) -> bool {
         || run.statuses > MOST_STATUSES
         || run.taint > MOST_TAINT
     {
-        fields::remark(output, number, b"too large");
+        fields::remark(rt, output, number, b"too large");
         return false;
     }
-    answer_sized(number, run, output)
+    answer_sized(rt, number, run, output)
 }
 
 // A case within the limits.
-fn answer_sized(number: u64, run: Head, output: &mut [u8]) -> bool
+fn answer_sized(rt: &(impl Input + Print + Eprint), number: u64, run: Head, output: &mut [u8]) -> bool
     requires { (run.words ≤ 1024) × (run.trace ≤ 2048) × (run.statuses ≤ 1024) × (run.taint ≤ 1024) }
 {
     // The taints of the registers of both kinds, 1024 words, and 2048 numbers of trace.
@@ -49,40 +49,40 @@ fn answer_sized(number: u64, run: Head, output: &mut [u8]) -> bool
     let start_end = 768 + 4 * run.words + 8 * run.trace;
     let statuses_end = run.statuses;
     let taint_end = run.taint;
-    if !read_run(
+    if !read_run(rt, 
         &mut start[0..start_end],
         &mut statuses[0..statuses_end],
         &mut taint[0..taint_end],
     ) {
-        fields::remark(output, number, b"cut short");
+        fields::remark(rt, output, number, b"cut short");
         return false;
     }
-    if !write_name(number, output) {
+    if !write_name(rt, number, output) {
         return false;
     }
-    answer_read(number, run, start, statuses, taint, output)
+    answer_read(rt, number, run, start, statuses, taint, output)
 }
 
 // Says whether the input had as much.
-fn read_run(start: &mut [u8], statuses: &mut [u8], taint: &mut [u8]) -> bool {
-    if !fields::fill(start) {
+fn read_run(rt: &(impl Input + Eprint), start: &mut [u8], statuses: &mut [u8], taint: &mut [u8]) -> bool {
+    if !fields::fill(rt, start) {
         return false;
     }
-    if !fields::fill(statuses) {
+    if !fields::fill(rt, statuses) {
         return false;
     }
-    fields::fill(taint)
+    fields::fill(rt, taint)
 }
 
 // The first line of a case, and whether it was written.
-fn write_name(number: u64, output: &mut [u8]) -> bool {
+fn write_name(rt: &(impl Print + Eprint), number: u64, output: &mut [u8]) -> bool {
     let name_end = fields::put_name(output, number);
     let end = ascii::put_byte(output, name_end, b'\n');
-    console::write(output, end)
+    console::write(rt, output, end)
 }
 
 // A run that is read. Its buffers are cut to its sizes.
-fn answer_read(
+fn answer_read(rt: &(impl Input + Print + Eprint), 
     number: u64,
     run: Head,
     start: [u8; 21248],
@@ -98,7 +98,7 @@ fn answer_read(
     let taint_end = run.taint;
     let words = words_of(&start, words_end);
     let trace = trace_of(&start, 768 + 4 * words_end, trace_end);
-    question::answer_all(
+    question::answer_all(rt, 
         number,
         run,
         &start,

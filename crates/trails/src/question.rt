@@ -11,7 +11,7 @@ const MOST_LINKS: u64 = 2048;
 const UNTOUCHED: u64 = 0xfefe_fefe_fefe_fefe;
 
 // Says whether to go on with the next case.
-pub fn answer_all(
+pub fn answer_all(rt: &(impl Input + Print + Eprint), 
     number: u64,
     run: Head,
     start: &[u8],
@@ -25,7 +25,7 @@ pub fn answer_all(
     let vector_taint = vector_taint_of(start);
     let mut left = run.questions;
     while left > 0 {
-        if !answer(
+        if !answer(rt, 
             number,
             run,
             words,
@@ -58,7 +58,7 @@ fn vector_taint_of(start: &[u8]) -> [[u64; 2]; 32] {
 }
 
 // The next question of the input.
-fn answer(
+fn answer(rt: &(impl Input + Print + Eprint), 
     number: u64,
     run: Head,
     words: &[u32],
@@ -70,18 +70,18 @@ fn answer(
     output: &mut [u8],
 ) -> bool {
     let mut asked = [0u8; 40];
-    if !fields::fill(&mut asked) {
-        fields::remark(output, number, b"cut short");
+    if !fields::fill(rt, &mut asked) {
+        fields::remark(rt, output, number, b"cut short");
         return false;
     }
     let room = fields::number(&asked, 32, 8);
     if room > MOST_LINKS {
-        fields::remark(output, number, b"too large");
+        fields::remark(rt, output, number, b"too large");
         return false;
     }
     let mut links = [UNTOUCHED; 2048];
     let links_end = room as usize;
-    answer_in(
+    answer_in(rt, 
         run,
         words,
         trace,
@@ -96,7 +96,7 @@ fn answer(
 }
 
 // A question with its list.
-fn answer_in(
+fn answer_in(rt: &(impl Print + Eprint), 
     run: Head,
     words: &[u32],
     trace: &[u64],
@@ -126,7 +126,7 @@ fn answer_in(
         links,
     );
     let end = put_said(output, reply.answer, reply.links, links);
-    console::write(output, end)
+    console::write(rt, output, end)
 }
 
 // A line of the answer, the number of links, and the whole list.
