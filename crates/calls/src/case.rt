@@ -30,12 +30,20 @@ pub fn answer(rt: &(impl Input + Print + Eprint), number: u64, output: &mut [u8]
 }
 
 // A case within the limits.
-fn answer_sized(rt: &(impl Input + Print + Eprint), number: u64, start: &[u8], given: usize, room: usize, output: &mut [u8]) -> bool
+fn answer_sized(
+    rt: &(impl Input + Print + Eprint),
+    number: u64,
+    start: &[u8],
+    given: usize,
+    room: usize,
+    output: &mut [u8],
+) -> bool
     requires { (given ≤ 1024) × (room ≤ 512) }
 {
     let mut bytes = [0u8; 1024];
     let mut buffer = [u8::MAX; 512];
-    answer_in(rt, 
+    answer_in(
+        rt,
         number,
         start,
         &mut bytes[0..given],
@@ -45,7 +53,8 @@ fn answer_sized(rt: &(impl Input + Print + Eprint), number: u64, start: &[u8], g
 }
 
 // A case in buffers of its sizes.
-fn answer_in(rt: &(impl Input + Print + Eprint), 
+fn answer_in(
+    rt: &(impl Input + Print + Eprint),
     number: u64,
     start: &[u8],
     bytes: &mut [u8],

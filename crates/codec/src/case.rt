@@ -6,7 +6,7 @@ pub const BYTES: usize = 64;
 pub const WORD: u64 = 10;
 
 // For a word, the second number is the word. Numbers that a case does not use are 0.
-#[derive(Drop)]
+#[derive(Clone, Copy)]
 pub struct Case {
     pub what: u64,
     pub operation: u64,

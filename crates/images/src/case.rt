@@ -31,7 +31,8 @@ pub fn answer(rt: &(impl Input + Print + Eprint), number: u64, output: &mut [u8]
         fields::remark(rt, output, number, b"too large");
         return false;
     }
-    answer_sized(rt, 
+    answer_sized(
+        rt,
         number,
         &head,
         given as usize,
@@ -42,7 +43,8 @@ pub fn answer(rt: &(impl Input + Print + Eprint), number: u64, output: &mut [u8]
 }
 
 // A case within the limits.
-fn answer_sized(rt: &(impl Input + Print + Eprint), 
+fn answer_sized(
+    rt: &(impl Input + Print + Eprint),
     number: u64,
     head: &[u8],
     given: usize,
@@ -55,7 +57,8 @@ fn answer_sized(rt: &(impl Input + Print + Eprint),
     let mut text = [0u8; 4096];
     let mut memory = [0u8; 512];
     let mut taint = [0u8; 512];
-    answer_in(rt, 
+    answer_in(
+        rt,
         number,
         head,
         &mut text[0..given],
@@ -66,7 +69,8 @@ fn answer_sized(rt: &(impl Input + Print + Eprint),
 }
 
 // A case in buffers of its sizes.
-fn answer_in(rt: &(impl Input + Print + Eprint), 
+fn answer_in(
+    rt: &(impl Input + Print + Eprint),
     number: u64,
     head: &[u8],
     text: &mut [u8],
@@ -84,7 +88,14 @@ fn answer_in(rt: &(impl Input + Print + Eprint),
     write_lines(rt, number, reply, memory, taint, output)
 }
 
-fn write_lines(rt: &(impl Print + Eprint), number: u64, reply: Reply, memory: &[u8], taint: &[u8], output: &mut [u8]) -> bool {
+fn write_lines(
+    rt: &(impl Print + Eprint),
+    number: u64,
+    reply: Reply,
+    memory: &[u8],
+    taint: &[u8],
+    output: &mut [u8],
+) -> bool {
     let name_end = fields::put_name(output, number);
     let line_end = ascii::put_byte(output, name_end, b'\n');
     let said = [reply.answer, reply.line];

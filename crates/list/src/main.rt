@@ -43,7 +43,12 @@ fn main(rt: HostRuntime) {
 
 // Lists what one read gives. It stops after the end of the input, and after a read or a write that failed, which is said
 // where it happens: such an input has no `short` line.
-fn list_some(rt: &(impl std::io::Input + Print + Eprint), lister: Lister, part: &mut [u8], output: &mut [u8]) -> Turn
+fn list_some(
+    rt: &(impl std::io::Input + Print + Eprint),
+    lister: Lister,
+    part: &mut [u8],
+    output: &mut [u8],
+) -> Turn
     requires { (refuses lister ≡ false) × (length part.old ≡ 16384) × (4096 * suc line_most + 10 ≤ length output.old) }
     ensures { refuses result.lister ≡ false }
 {

@@ -72,7 +72,13 @@ fn range_of(bytes: &[u8], at: usize) -> Range {
 }
 
 // A play within the limits.
-fn replay_sized(rt: &(impl Input + Print + Eprint), number: u64, head: Head, start: &[u8], output: &mut [u8]) -> bool
+fn replay_sized(
+    rt: &(impl Input + Print + Eprint),
+    number: u64,
+    head: Head,
+    start: &[u8],
+    output: &mut [u8],
+) -> bool
     requires { (head.memory ≤ 256) × (head.taint ≤ 256) × (head.first ≤ 32) × (head.second ≤ 32) }
 {
     let mut first = [0u8; 1280];
@@ -85,7 +91,8 @@ fn replay_sized(rt: &(impl Input + Print + Eprint), number: u64, head: Head, sta
     let taint_end = head.taint;
     let turns = head.turns;
     let stage = head.stage;
-    replay_in(rt, 
+    replay_in(
+        rt,
         number,
         turns,
         stage,
@@ -99,7 +106,8 @@ fn replay_sized(rt: &(impl Input + Print + Eprint), number: u64, head: Head, sta
 }
 
 // A play in buffers of its sizes.
-fn replay_in(rt: &(impl Input + Print + Eprint), 
+fn replay_in(
+    rt: &(impl Input + Print + Eprint),
     number: u64,
     turns: u64,
     stage: Stage,
@@ -114,13 +122,14 @@ fn replay_in(rt: &(impl Input + Print + Eprint),
         fields::remark(rt, output, number, b"cut short");
         return false;
     }
-    replay_read(rt, 
-        number, turns, stage, start, first, second, memory, taint, output,
+    replay_read(
+        rt, number, turns, stage, start, first, second, memory, taint, output,
     )
 }
 
 // A play that is read but for its turns.
-fn replay_read(rt: &(impl Input + Print + Eprint), 
+fn replay_read(
+    rt: &(impl Input + Print + Eprint),
     number: u64,
     turns: u64,
     stage: Stage,
@@ -140,7 +149,8 @@ fn replay_read(rt: &(impl Input + Print + Eprint),
         second: plugin::state_of(start, 120, second),
         goes_on: true,
     };
-    turn::take_all(rt, 
+    turn::take_all(
+        rt,
         number,
         turns,
         stage,
@@ -156,7 +166,13 @@ fn replay_read(rt: &(impl Input + Print + Eprint),
 }
 
 // Says whether the input had as much.
-fn read_rest(rt: &(impl Input + Eprint), first: &mut [u8], second: &mut [u8], memory: &mut [u8], taint: &mut [u8]) -> bool {
+fn read_rest(
+    rt: &(impl Input + Eprint),
+    first: &mut [u8],
+    second: &mut [u8],
+    memory: &mut [u8],
+    taint: &mut [u8],
+) -> bool {
     if !fields::fill(rt, first) {
         return false;
     }

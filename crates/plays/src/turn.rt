@@ -15,7 +15,7 @@ const MOST_TRACE: u64 = 40;
 const MOST_STATUSES: u64 = 20;
 
 // What is the same in every turn: where memory begins, the shared range, and each plugin's own.
-#[derive(Drop)]
+#[derive(Clone, Copy)]
 pub struct Stage {
     pub origin: u64,
     pub shared: Range,
@@ -24,7 +24,8 @@ pub struct Stage {
 }
 
 // Says whether all turns were taken.
-pub fn take_all(rt: &(impl Input + Print + Eprint), 
+pub fn take_all(
+    rt: &(impl Input + Print + Eprint),
     number: u64,
     turns: u64,
     stage: Stage,
@@ -40,7 +41,8 @@ pub fn take_all(rt: &(impl Input + Print + Eprint),
     let mut pair = start;
     let mut i = 0;
     while i < turns && pair.goes_on {
-        let next = take(rt, 
+        let next = take(
+            rt,
             number,
             stage,
             pair,
@@ -58,7 +60,8 @@ pub fn take_all(rt: &(impl Input + Print + Eprint),
     pair.goes_on
 }
 
-fn take(rt: &(impl Input + Print + Eprint), 
+fn take(
+    rt: &(impl Input + Print + Eprint),
     number: u64,
     stage: Stage,
     pair: Pair,
@@ -83,7 +86,8 @@ fn take(rt: &(impl Input + Print + Eprint),
         fields::remark(rt, output, number, b"too large");
         return plugin::stopped(pair);
     }
-    take_sized(rt, 
+    take_sized(
+        rt,
         number,
         who,
         count as usize,
@@ -102,7 +106,8 @@ fn take(rt: &(impl Input + Print + Eprint),
 }
 
 // A turn within the limits.
-fn take_sized(rt: &(impl Input + Print + Eprint), 
+fn take_sized(
+    rt: &(impl Input + Print + Eprint),
     number: u64,
     who: u64,
     count: usize,
@@ -124,7 +129,8 @@ fn take_sized(rt: &(impl Input + Print + Eprint),
     let mut trace = [u64::MAX; 40];
     let mut statuses = [u8::MAX; 20];
     let end = 4 * count;
-    take_read(rt, 
+    take_read(
+        rt,
         number,
         who,
         count,
@@ -144,7 +150,8 @@ fn take_sized(rt: &(impl Input + Print + Eprint),
 }
 
 // A turn in buffers of its sizes.
-fn take_read(rt: &(impl Input + Print + Eprint), 
+fn take_read(
+    rt: &(impl Input + Print + Eprint),
     number: u64,
     who: u64,
     count: usize,
@@ -167,7 +174,8 @@ fn take_read(rt: &(impl Input + Print + Eprint),
         fields::remark(rt, output, number, b"cut short");
         return plugin::stopped(pair);
     }
-    take_words(rt, 
+    take_words(
+        rt,
         number,
         who,
         count,
@@ -187,7 +195,8 @@ fn take_read(rt: &(impl Input + Print + Eprint),
 }
 
 // A turn that is read.
-fn take_words(rt: &(impl Print + Eprint), 
+fn take_words(
+    rt: &(impl Print + Eprint),
     number: u64,
     who: u64,
     count: usize,
@@ -207,7 +216,8 @@ fn take_words(rt: &(impl Print + Eprint),
     requires { count ≤ 16 }
 {
     let words = words_of(bytes, count);
-    take_in(rt, 
+    take_in(
+        rt,
         number,
         who,
         &words[0..count],
@@ -239,7 +249,8 @@ fn words_of(bytes: &[u8], count: usize) -> [u32; 16]
 }
 
 // A turn by the plugin whose it is.
-fn take_in(rt: &(impl Print + Eprint), 
+fn take_in(
+    rt: &(impl Print + Eprint),
     number: u64,
     who: u64,
     words: &[u32],
@@ -260,7 +271,8 @@ fn take_in(rt: &(impl Print + Eprint),
     let first = pair.first;
     let second = pair.second;
     if who == 0 {
-        let after = taken(rt, 
+        let after = taken(
+            rt,
             number,
             who,
             words,
@@ -281,7 +293,8 @@ fn take_in(rt: &(impl Print + Eprint),
             goes_on: true,
         };
     }
-    let after = taken(rt, 
+    let after = taken(
+        rt,
         number,
         who,
         words,
@@ -304,7 +317,8 @@ fn take_in(rt: &(impl Print + Eprint),
 }
 
 // The plugin after its turn, whose lines are written.
-fn taken(rt: &(impl Print + Eprint), 
+fn taken(
+    rt: &(impl Print + Eprint),
     number: u64,
     who: u64,
     words: &[u32],

@@ -19,7 +19,7 @@ const MOST_STATUSES: usize = 512;
 
 // The ten numbers that a case starts with: five sizes, the window without its length, the program counter, and the
 // monitor's address and size.
-#[derive(Drop)]
+#[derive(Clone, Copy)]
 struct Head {
     words: usize,
     memory: usize,
@@ -35,7 +35,12 @@ struct Head {
 
 // Replays the next case of the input, and says whether to go on: not where the input ends, nor after a case
 // that is cut short or too large, nor after a write that failed.
-pub fn replay(rt: &(impl Input + Print + Eprint), number: u64, output: &mut [u8], again: &mut [u8]) -> bool {
+pub fn replay(
+    rt: &(impl Input + Print + Eprint),
+    number: u64,
+    output: &mut [u8],
+    again: &mut [u8],
+) -> bool {
     let mut bytes = [0u8; 80];
     let n = console::fill(rt, &mut bytes);
     if n == 0 {
@@ -74,7 +79,13 @@ fn head_of(bytes: &[u8]) -> Head {
 }
 
 // A case within the limits.
-fn replay_sized(rt: &(impl Input + Print + Eprint), number: u64, head: Head, output: &mut [u8], again: &mut [u8]) -> bool
+fn replay_sized(
+    rt: &(impl Input + Print + Eprint),
+    number: u64,
+    head: Head,
+    output: &mut [u8],
+    again: &mut [u8],
+) -> bool
     requires { (head.words ≤ 512) × (head.memory ≤ 4096) × (head.taint ≤ 4096) × (head.trace ≤ 1024) × (head.statuses ≤ 512) }
 {
     // The registers and the vector registers with their taints, and 512 words.
@@ -84,7 +95,8 @@ fn replay_sized(rt: &(impl Input + Print + Eprint), number: u64, head: Head, out
     let start_end = 1536 + 4 * head.words;
     let memory_end = head.memory;
     let taint_end = head.taint;
-    if !read_rest(rt, 
+    if !read_rest(
+        rt,
         &mut start[0..start_end],
         &mut memory[0..memory_end],
         &mut taint[0..taint_end],
@@ -96,7 +108,12 @@ fn replay_sized(rt: &(impl Input + Print + Eprint), number: u64, head: Head, out
 }
 
 // Says whether the input had as much.
-fn read_rest(rt: &(impl Input + Eprint), start: &mut [u8], memory: &mut [u8], taint: &mut [u8]) -> bool {
+fn read_rest(
+    rt: &(impl Input + Eprint),
+    start: &mut [u8],
+    memory: &mut [u8],
+    taint: &mut [u8],
+) -> bool {
     if !fields::fill(rt, start) {
         return false;
     }
@@ -107,7 +124,8 @@ fn read_rest(rt: &(impl Input + Eprint), start: &mut [u8], memory: &mut [u8], ta
 }
 
 // A case that is read: the lines of its run, and those of its steps where they are others.
-fn replay_read(rt: &(impl Print + Eprint), 
+fn replay_read(
+    rt: &(impl Print + Eprint),
     number: u64,
     head: Head,
     start: [u8; 3584],

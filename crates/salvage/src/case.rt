@@ -26,7 +26,8 @@ pub fn answer(rt: &(impl Input + Print + Eprint), number: u64, output: &mut [u8]
         fields::remark(rt, output, number, b"too large");
         return false;
     }
-    answer_sized(rt, 
+    answer_sized(
+        rt,
         number,
         given as usize,
         room as usize,
@@ -36,13 +37,21 @@ pub fn answer(rt: &(impl Input + Print + Eprint), number: u64, output: &mut [u8]
 }
 
 // A case within the limits.
-fn answer_sized(rt: &(impl Input + Print + Eprint), number: u64, given: usize, room: usize, space: usize, output: &mut [u8]) -> bool
+fn answer_sized(
+    rt: &(impl Input + Print + Eprint),
+    number: u64,
+    given: usize,
+    room: usize,
+    space: usize,
+    output: &mut [u8],
+) -> bool
     requires { (given ≤ 16384) × (room ≤ 16384) × (space ≤ 16384) }
 {
     let mut input = [0u8; 16384];
     let mut lines = [u8::MAX; 16384];
     let mut report = [u8::MAX; 16384];
-    answer_in(rt, 
+    answer_in(
+        rt,
         number,
         &mut input[0..given],
         &mut lines[0..room],
@@ -52,7 +61,8 @@ fn answer_sized(rt: &(impl Input + Print + Eprint), number: u64, given: usize, r
 }
 
 // A case in buffers of its sizes.
-fn answer_in(rt: &(impl Input + Print + Eprint), 
+fn answer_in(
+    rt: &(impl Input + Print + Eprint),
     number: u64,
     input: &mut [u8],
     lines: &mut [u8],

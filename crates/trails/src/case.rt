@@ -39,7 +39,12 @@ pub fn answer(rt: &(impl Input + Print + Eprint), number: u64, output: &mut [u8]
 }
 
 // A case within the limits.
-fn answer_sized(rt: &(impl Input + Print + Eprint), number: u64, run: Head, output: &mut [u8]) -> bool
+fn answer_sized(
+    rt: &(impl Input + Print + Eprint),
+    number: u64,
+    run: Head,
+    output: &mut [u8],
+) -> bool
     requires { (run.words ≤ 1024) × (run.trace ≤ 2048) × (run.statuses ≤ 1024) × (run.taint ≤ 1024) }
 {
     // The taints of the registers of both kinds, 1024 words, and 2048 numbers of trace.
@@ -49,7 +54,8 @@ fn answer_sized(rt: &(impl Input + Print + Eprint), number: u64, run: Head, outp
     let start_end = 768 + 4 * run.words + 8 * run.trace;
     let statuses_end = run.statuses;
     let taint_end = run.taint;
-    if !read_run(rt, 
+    if !read_run(
+        rt,
         &mut start[0..start_end],
         &mut statuses[0..statuses_end],
         &mut taint[0..taint_end],
@@ -64,7 +70,12 @@ fn answer_sized(rt: &(impl Input + Print + Eprint), number: u64, run: Head, outp
 }
 
 // Says whether the input had as much.
-fn read_run(rt: &(impl Input + Eprint), start: &mut [u8], statuses: &mut [u8], taint: &mut [u8]) -> bool {
+fn read_run(
+    rt: &(impl Input + Eprint),
+    start: &mut [u8],
+    statuses: &mut [u8],
+    taint: &mut [u8],
+) -> bool {
     if !fields::fill(rt, start) {
         return false;
     }
@@ -82,7 +93,8 @@ fn write_name(rt: &(impl Print + Eprint), number: u64, output: &mut [u8]) -> boo
 }
 
 // A run that is read. Its buffers are cut to its sizes.
-fn answer_read(rt: &(impl Input + Print + Eprint), 
+fn answer_read(
+    rt: &(impl Input + Print + Eprint),
     number: u64,
     run: Head,
     start: [u8; 21248],
@@ -98,7 +110,8 @@ fn answer_read(rt: &(impl Input + Print + Eprint),
     let taint_end = run.taint;
     let words = words_of(&start, words_end);
     let trace = trace_of(&start, 768 + 4 * words_end, trace_end);
-    question::answer_all(rt, 
+    question::answer_all(
+        rt,
         number,
         run,
         &start,

@@ -3,7 +3,7 @@
 
 pub const BYTES: usize = 72;
 
-#[derive(Drop)]
+#[derive(Clone, Copy)]
 pub struct Head {
     pub words: usize,
     // Numbers of the trace.

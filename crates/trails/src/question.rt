@@ -11,7 +11,8 @@ const MOST_LINKS: u64 = 2048;
 const UNTOUCHED: u64 = 0xfefe_fefe_fefe_fefe;
 
 // Says whether to go on with the next case.
-pub fn answer_all(rt: &(impl Input + Print + Eprint), 
+pub fn answer_all(
+    rt: &(impl Input + Print + Eprint),
     number: u64,
     run: Head,
     start: &[u8],
@@ -25,7 +26,8 @@ pub fn answer_all(rt: &(impl Input + Print + Eprint),
     let vector_taint = vector_taint_of(start);
     let mut left = run.questions;
     while left > 0 {
-        if !answer(rt, 
+        if !answer(
+            rt,
             number,
             run,
             words,
@@ -58,7 +60,8 @@ fn vector_taint_of(start: &[u8]) -> [[u64; 2]; 32] {
 }
 
 // The next question of the input.
-fn answer(rt: &(impl Input + Print + Eprint), 
+fn answer(
+    rt: &(impl Input + Print + Eprint),
     number: u64,
     run: Head,
     words: &[u32],
@@ -81,7 +84,8 @@ fn answer(rt: &(impl Input + Print + Eprint),
     }
     let mut links = [UNTOUCHED; 2048];
     let links_end = room as usize;
-    answer_in(rt, 
+    answer_in(
+        rt,
         run,
         words,
         trace,
@@ -96,7 +100,8 @@ fn answer(rt: &(impl Input + Print + Eprint),
 }
 
 // A question with its list.
-fn answer_in(rt: &(impl Print + Eprint), 
+fn answer_in(
+    rt: &(impl Print + Eprint),
     run: Head,
     words: &[u32],
     trace: &[u64],
