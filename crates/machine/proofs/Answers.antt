@@ -17,7 +17,6 @@ use Rattle.plan.specs.declared.Plan.TheVariants.{Refuse, Touch}
 use Rattle.plan.specs.Address.{sum_of, address_of}
 use Rattle.plan.specs.Refusals.{Refusal, first_of, answer_in, Given}
 use Rattle.plan.specs.Admission.{admit_of}
-use Rattle.plan.specs.declared.ranges.Ranges.{Ranges}
 use Rattle.plan.specs.declared.ranges.Reach.{Reach}
 use Rattle.plan.specs.declared.ranges.Reach.TheVariants.{Alone, Ranged}
 use Rattle.plan.specs.Ranges.{admit_ranges, admit_in}

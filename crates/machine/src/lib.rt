@@ -261,6 +261,7 @@ fn decide_word(
     )
 }
 
+#[tactic(auto, unfolding(crate::specs::route::Parts::access_step))]
 fn decide_access(
     x: Access,
     pc: u64,

@@ -14,6 +14,7 @@ pub struct Monitor {
 }
 
 // What a store-exclusive writes to its status register; 0 for every other access.
+#[tactic(auto, unfolding(crate::specs::Monitor::status_of))]
 pub fn status(t: Transfer, address: u64, monitor: Monitor) -> u8
     ensures { result ≡ status_of t address monitor }
 {
@@ -25,6 +26,7 @@ pub fn status(t: Transfer, address: u64, monitor: Monitor) -> u8
     0
 }
 
+#[tactic(auto, unfolding(crate::specs::Monitor::matches))]
 fn mismatch(monitor: Monitor, address: u64, size: u32) -> u8
     ensures { result ≡ pick (matches monitor address size) 0 1 }
 {
@@ -37,6 +39,7 @@ fn mismatch(monitor: Monitor, address: u64, size: u32) -> u8
 }
 
 // The monitor after an access: a load-exclusive arms it, and a store-exclusive opens it.
+#[tactic(auto, unfolding(crate::specs::Monitor::monitor_after))]
 pub fn after(t: Transfer, address: u64, monitor: Monitor) -> Monitor
     ensures { result ≡ monitor_after t address monitor }
 {
@@ -55,6 +58,7 @@ pub fn after(t: Transfer, address: u64, monitor: Monitor) -> Monitor
     monitor
 }
 
+#[tactic(auto, unfolding(crate::specs::Monitor::written_back))]
 pub fn written_back(t: Transfer, status: u8, sum: u64) -> u64
     ensures { result ≡ written_back t status sum }
 {
@@ -65,6 +69,7 @@ pub fn written_back(t: Transfer, status: u8, sum: u64) -> u64
 }
 
 // Whether a store with this status stores nothing.
+#[tactic(auto, unfolding(crate::specs::Monitor::fails))]
 pub fn fails(t: Transfer, status: u8) -> bool
     ensures { result ≡ fails t status }
 {

@@ -1,0 +1,19 @@
+-- `machine::effect::load_halves` meets its contract. Assumes nothing.
+use Rattle.std.proofs.Common.{◌≡◌, ◌+◌, ◌-◌, min, arith}
+use Rattle.bits.specs.Bytes.{joined, span_of}
+use Rattle.memory.proofs.Spans.{span_back}
+use Rattle.machine.proofs.effect.load_halves.Goals as goal
+
+pub returns-then-n-le8 : goal.returns-then-n-le8
+unfolding joined span_of
+returns-then-n-le8 c =
+    let a = c.args in
+    let z : a.n - 8 ≡ 0 = omega (arith, c.if-n-le8.true) in
+    rw (z, ← span_back a.memory.now a.at (min a.n 8), ← c.load-low.ensures.0)
+
+pub returns : goal.returns
+unfolding joined span_of
+returns c =
+    let a = c.args in
+    let e : min (a.n - 8) 8 ≡ a.n - 8 = omega (arith, c.requires.0) in
+    rw (← span_back a.memory.now a.at (min a.n 8), ← span_back a.memory.now (a.at + 8) (a.n - 8), ← c.load-low.ensures.0, ← (rw e at c.load.ensures.0))
