@@ -1,4 +1,3 @@
-pub mod Offsets
 pub mod Words
 pub mod There
 pub mod Back

@@ -11,6 +11,7 @@ use bits::Field;
 use instruction::{Answer, Encoded, Instruction};
 
 // The one word that decodes to an instruction, or answer 11 and word 0.
+#[tactic(auto, unfolding(crate::specs::Encoding::encode_of))]
 pub fn encode(instruction: Instruction) -> Encoded
     ensures { result ≡ encode_of instruction }
 {

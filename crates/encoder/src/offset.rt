@@ -6,6 +6,7 @@ ghost use Rattle.instruction.specs.Operations.{sized_bytes, pair_bytes};
 use bits::Field;
 use instruction::{PairOp, SizedOp};
 
+#[tactic(auto, using(instruction::proofs::Codes::paired))]
 pub fn imm7(offset: i64, op: PairOp) -> Field
     ensures { result ≡ bits_of 64 (pair_bytes op) offset }
 {
@@ -18,6 +19,7 @@ pub fn imm9(offset: i64) -> Field
     signed_bits(offset, 256, 1)
 }
 
+#[tactic(auto, using(instruction::proofs::Codes::sized))]
 pub fn imm12(offset: i64, op: SizedOp) -> Field
     ensures { result ≡ plain_bits_of 4096 (sized_bytes op) offset }
 {
@@ -31,6 +33,7 @@ pub fn imm19(offset: i64) -> Field
 }
 
 // In two's complement. Half is how many values each sign has.
+#[tactic(auto, using(bits::proofs::Offsets::quotient_below), unfolding(bits::specs::Signed::bits_of))]
 fn signed_bits(offset: i64, half: u32, scale: u32) -> Field
     requires { (0 < scale) × (half ≤ 262144) }
     ensures { result ≡ bits_of half scale offset }
@@ -48,6 +51,7 @@ fn signed_bits(offset: i64, half: u32, scale: u32) -> Field
 }
 
 // Without sign, one of limit values.
+#[tactic(auto, unfolding(bits::specs::Signed::plain_bits_of))]
 fn plain_bits(offset: i64, limit: u32, scale: u32) -> Field
     requires { 0 < scale }
     ensures { result ≡ plain_bits_of limit scale offset }
@@ -60,6 +64,7 @@ fn plain_bits(offset: i64, limit: u32, scale: u32) -> Field
 }
 
 // The quotient, where it is whole and below the limit.
+#[tactic(auto, unfolding(bits::specs::Signed::quotient_of))]
 fn quotient(magnitude: u64, scale: u32, limit: u32) -> Field
     requires { 0 < scale }
     ensures { result ≡ quotient_of magnitude scale limit }

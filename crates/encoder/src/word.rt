@@ -36,6 +36,7 @@ pub fn word_of(family: Family) -> Field
     }
 }
 
+#[tactic(auto, using(crate::proofs::Words::signed_below), unfolding(crate::specs::Encoding::literal_word))]
 fn literal_word(op: LiteralOp, o: LiteralOperands) -> Field
     ensures { result ≡ literal_word op o }
 {
@@ -47,6 +48,7 @@ fn literal_word(op: LiteralOp, o: LiteralOperands) -> Field
     }
 }
 
+#[tactic(auto, using(instruction::proofs::Codes::lettered), unfolding(crate::specs::Encoding::word_with))]
 fn literal_sum(op: LiteralOp, target: u32, imm19: u32) -> Field
     requires { imm19 < 524288 }
     ensures { result ≡ word_with (fixed Row.LiteralRow) (literal_fields op target imm19) }
@@ -59,6 +61,7 @@ fn literal_sum(op: LiteralOp, target: u32, imm19: u32) -> Field
     Field::Holds(0x1800_0000 + code + target + imm19 * 32)
 }
 
+#[tactic(auto, using(crate::proofs::Words::signed_below), unfolding(crate::specs::Encoding::pair_word))]
 fn pair_word(op: PairOp, o: PairOperands) -> Field
     ensures { result ≡ pair_word op o }
 {
@@ -69,6 +72,7 @@ fn pair_word(op: PairOp, o: PairOperands) -> Field
     }
 }
 
+#[tactic(auto, using(instruction::proofs::Codes::paired, instruction::proofs::Codes::mode_below), unfolding(crate::specs::Encoding::word_with))]
 fn pair_sum(op: PairOp, o: PairOperands, imm7: u32) -> Field
     requires { imm7 < 128 }
     ensures { result ≡ word_with (fixed Row.PairRow) (pair_fields op o imm7) }
@@ -95,6 +99,7 @@ fn pair_sum(op: PairOp, o: PairOperands, imm7: u32) -> Field
 }
 
 // The fields that all families with a size have, beside their own, which are in place already.
+#[tactic(auto, unfolding(crate::specs::route::Sized::sized_word))]
 fn sized_word(op: SizedOp, base: u32, target: u32, own: u32) -> Field
     requires { own < 0x3a00_0000 }
     ensures { result ≡ sized_word op base target own }
@@ -113,6 +118,7 @@ fn sized_word(op: SizedOp, base: u32, target: u32, own: u32) -> Field
 }
 
 // The ordered family has no vector forms.
+#[tactic(auto, unfolding(crate::specs::Encoding::ordered_word))]
 fn ordered_word(op: SizedOp, o: OffsetOperands) -> Field
     ensures { result ≡ ordered_word op o }
 {
@@ -122,6 +128,7 @@ fn ordered_word(op: SizedOp, o: OffsetOperands) -> Field
     Field::Unfit
 }
 
+#[tactic(auto, using(crate::proofs::Words::signed_below, crate::proofs::Words::signed_is), unfolding(crate::specs::Encoding::signed_word))]
 fn signed_word(row: u32, op: SizedOp, o: OffsetOperands) -> Field
     requires { row ≤ 0x3900_0000 }
     ensures { result ≡ signed_word row op o }
@@ -135,6 +142,7 @@ fn signed_word(row: u32, op: SizedOp, o: OffsetOperands) -> Field
     }
 }
 
+#[tactic(auto, using(instruction::proofs::Codes::sized), unfolding(crate::specs::Encoding::index_word, crate::specs::Encoding::word_with, crate::specs::route::Sized::sized_word))]
 fn index_word(op: SizedOp, o: IndexOperands) -> Field
     ensures { result ≡ index_word op o }
 {
@@ -154,6 +162,7 @@ fn index_word(op: SizedOp, o: IndexOperands) -> Field
     sized_word(op, o.base, o.target, own)
 }
 
+#[tactic(auto, using(crate::proofs::Words::plain_below, crate::proofs::Words::unsigned_is), unfolding(crate::specs::Encoding::unsigned_word))]
 fn unsigned_word(op: SizedOp, o: OffsetOperands) -> Field
     ensures { result ≡ unsigned_word op o }
 {
@@ -167,6 +176,7 @@ fn unsigned_word(op: SizedOp, o: OffsetOperands) -> Field
 }
 
 // A code has bit 23, L and bit 15.
+#[tactic(auto, using(instruction::proofs::Codes::scale_below), unfolding(crate::specs::Encoding::exclusive_word, crate::specs::Encoding::word_with))]
 fn exclusive_word(code: u32, size: AccessSize, status: u32, target: u32, base: u32) -> Field
     requires { code < 8 }
     ensures { result ≡ exclusive_word code size status target base }
