@@ -198,14 +198,14 @@ module _ (sees : ℕ → Type 0) (view : View) (copied : Copied view) where
       touch_alike t a fits l q base sum =
           let at = pick a.post base sum in
           let status = status_of t at m.monitor in
-          rw (← status_same t at m.monitor n.monitor l (copied.agree m.monitor n.monitor h.monitor))
-          (first_shows (Alike sees view) _ _ (refusal TaintedAddress q 0 ∷ refusal Misaligned (misaligned_stack a.base base) base ∷ admit t at)
-          (λ p. (
+          first_shows (Alike sees view) _ _ (refusal TaintedAddress q 0 ∷ refusal Misaligned (misaligned_stack a.base base) base ∷ admit t at)
+          (λ p.
+          rw (← status_same t at m.monitor n.monitor l (copied.agree m.monitor n.monitor h.monitor)) (
             effect_alike (made_of t status) (made_bounded t status fits) a.written (at - origin) (written_back t status sum) (monitor_after t at m.monitor) (monitor_after t at n.monitor)
                 (after_same t at m.monitor n.monitor h.monitor)
                 (λ l. subst (λ x. Seen sees (at - origin) (total_of x)) (sym (load_made t status l)) (safe t at p.1.1 l)),
             refl,
-          )))
+          ))
 
       moves_at : (t : Transfer) (a : Addressing) → Bounded t → 0 < t.bytes → (z : Bool) → (operands_of a m).tainted ≡ z → Shows (Alike sees view) (access_step origin admit (Moves t a) m) (access_step origin admit (Moves t a) n)
       unfolding access_step
@@ -220,7 +220,7 @@ module _ (sees : ℕ → Type 0) (view : View) (copied : Copied view) where
           subst (λ s. Shows (Alike sees view) (access_step origin admit (Moves t a) m) s) same (touch_alike t a fits l o.tainted o.base (sum_of a o))
         where
           by_parts : (n : Machine) (t : Transfer) (a : Addressing) {q r : Bool} {x y s v : ℕ} → q ≡ r → x ≡ y → s ≡ v → access_by n t a q x s ≡ access_by n t a r y v
-          by_parts n t a e f g = rw (e, f, g)
+          by_parts n t a e f g = cc
 
       access_alike : (x : Access) → Within x → Moving x → Shows (Alike sees view) (access_step origin admit x m) (access_step origin admit x n)
       unfolding access_step
