@@ -1,5 +1,3 @@
-pub mod Forms
 pub mod Rule
 pub mod Same
 pub mod Exact
-pub mod Arms

@@ -8,6 +8,7 @@ ghost use Rattle.lookup.specs.Lookup.{row_in, examine_as, examine_by};
 use decoder::{family, undefined, unpredictable, view};
 use instruction::{Answer, Decoded, Row};
 
+#[tactic(auto, unfolding(crate::specs::Lookup::examine_by, bits::specs::Fields::part))]
 pub fn finish(entry: u32, word: u32) -> Decoded
     ensures { result ≡ examine_by entry word }
 {
@@ -56,6 +57,7 @@ pub fn finish(entry: u32, word: u32) -> Decoded
     }
 }
 
+#[tactic(auto, unfolding(bits::specs::Fields::part))]
 fn exclusive(code: u32, word: u32) -> Decoded
     ensures { result ≡ examine_as Row.LoadExclusiveRow code word }
 {
@@ -67,6 +69,7 @@ fn exclusive(code: u32, word: u32) -> Decoded
     )
 }
 
+#[tactic(auto, unfolding(bits::specs::Fields::part))]
 fn store_exclusive(code: u32, word: u32) -> Decoded
     ensures { result ≡ examine_as Row.StoreExclusiveRow code word }
 {
@@ -77,6 +80,7 @@ fn store_exclusive(code: u32, word: u32) -> Decoded
 }
 
 // The row that the family code of an entry and the bits below 22 give.
+#[tactic(auto, unfolding(crate::specs::Lookup::row_in, bits::specs::Fields::part))]
 fn row_in(families: u32, word: u32) -> Row
     ensures { result ≡ row_in families word }
 {
@@ -96,6 +100,7 @@ fn row_in(families: u32, word: u32) -> Row
     }
 }
 
+#[tactic(auto, unfolding(crate::specs::Lookup::row_in, bits::specs::Fields::part))]
 fn ordered_row(word: u32) -> Row
     ensures { result ≡ row_in 3 word }
 {
@@ -106,6 +111,7 @@ fn ordered_row(word: u32) -> Row
     }
 }
 
+#[tactic(auto, unfolding(crate::specs::Lookup::row_in, bits::specs::Fields::part))]
 fn sized_row(word: u32) -> Row
     ensures { result ≡ row_in 4 word }
 {

@@ -13,6 +13,7 @@ pub use constant::table;
 use instruction::Decoded;
 
 // What the entry of a word in a lent table gives, with answer 4.
+#[tactic(auto, unfolding(crate::specs::Lookup::examine_in, bits::specs::Fields::part))]
 pub fn examine_in(lent: &[u16; 1024], word: u32) -> Decoded
     ensures { result ≡ examine_in lent.now word }
 {
@@ -28,6 +29,7 @@ pub fn decode_in(lent: &[u16; 1024], word: u32) -> Decoded
 }
 
 // The same as decoding without a table.
+#[tactic(auto, using(crate::proofs::Same::decode_same))]
 pub fn decode_by_table(word: u32) -> Decoded
     ensures { result ≡ decode_of word }
 {
