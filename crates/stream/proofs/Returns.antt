@@ -4,7 +4,7 @@ use mathlib.Core.Path.{◌≡◌, refl, sym, ap, ◌∙◌}
 use mathlib.Core.Bool.{Bool, true, false, not, ◌||◌, false≢true}
 use mathlib.Core.List.{List, [], ◌∷◌, ◌++◌, append_assoc, append-nil}
 use native.Mathlib.Omega.{arith}
-use borrow.Author.Tests.{lt-ltb, le-ltb, ltb-true, ltb-false, eq-eqb, ne_eqb}
+use borrow.Author.Tests.{lt-ltb, le-ltb, ltb-true, ltb-false}
 use lib.Dec.{eqb, ltb}
 use lib.ListN.{length, take, drop, get_or, length-append, length-drop, take-append-drop, drop_of_length-le}
 use lib.Seq.{sets, sets-eq, length-take-le, drop-drop, drop_at, drop-append-add, take_all}
@@ -23,12 +23,6 @@ use Rattle.stream.proofs.Splits.{listing_append, one_short, whole_is, rest_is}
 -- ---- answer 16
 
 module _ (l : Lister) where
-  pub closed_refuses : ¬ (l.closed ≡ 0) → true ≡ refuses l
-  closed_refuses h = rw (ne_eqb l.closed 0 h)
-
-  pub open_counts : l.closed ≡ 0 → ltb 3 l.count ≡ refuses l
-  open_counts h = rw (eq-eqb l.closed 0 h)
-
   few_by : (b : Bool) (n : ℕ) → (not b || ltb 3 n) ≡ false → n ≤ 3
   few_by true n h = ltb-false 3 n h
   few_by false n h = absurd (false≢true (sym h))

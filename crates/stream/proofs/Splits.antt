@@ -1,11 +1,11 @@
 -- Bytes cut into whole words and what is left of them, and the listing of both: a listing of whole words and then of others is
--- the listing of all (`listing-append`). Assumes nothing.
-use Prim.Native.Nat.{ℕ, ◌+◌, ◌-◌, ◌*◌, ◌/◌, ◌%◌, ◌≤◌, ◌<◌}
+-- the listing of all (`listing_append`). Assumes nothing.
+use Prim.Native.Nat.{ℕ, ◌+◌, ◌*◌, ◌/◌, ◌%◌, ◌≤◌, ◌<◌}
 use mathlib.Core.Path.{◌≡◌, refl, sym, ap, ◌∙◌}
 use mathlib.Core.List.{List, [], ◌∷◌, ◌++◌, append_assoc}
 use native.Mathlib.Omega.{arith}
-use lib.ListN.{length, take, get_or, length-append, length-drop, take-append-drop, get_or-append}
-use lib.Seq.{take_at, drop_at, length-take-le, get_or-take, get_or-append-add}
+use lib.ListN.{length, length-append, length-drop, take-append-drop}
+use lib.Seq.{take_at, drop_at, length-take-le}
 use Rattle.listing.specs.Listing.{short_text, line_text, word_of, line_most, listing_of}
 use Rattle.listing.proofs.Steps.{line_short}
 use Rattle.stream.specs.Streams.{over_in, holding, whole_of, rest_of}
@@ -51,14 +51,3 @@ held_is (a ∷ []) h = refl
 held_is (a ∷ b ∷ []) h = refl
 held_is (a ∷ b ∷ c ∷ []) h = refl
 held_is (a ∷ b ∷ c ∷ d ∷ r) h = absurd (omega (arith, h))
-
--- ---- one byte of the bytes over and a fragment behind them
-
-module _ (held f : List ℕ) (count i : ℕ) (most : count ≤ length held) where
-  pub at_over : i < count → get_or (take count held ++ f) i 0 ≡ get_or held i 0
-  at_over h = get_or-append (take count held) f 0 i (omega (arith, h, length-take-le count held most)) ∙ get_or-take count held i 0 h
-
-  pub at_fragment : count ≤ i → get_or (take count held ++ f) i 0 ≡ get_or f (i - count) 0
-  at_fragment h =
-      let place : i ≡ length (take count held) + (i - count) = omega (arith, h, length-take-le count held most) in
-      ap (λ (k : ℕ). get_or (take count held ++ f) k 0) place ∙ get_or-append-add (take count held) f (i - count) 0
