@@ -161,9 +161,17 @@ pub taints_of_run : (w : Window) (words : List ℕ) (m : Machine) (l : Log)
 taints_of_run w words m l = run_rule taints_in (word_rule w.origin) (step_of w) (taints_by_rule w) (bad w) words m l
 
 -- all of it, of what equals a run
-pub promised : (w : Window) (words : List ℕ) (m : Machine) (l : Log) {t : Result Machine} → t ≡ machine_run w words m l
-    → (t ≡ machine_run w words m l) × ((t.machine.taints ≡ after_steps (word_rule w.origin) words t.log t.steps m.taints)
-    × (((n : Machine) (k : Log) → Same m n → SameRoom l k → ShowsRun Same t (machine_run w words n k))
-    × ((n : Machine) (k : Log) → Filled m n → SameRoom l k → ShowsRun Filled t (machine_run w words n k))))
+pub record Promised (w : Window) (words : List ℕ) (m : Machine) (l : Log) (t : Result Machine) : Type 0 where
+  pub exact : t ≡ machine_run w words m l
+  pub rule : t.machine.taints ≡ after_steps (word_rule w.origin) words t.log t.steps m.taints
+  pub secret : (n : Machine) (k : Log) → Same m n → SameRoom l k → ShowsRun Same t (machine_run w words n k)
+  pub filled : (n : Machine) (k : Log) → Filled m n → SameRoom l k → ShowsRun Filled t (machine_run w words n k)
+
+pub promised : (w : Window) (words : List ℕ) (m : Machine) (l : Log) {t : Result Machine} → t ≡ machine_run w words m l → Promised w words m l t
 promised w words m l e =
-    (e, (rw e (taints_of_run w words m l), ((λ n k h room. rw e (demand_3 w words m n l k h room)), (λ n k h room. rw e (other_half w words m n l k h room)))))
+    record {
+      exact = e;
+      rule = rw e (taints_of_run w words m l);
+      secret = λ n k h room. rw e (demand_3 w words m n l k h room);
+      filled = λ n k h room. rw e (other_half w words m n l k h room);
+    }

@@ -109,6 +109,7 @@ pub fn turn(
 }
 
 // Whether a trace or a status list is shorter than so many words ask: answer 10.
+#[tactic(auto, unfolding(crate::specs::Walk::too_short))]
 pub fn is_short(words: usize, trace: usize, statuses: usize) -> bool
     ensures { result ≡ too_short words trace statuses }
 {
