@@ -19,6 +19,7 @@ fn digit(c: u8) -> u8
     c % 16 + c / 64 * 9
 }
 
+#[tactic(auto, unfolding(crate::specs::Lines::digit_of))]
 fn is_digit(c: u8) -> bool
     ensures { result ≡ ltb (digit_of c) 16 }
 {
@@ -95,6 +96,7 @@ fn sum(rest: &[u8]) -> u64
     sum_of(rest, 5 + count)
 }
 
+#[tactic(auto, unfolding(crate::specs::Records::bad_count))]
 fn is_bad_count(rest: &[u8]) -> bool
     ensures { result ≡ bad_count rest.now }
 {
@@ -109,6 +111,7 @@ fn is_bad_count(rest: &[u8]) -> bool
     false
 }
 
+#[tactic(auto, unfolding(crate::specs::Records::bad_type))]
 fn is_bad_type(kind: u64) -> bool
     ensures { result ≡ bad_type kind }
 {
@@ -145,6 +148,7 @@ fn leaves(rest: &[u8], upper: u64, origin: u64, len: u64) -> bool
 }
 
 // The first fault of the line, or none.
+#[tactic(auto, unfolding(crate::specs::Import::faults_in))]
 pub fn fault(rest: &[u8], ended: bool, upper: u64, origin: u64, len: u64) -> Answer
     requires { upper < 65536 }
     ensures { result ≡ answer_in (faults_in origin len (begins rest.now) ended upper rest.now) }

@@ -32,6 +32,7 @@ pub fn any_beyond(first: u64, count: u64, origin: u64, len: u64) -> bool
     is_beyond(0, 4294967295, origin, len)
 }
 
+#[tactic(auto, unfolding(crate::specs::Import::put))]
 fn put_byte(bytes: &mut [u8], origin: u64, a: u64, b: u8)
     ensures { bytes.new ≡ put origin a b bytes.old }
 {

@@ -8,6 +8,7 @@ use crate::Reply;
 use instruction::Answer;
 use plan::Window;
 
+#[tactic(auto, unfolding(crate::specs::Import::reply_of))]
 pub fn reply_of(text: &[u8], window: Window, len: u64, taints: u64) -> Reply
     ensures { result ≡ reply_of window len taints text.now }
 {
