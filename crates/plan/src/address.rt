@@ -23,6 +23,7 @@ fn shifted(option: u32, shift: u32, register: u64) -> u64
     index(option, register) << (shift % 64)
 }
 
+#[tactic(auto, unfolding(crate::specs::Address::index_of))]
 fn index(option: u32, register: u64) -> u64
     ensures { result ≡ index_of option register }
 {
