@@ -1,19 +1,15 @@
 -- What each return of the builder shows, over plain values. Assumes nothing.
 use Prim.Native.Nat.{ℕ}
-use mathlib.Core.Path.{◌≡◌, sym, ap, ◌∙◌}
+use mathlib.Core.Path.{◌≡◌, ◌∙◌}
 use lib.IntN.{ℤ}
 use borrow.Author.Tests.{ne_eqb}
 use Rattle.bits.specs.Choice.{lookup}
 use Rattle.instruction.specs.Operations.{sized_code}
-use Rattle.reader.specs.Types.{Scan, Name, Tail, SizedOp, LiteralOp, LiteralWord, PairOp, PairMode, Family, Literal, Pair, AccessSize, LiteralOperands, PairOperands}
+use Rattle.reader.specs.Types.{Scan, Name, Tail, SizedOp, LiteralOp, LiteralWord, PairMode, Family, Literal, AccessSize, LiteralOperands}
 use Rattle.reader.specs.route.Names.{letter_for, name_for}
 use Rattle.reader.specs.route.Targets.{target_at}
 use Rattle.reader.specs.route.Tails.{tail_at, offset_at, option_at, scaled_at}
-use Rattle.reader.specs.route.Build.{key_in, num_in, register_of, literal_table, literal_for, literal_from, offset_from, index_from, pair_from, mode_for, bracketed_for, plain_for, exclusive_from, size_for, store_exclusive_from, family_for, build_of}
-
--- an arm of a match
-pub by_case : {A B : Type 0} (f : A → B) {a b : A} {r : B} → a ≡ b → r ≡ f b → r ≡ f a
-by_case f e p = p ∙ ap f (sym e)
+use Rattle.reader.specs.route.Build.{key_in, num_in, register_of, literal_table, literal_for, literal_from, offset_from, index_from, pair_from, bracketed_for, plain_for, exclusive_from, size_for, store_exclusive_from, family_for, build_of}
 
 pub literal_by : (op : SizedOp) {a : ℕ} {r : LiteralOp} → a ≡ sized_code op → r ≡ lookup LiteralWord literal_table a → r ≡ literal_for op
 unfolding literal_for
@@ -56,10 +52,6 @@ module _ (s : Scan) where
   pub literal_family : (op : SizedOp) {l : LiteralOp} {o : LiteralOperands} → ¬ (key_in s 2 ≡ 0) → l ≡ literal_for op → o ≡ literal_from s → Literal l o ≡ plain_for op s
   unfolding plain_for
   literal_family op n p q = rw (ne_eqb (key_in s 2) 0 n, p, q)
-
-  pub pair_family : (op : PairOp) {x : Tail} {m : PairMode} {o : PairOperands} → x ≡ tail_at (key_in s 5) → m ≡ mode_for x → o ≡ pair_from m s
-      → Pair op o ≡ Pair op (pair_from (mode_for (tail_at (key_in s 5))) s)
-  pair_family op x m o = cc
 
   pub built : {n : Name} {f : Family} → n ≡ name_for (key_in s 1) (key_in s 0) → f ≡ family_for n s → record { family = f } ≡ build_of s
   unfolding build_of
