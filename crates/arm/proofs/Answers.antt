@@ -1,6 +1,6 @@
 -- What Arm's step answers, from the list of its refusals alone: the first that holds (`answers-in`), so that what is refused
 -- changes nothing, a marked address is 5 and a misaligned SP 6. Assumes nothing.
-use Prim.Native.Nat.{ℕ, ◌%◌, ◌<◌}
+use Prim.Native.Nat.{ℕ, ◌%◌}
 use mathlib.Core.Path.{◌≡◌, refl, sym, ap, ◌∙◌}
 use mathlib.Core.Bool.{Bool, true, false}
 use mathlib.Core.List.{List, [], ◌∷◌, ◌++◌}

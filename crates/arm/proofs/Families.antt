@@ -1,7 +1,7 @@
 -- The pages of one register, each with its family: the two form the same address (`based-form`, `index-form`,
 -- `literal-form`), and then `all-sizes` says the rest. Assumes nothing.
 use Prim.Native.Nat.{ℕ, ◌+◌, ◌*◌, ◌%◌, ◌^◌, ◌≤◌, ◌<◌}
-use mathlib.Core.Path.{◌≡◌, refl, sym, ap, ◌∙◌}
+use mathlib.Core.Path.{◌≡◌, refl, sym, ap, subst, ◌∙◌}
 use mathlib.Core.Bool.{Bool, true, false, not, ◌&&◌, ◌||◌, or-false}
 use mathlib.Core.List.{List}
 use native.Mathlib.Nat.{mod-eq_of_lt, mod-add-div}
@@ -481,7 +481,7 @@ module _ (w : Window) (m : Machine) (r : Ready w m) (word : ℕ) where
         → (page_of vector LiteralRow word).extent ≡ extent → word_access word ≡ literal_at19 k extent target (twos_complement (signed_of 262144 4 (field 23 5 word)))
         → Steps w m (page_of vector LiteralRow word) word (loads address k (set_r vector t width (g (Mem address k (arm_of w m))) (arm_of w m)))
     literal_load vector target s k extent width g x fit filled e =
-        rw at
+        subst (λ (x : ℕ). Steps w m (page_of vector LiteralRow word) word (loads x k (set_r vector t width (g (Mem x k (arm_of w m))) (arm_of w m)))) (sym at)
         (one_load w m r (page_of vector LiteralRow word) word (literal_mode offset19) false false false false _ _ (literal_form vector offset19) refl k extent width g fit x filled
         (e ∙ ap (literal_at19 k extent target) (sym (imm19_is (field 23 5 word) (part_lt 5 19 word))) ∙ ap (λ (i : ℕ). literal_at19 k extent i offset19) s))
 

@@ -2,7 +2,7 @@
 -- the steps done: a code of 64 or more tells a store, and what is left of it the bytes (`Made`). Assumes nothing.
 use Prim.Native.Nat.{ℕ, ◌+◌, ◌%◌, ◌<◌}
 use mathlib.Core.Path.{◌≡◌, refl, subst, ◌∙◌}
-use mathlib.Core.Bool.{Bool, true, false, not}
+use mathlib.Core.Bool.{Bool, true, false}
 use mathlib.Core.List.{List}
 use native.Mathlib.Omega.{arith}
 use borrow.Author.Tests.{ne_eqb, le-leb, lt-leb, not-false}
@@ -16,7 +16,7 @@ use Rattle.plan.specs.declared.ranges.Reach.TheVariants.{Alone, Ranged}
 use Rattle.plan.proofs.Refusals.{Passed, each, first_by}
 use Rattle.machine.specs.Machine.{Machine}
 use Rattle.machine.specs.Real.{Real}
-use Rattle.machine.specs.Step.{Step, stopped, moved, performed}
+use Rattle.machine.specs.Step.{Step, stopped, moved}
 use Rattle.machine.proofs.Reals.{RealStep, real_in}
 use Rattle.machine.proofs.Taints.{Follows, taints_in}
 use Rattle.execution.specs.Walk.{Log, after_steps}

@@ -17,7 +17,7 @@ use Rattle.execution.specs.Ends.{Early}
 use Rattle.execution.specs.Run.{machine_run, plain_window, turn_of}
 use Rattle.execution.proofs.Refusals.{begun_late, early_unchanged}
 use Rattle.machine.specs.Real.{Real}
-use Rattle.arm.specs.Choices.{bad_start, arm_step_in, arm_run, bad_turn_start, arm_turn}
+use Rattle.arm.specs.Choices.{bad_start, arm_step_in, arm_run, arm_turn}
 use Rattle.arm.proofs.Arm.{bad_is, step_in_as_arm}
 use Rattle.machine.proofs.Reals.{RealStep, real_in}
 

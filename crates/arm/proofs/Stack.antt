@@ -11,7 +11,7 @@ use Rattle.bits.specs.Fields.{field}
 use Rattle.bits.proofs.Choices.{pick_by}
 use Rattle.instruction.specs.declared.row.Row.{Row}
 use Rattle.instruction.specs.declared.row.Row.TheVariants.{NoRow, LiteralRow, PairRow, OrderedRow, UnscaledRow, PostRow, PreRow, RegisterRow, UnsignedRow, LoadExclusiveRow, StoreExclusiveRow, AcquireReleaseRow}
-use Rattle.arm.specs.Pseudocode.{Arm, SP, Align, MemOp, LOAD, STORE, PREFETCH, Operation, hint, sp_fault, access, CheckSPAlignment, case}
+use Rattle.arm.specs.Pseudocode.{Arm, SP, Align, MemOp, LOAD, STORE, PREFETCH, Operation, hint, sp_fault, access, case}
 use Rattle.arm.specs.Pages.{page_of}
 use Rattle.arm.specs.Unscaled.{unscaled}
 use Rattle.arm.specs.Ordered.{ordered}
