@@ -6,7 +6,7 @@ use mathlib.Core.List.{List, [], ◌∷◌}
 use native.Mathlib.Nat.{add-suc, add-zero}
 use native.Mathlib.Numerals.{add-one}
 use native.Mathlib.Omega.{arith}
-use borrow.Author.Tests.{lt-ltb, le-ltb}
+use borrow.Author.Tests.{lt-ltb}
 use lib.Dec.{ltb}
 use lib.ListN.{length, get_or, length-set}
 use Rattle.bits.specs.Choice.{pick}
@@ -24,15 +24,9 @@ module _ (l : List ℕ) (n i sum z h : ℕ) (more : i < n) (so : summed l i (n -
   summed_go : pick (ltb h 16) (pick (ltb (digit_of (get_or l (2 * i + 2) 0)) 16) (summed l (suc i) (n - suc i) (sum + byte_in l i)) 256) 256 ≡ z
   summed_go = rw high (rw (left n i more) at so)
 
-  pub summed_no_high : 15 < h → 256 ≡ z
-  summed_no_high p = rw (le-ltb h 16 (omega arith)) at summed_go
-
   module _ (d : ℕ) (yes : h ≤ 15) (low : d ≡ digit_of (get_or l (2 * i + 2) 0)) where
     summed_pair : pick (ltb d 16) (summed l (suc i) (n - suc i) (sum + byte_in l i)) 256 ≡ z
     summed_pair = rw low (rw (lt-ltb h 16 (omega arith)) at summed_go)
-
-    pub summed_no_low : 15 < d → 256 ≡ z
-    summed_no_low p = rw (le-ltb d 16 (omega arith)) at summed_pair
 
     byte_is : d ≤ 15 → h * 16 + d ≡ byte_in l i
     unfolding byte_in

@@ -1,14 +1,11 @@
 -- The window of a line by two addresses: its bytes run from the first to the last, or on past 2^32 and so over both ends. That one of
--- them is outside is what the test of each byte tells (`placed-tells`), and the two ends tell it too. Assumes nothing.
+-- them is outside is what the test of each byte tells (`placed_tells`), and the two ends tell it too. Assumes nothing.
 use Prim.Native.Nat.{ℕ, ◌+◌, ◌-◌, ◌%◌, ◌≤◌, ◌<◌}
 use mathlib.Core.Path.{◌≡◌, refl}
 use mathlib.Core.Bool.{Bool, true, false}
-use mathlib.Core.List.{List, [], ◌∷◌}
 use mathlib.Core.Logic.{inl, inr}
 use native.Mathlib.Omega.{arith}
-use borrow.Author.Tests.{leb-true, leb-false}
 use lib.Dec.{ltb, leb}
-use lib.ListN.{length}
 use Rattle.bits.specs.Choice.{pick}
 use Rattle.image.specs.Records.{placed}
 use Rattle.image.specs.Import.{any_beyond}
@@ -20,13 +17,6 @@ same_tells true true p q f g = refl
 same_tells false false p q f g = refl
 same_tells true false p q f g = absurd (q.1 refl (f (p.0 refl)))
 same_tells false true p q f g = absurd (p.1 refl (g (q.0 refl)))
-
-leb_tells : (a b : ℕ) → Tells (leb a b) (a ≤ b)
-leb_tells a b = (leb-true a b, (λ e g. omega (arith, g, leb-false a b e)))
-
-pub beyond_same : (a origin len : ℕ) → origin ≤ a → leb len (a - origin) ≡ leb (origin + len) a
-beyond_same a origin len h =
-    same_tells (leb len (a - origin)) (leb (origin + len) a) (leb_tells len (a - origin)) (leb_tells (origin + len) a) (λ g. omega arith) (λ g. omega arith)
 
 module _ (origin len a n : ℕ) (low : a < 4294967296) where
   module _ (last : ℕ) (is : last ≡ a + (n - 1)) (m : last < 4294967296) where
@@ -45,13 +35,6 @@ module _ (origin len a n : ℕ) (low : a < 4294967296) where
   of_across : 4294967296 ≤ a + (n - 1) → Ends origin len 0 4294967295 → Leaves origin len a n
   of_across m (inl h) = record { index = 4294967296 - a; counted = omega arith; address = inl (omega arith) }
   of_across m (inr h) = record { index = 4294967295 - a; counted = omega arith; address = inr (omega arith) }
-
-pub beyond_none : (origin len a n : ℕ) → n ≡ 0 → SomeBeyond origin len a n false
-beyond_none origin len a n e = record { is = none }
-  where
-    none : (bs : List ℕ) → length bs ≡ n → false ≡ any_beyond origin len (placed a bs)
-    none [] h = refl
-    none (b ∷ bs) h = absurd (omega (arith, h, e))
 
 module _ (origin len a n : ℕ) (low : a < 4294967296) (r : Bool) where
   tells_same : {Q : Type 0} → Tells r Q → (Q → Leaves origin len a n) → (Leaves origin len a n → Q) → SomeBeyond origin len a n r

@@ -69,9 +69,6 @@ check_end t origin len at n ended upper r z h e so = e ∙ (rw (drop_of_length-l
 
 -- ---- the writing
 
-pub sound_start : (origin len : ℕ) (t : List ℕ) → is_done (checked origin len 1 false 0 (lines_of t)) ≡ true → Sound origin len 0 t
-sound_start origin len t h = record { n = 1; ended = false; done = h }
-
 module _ (t : List ℕ) (origin len at upper : ℕ) (more : at < length t) (sound : Sound origin len upper (drop at t))
     (b u : ℕ) (count : b ≡ byte_in (take (length t - at) (drop at t)) 0) where
   count_is : b ≡ byte_in (drop at t) 0
@@ -103,12 +100,6 @@ module _ (t : List ℕ) (origin len at upper : ℕ) (more : at < length t) (soun
       let s = (sound_next (drop at t) (rest_some t at more) sound).0 in
       rw (rw (rest_is t at) at q, rw (rest_is t at) at g, ← behind_is t at b count_is)
       (rw (places_first upper (drop at t) (rest_some t at more) s, clears_append) at so)
-
-pub fill_end : (t : List ℕ) (origin at upper : ℕ) (xs zs : List ℕ) → length t ≤ at → puts origin (places_of upper (lines_of (drop at t))) xs ≡ zs → xs ≡ zs
-fill_end t origin at upper xs zs h so = rw (drop_of_length-le t h) at so
-
-pub clear_end : (t : List ℕ) (origin at upper : ℕ) (xs zs : List ℕ) → length t ≤ at → clears origin (places_of upper (lines_of (drop at t))) xs ≡ zs → xs ≡ zs
-clear_end t origin at upper xs zs h so = rw (drop_of_length-le t h) at so
 
 -- ---- both
 

@@ -1,6 +1,6 @@
--- The reply of an import is the lowest line's first fault (`import-lowest`), a refused import leaves memory and taints
--- (`import-refused`), and a done one leaves at each address what the last byte with it says, untainted, and all else
--- (`import-said`, `import-kept`). Assumes nothing.
+-- The reply of an import is the lowest line's first fault (`import_lowest`), a refused import leaves memory and taints
+-- (`import_refused`), and a done one leaves at each address what the last byte with it says, untainted, and all else
+-- (`import_said`, `import_kept`). Assumes nothing.
 use Prim.Native.Nat.{ℕ, zero, suc, ◌+◌, ◌-◌, ◌<◌}
 use mathlib.Core.Path.{◌≡◌, refl, sym, ap, ◌∙◌}
 use mathlib.Core.Bool.{Bool, true, false}

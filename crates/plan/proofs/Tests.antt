@@ -1,5 +1,5 @@
 -- Laws of the tests of a plan. Assumes nothing.
-use Rattle.std.proofs.Common.{◌≡◌, ℕ, zero, suc, ◌+◌, ◌%◌, ◌^◌, ◌<◌, ◌≤◌, Bool, true, false, not, ◌||◌, eqb, ltb, List, ◌++◌, sym, refl, ap, ◌∙◌, subst, arith, ltb-false, ltb-true, eqb-true}
+use Rattle.std.proofs.Common.{◌≡◌, ℕ, ◌+◌, ◌%◌, ◌^◌, ◌<◌, ◌≤◌, Bool, true, false, not, ◌||◌, eqb, ltb, List, ◌++◌, sym, refl, ap, ◌∙◌, subst, arith, ltb-false, ltb-true, eqb-true}
 use Rattle.bits.specs.Choice.{pick}
 use Rattle.instruction.specs.declared.answer.Answer.{Answer}
 use Rattle.instruction.specs.declared.answer.Answer.TheVariants.{TaintedAddress, Misaligned}
@@ -127,10 +127,6 @@ same_lengths w len taints pc h =
     lengths_at (ltb (2 ^ 64) (w.origin + len)) (ltb len w.readonly) (eqb taints len) taints len refl (not (eqb (pc % 4) 0)) h
 
 -- ---- 5
-
-pub base_held : (x : ℕ) {r : ℕ} (b : Bool) → r ≡ x → ¬ (r ≡ 0) → true ≡ pick (tainted x) true b
-base_held zero b e h = absurd (h e)
-base_held (suc x) b e h = refl
 
 -- of no taint a part is used that is none
 none_used : (z : Bool) → pick z (0 % 2 ^ 32) 0 ≡ 0

@@ -1,4 +1,4 @@
--- `image::line::fault` meets its contract: the tests stand in the order of the list, and shape and sum come at once (`sum-line`).
+-- `image::line::fault` meets its contract: the tests stand in the order of the list, and shape and sum come at once (`sum_line`).
 -- Assumes nothing.
 use Rattle.image.specs.Import.{faults_in}
 use Rattle.image.proofs.Tests.{sum_line}
