@@ -1,43 +1,40 @@
--- What each return of the decoder shows, over plain values. Assumes nothing.
+-- What a word's row says of its answer and its instruction, and what the answer of examining a word says. Assumes nothing.
 use Prim.Native.Nat.{ℕ}
-use mathlib.Core.Path.{◌≡◌, refl, sym, ap, ◌∙◌}
+use mathlib.Core.Path.{◌≡◌, refl}
 use mathlib.Core.Bool.{Bool, true, false, ◌&&◌, ◌||◌, not}
 use lib.Dec.{eqb}
 use Rattle.bits.specs.Choice.{pick}
 use Rattle.instruction.specs.declared.answer.Answer.{Answer}
 use Rattle.instruction.specs.declared.answer.Decoded.{Decoded}
-use Rattle.instruction.specs.declared.row.Row.{Row}
-use Rattle.instruction.specs.declared.family.Family.{Family}
 use Rattle.instruction.specs.Answers.{answer_number}
-use Rattle.instruction.specs.Table.{columns_of, matches, in_set, row_of, undefined, allocated, unpredictable}
+use Rattle.instruction.specs.Table.{Columns, columns_of, instruction_of, in_set, row_of, undefined, allocated, unpredictable}
 use Rattle.decoder.specs.Decoding.{decode_of, decoded_from, class_of, empty}
-use Rattle.instruction.proofs.Rows.{no_row, set_matches, of_set, rowed}
+use Rattle.instruction.proofs.Rows.{is_row, set_is}
 
--- ---- answers
+-- ---- by the row
+
+both : {A : Type 0} (b u : Bool) (x y : A) → pick (b && not u) x y ≡ pick b (pick u y x) y
+both false u x y = refl
+both true false x y = refl
+both true true x y = refl
+
+module _ (w : ℕ) where
+  abbrev of_row : Columns
+  of_row = columns_of (row_of w)
+
+  pub class_by : class_of w ≡ pick (is_row (row_of w)) (pick (of_row.undefined w) Answer.Undefined (pick (of_row.unpredictable w) Answer.Unpredictable Answer.Done)) Answer.NotInSet
+  unfolding class_of undefined unpredictable
+  class_by = rw (set_is w)
+
+  pub instruction_by : (decode_of w).instruction ≡ pick (is_row (row_of w)) (pick (of_row.undefined w) empty (record { family = of_row.family w })) empty
+  unfolding decode_of allocated undefined instruction_of
+  instruction_by = rw (set_is w, both (is_row (row_of w)) (of_row.undefined w) (record { family = of_row.family w }) empty)
+
+-- ---- by the answer of examining
 
 -- what examining a word gives
 abbrev pub Examined : ℕ → Decoded → Type 0
 Examined w r = (r.answer ≡ class_of w) × (r.instruction ≡ (decode_of w).instruction)
-
-turned : {A : Type 0} (b : Bool) (x y : A) → pick b x y ≡ pick (not b) y x
-turned true x y = refl
-turned false x y = refl
-
--- an arm of a match on a row
-module _ (w : ℕ) {l : Row} {r : Decoded} (e : l ≡ row_of w) (k : Row) (g : l ≡ k) where
-  pub outside : k ≡ Row.NoRow → (r.answer ≡ Answer.NotInSet) × (r.instruction ≡ empty) → Examined w r
-  unfolding class_of decode_of allocated
-  outside n p = rw (set_matches w ∙ ap (matches w) (sym e ∙ g ∙ n) ∙ no_row w) p
-
-  pub viewed_is : {u v : Bool} {f : Family} → (k ≡ Row.NoRow → ◌≡◌ {A = Bool} false true) → u ≡ (columns_of k).undefined w → v ≡ (columns_of k).unpredictable w
-      → f ≡ (columns_of k).family w
-      → (r.answer ≡ pick u Answer.Undefined (pick v Answer.Unpredictable Answer.Done)) × (r.instruction ≡ pick u empty (record { family = f })) → Examined w r
-  unfolding class_of decode_of allocated
-  viewed_is {u} {v} {f} n p q h a =
-      let is = rowed w (sym e ∙ g) in
-      rw (of_set w (sym e ∙ g) n, is.undefined_is, is.unpredictable_is, is.instruction_is, ← p, ← q, ← h) (a.0, a.1 ∙ turned u empty (record { family = f }))
-
--- ---- what the answer of examining a word says
 
 abbrev class : Bool → Bool → Bool → Answer
 class s u v = pick s (pick u Answer.Undefined (pick v Answer.Unpredictable Answer.Done)) Answer.NotInSet

@@ -1,4 +1,3 @@
 pub mod Arms
 pub mod Decodes
-pub mod Keyless
 pub mod Products

@@ -15,6 +15,7 @@ use instruction::{Answer, Decoded};
 pub use view::examine;
 
 // The instruction of a word, or answer 2 or 3 and the empty instruction.
+#[tactic(auto, using(crate::proofs::Arms::decoded_is))]
 pub fn decode(word: u32) -> Decoded
     ensures { result ≡ decode_of word }
 {
@@ -50,6 +51,7 @@ pub fn classify(word: u32) -> Answer
 }
 
 // Whether a word is of the set and not undefined.
+#[tactic(auto, using(crate::proofs::Arms::allocated_is))]
 pub fn is_allocated(word: u32) -> bool
     ensures { result ≡ allocated word }
 {

@@ -5,6 +5,7 @@ ghost use Rattle.instruction.specs.Table.{row_of};
 
 use instruction::Row;
 
+#[tactic(auto, unfolding(instruction::specs::Table::row_of, bits::specs::Fields::part))]
 pub fn row_of(word: u32) -> Row
     ensures { result ≡ row_of word }
 {
@@ -18,6 +19,7 @@ pub fn row_of(word: u32) -> Row
     }
 }
 
+#[tactic(auto, unfolding(instruction::specs::Table::row_of, bits::specs::Fields::part))]
 fn literal_or_ordered(word: u32) -> Row
     requires { field 29 27 word * 2 + field 25 25 word ≡ 0b011_0 }
     ensures { result ≡ row_of word }
@@ -33,6 +35,7 @@ fn literal_or_ordered(word: u32) -> Row
     }
 }
 
+#[tactic(auto, unfolding(instruction::specs::Table::row_of, bits::specs::Fields::part))]
 fn with_size(word: u32) -> Row
     requires { field 29 27 word * 2 + field 25 25 word ≡ 0b111_0 }
     ensures { result ≡ row_of word }
@@ -51,6 +54,7 @@ fn with_size(word: u32) -> Row
     }
 }
 
+#[tactic(auto, unfolding(instruction::specs::Table::row_of, bits::specs::Fields::part))]
 fn exclusive(word: u32) -> Row
     requires { field 29 27 word * 2 + field 25 25 word ≡ 0b001_0 }
     ensures { result ≡ row_of word }

@@ -7,6 +7,7 @@ use crate::{family, row, undefined, unpredictable};
 use instruction::{Answer, Decoded, Family, Instruction, Row};
 
 // The answer of classifying a word, with the instruction of decoding it.
+#[tactic(auto, using(crate::proofs::Arms::class_by, crate::proofs::Arms::instruction_by), unfolding(bits::specs::Fields::part))]
 pub fn examine(word: u32) -> Decoded
     ensures { (result.answer ≡ class_of word) × (result.instruction ≡ (decode_of word).instruction) }
 {

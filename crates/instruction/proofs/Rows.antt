@@ -1,5 +1,5 @@
--- The rows of the table: a word matches at most one, its columns say what the word is, and keys tell which row. Assumes nothing.
-use Prim.Native.Nat.{ℕ, ◌+◌, ◌*◌, ◌<◌}
+-- The rows of the table: a word matches at most one, and its columns say what the word is. Assumes nothing.
+use Prim.Native.Nat.{ℕ}
 use mathlib.Core.Path.{◌≡◌, refl, sym, ap, ◌∙◌}
 use mathlib.Core.Bool.{Bool, true, false, ◌||◌, not}
 use mathlib.Core.List.{List, [], ◌∷◌}
@@ -7,9 +7,9 @@ use native.Mathlib.Omega.{arith}
 use lib.Dec.{eqb}
 use borrow.Author.Tests.{eqb-true, not-false}
 use Rattle.bits.specs.Choice.{any}
-use Rattle.bits.specs.Fields.{part, field}
+use Rattle.bits.specs.Fields.{field}
 use Rattle.bits.proofs.Choices.{pick_by, neither}
-use Rattle.bits.proofs.Parts.{part_lt, cut, Has, has_true}
+use Rattle.bits.proofs.Parts.{Has, has_true}
 use Rattle.instruction.specs.Types.{Row}
 use Rattle.instruction.specs.Undefined.{size_opc, undefined_size, undefined_prefetch, undefined_option, undefined_second, undefined_unused}
 use Rattle.instruction.specs.Table.{columns_of, rows, matches, in_set, first_row, row_of, undefined, unpredictable, instruction_of}
@@ -77,6 +77,18 @@ of_set w e n = go (in_set w) refl
     go true t = t
     go false t = t ∙ n (sym e ∙ set_none w t)
 
+-- whether it is a row
+abbrev pub is_row : Row → Bool
+is_row Row.NoRow = false
+is_row r = true
+
+pub set_is : (w : ℕ) → in_set w ≡ is_row (row_of w)
+set_is w = go (row_of w) refl
+  where
+    go : (r : Row) → row_of w ≡ r → in_set w ≡ is_row r
+    go Row.NoRow e = set_matches w ∙ ap (matches w) e ∙ no_row w
+    go r e = of_set w e (λ n. cc)
+
 -- what a word is, by the columns of its row
 pub record Rowed (w : ℕ) (r : Row) : Type 0 where
   pub undefined_is : undefined w ≡ (columns_of r).undefined w
@@ -111,88 +123,3 @@ unfolding undefined_unused
 unused_no w u =
     let n = neither (undefined_second w) (not (eqb (field 20 16 w) 31)) u in
     (second_no w n.0, eqb-true _ _ (not-false _ n.1))
-
--- ---- the keys of a row: bits 29..27 and 25, bit 24, and bits 21 and 11..10 as one number; for the ninth family bits 23, 22, 21 and
--- 15; and bit 26, where it is 0 alone
-
-abbrev pub group : ℕ → ℕ
-group w = field 29 27 w * 2 + field 25 25 w
-
-abbrev pub form : ℕ → ℕ
-form w = field 21 21 w * 4 + field 11 10 w
-
-abbrev pub Keys : ℕ → Row → Type 0
-Keys w Row.NoRow = ⊥
-Keys w Row.LiteralRow = (group w ≡ 0b011_0) × (field 24 24 w ≡ 0)
-Keys w Row.PairRow = group w ≡ 0b101_0
-Keys w Row.OrderedRow = (group w ≡ 0b011_0) × (field 24 24 w ≡ 1) × (field 26 26 w ≡ 0) × (form w ≡ 0b000)
-Keys w Row.UnscaledRow = (group w ≡ 0b111_0) × (field 24 24 w ≡ 0) × (form w ≡ 0b000)
-Keys w Row.PostRow = (group w ≡ 0b111_0) × (field 24 24 w ≡ 0) × (form w ≡ 0b001)
-Keys w Row.PreRow = (group w ≡ 0b111_0) × (field 24 24 w ≡ 0) × (form w ≡ 0b011)
-Keys w Row.RegisterRow = (group w ≡ 0b111_0) × (field 24 24 w ≡ 0) × (form w ≡ 0b110)
-Keys w Row.UnsignedRow = (group w ≡ 0b111_0) × (field 24 24 w ≡ 1)
-Keys w Row.LoadExclusiveRow =
-    (group w ≡ 0b001_0) × (field 24 24 w ≡ 0) × (field 26 26 w ≡ 0) × (field 21 21 w ≡ 0) × (field 23 23 w ≡ 0) × (field 22 22 w ≡ 1)
-Keys w Row.StoreExclusiveRow =
-    (group w ≡ 0b001_0) × (field 24 24 w ≡ 0) × (field 26 26 w ≡ 0) × (field 21 21 w ≡ 0) × (field 23 23 w ≡ 0) × (field 22 22 w ≡ 0)
-Keys w Row.AcquireReleaseRow =
-    (group w ≡ 0b001_0) × (field 24 24 w ≡ 0) × (field 26 26 w ≡ 0) × (field 21 21 w ≡ 0) × (field 23 23 w ≡ 1) × (field 15 15 w ≡ 1)
-
-module _ (w : ℕ) where
-  -- how the keys and the columns of the table cut the same bits
-  record Cuts : Type 0 where
-    pair : part 24 2 w ≡ part 24 1 w + part 25 1 w * 2
-    below_27 : part 27 3 w < 8
-    below_26 : part 26 1 w < 2
-    below_25 : part 25 1 w < 2
-    below_24 : part 24 1 w < 2
-    below_10 : part 10 2 w < 4
-
-  cuts : Cuts
-  cuts =
-      record {
-        pair = omega (arith, cut (2 ∷ []) 24 w, cut (1 ∷ 1 ∷ []) 24 w);
-        below_27 = part_lt 27 3 w;
-        below_26 = part_lt 26 1 w;
-        below_25 = part_lt 25 1 w;
-        below_24 = part_lt 24 1 w;
-        below_10 = part_lt 10 2 w;
-      }
-
-  keys_of : (r : Row) → Has w (columns_of r).fixed → Keys w r
-  keys_of Row.NoRow h = omega arith
-  keys_of Row.LiteralRow h = omega (arith, cuts)
-  keys_of Row.PairRow h = omega (arith, cuts)
-  keys_of Row.OrderedRow h = omega (arith, cuts)
-  keys_of Row.UnscaledRow h = omega (arith, cuts)
-  keys_of Row.PostRow h = omega (arith, cuts)
-  keys_of Row.PreRow h = omega (arith, cuts)
-  keys_of Row.RegisterRow h = omega (arith, cuts)
-  keys_of Row.UnsignedRow h = omega (arith, cuts)
-  keys_of Row.LoadExclusiveRow h = omega (arith, cuts)
-  keys_of Row.StoreExclusiveRow h = omega (arith, cuts)
-  keys_of Row.AcquireReleaseRow h = omega (arith, cuts)
-
-  has_of : (r : Row) → Keys w r → Has w (columns_of r).fixed
-  has_of Row.NoRow k = absurd k
-  has_of Row.LiteralRow k = omega (arith, cuts)
-  has_of Row.PairRow k = omega (arith, cuts)
-  has_of Row.OrderedRow k = omega (arith, cuts)
-  has_of Row.UnscaledRow k = omega (arith, cuts)
-  has_of Row.PostRow k = omega (arith, cuts)
-  has_of Row.PreRow k = omega (arith, cuts)
-  has_of Row.RegisterRow k = omega (arith, cuts)
-  has_of Row.UnsignedRow k = omega (arith, cuts)
-  has_of Row.LoadExclusiveRow k = omega (arith, cuts)
-  has_of Row.StoreExclusiveRow k = omega (arith, cuts)
-  has_of Row.AcquireReleaseRow k = omega (arith, cuts)
-
-  pub keyed : (r : Row) → Keys w r → row_of w ≡ r
-  keyed r k = row_is w r (has_of r k)
-
-  pub unkeyed : ((r : Row) → Keys w r → ⊥) → row_of w ≡ Row.NoRow
-  unkeyed n = go (in_set w) refl
-    where
-      go : (b : Bool) → in_set w ≡ b → row_of w ≡ Row.NoRow
-      go true e = absurd (n (row_of w) (keys_of (row_of w) (row_has w e)))
-      go false e = set_none w e

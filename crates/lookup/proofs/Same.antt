@@ -20,9 +20,9 @@ use Rattle.instruction.specs.Operations.{literal_at, sized_at, pair_at, exclusiv
 use Rattle.instruction.specs.Operands.{sized_in, literal_op_in, literal_in, pair_bits, pair_op_in, pair_in, signed_in, index_in, unsigned_in, exclusive_bits, exclusive_op_in, store_exclusive_op_in, exclusive_in, store_exclusive_in}
 use Rattle.instruction.specs.Unpredictable.{unpredictable_base, unpredictable_pair, unpredictable_status}
 use Rattle.instruction.specs.Table.{columns_of, rows, matches, first_row, row_of}
-use Rattle.instruction.proofs.Rows.{set_matches, of_set}
+use Rattle.instruction.proofs.Rows.{set_matches, of_set, is_row}
 use Rattle.decoder.specs.Decoding.{decode_of}
-use Rattle.decoder.proofs.Arms.{Examined, outside, viewed_is, decoded_is}
+use Rattle.decoder.proofs.Arms.{Examined, class_by, instruction_by, decoded_is}
 use Rattle.lookup.specs.Entries.{upper, lower, allows, families_in, code_in, names, operation_code, entry_of, entries}
 use Rattle.lookup.specs.Lookup.{row_in, seen, with_bit15, examine_as, examine_by, examine_in, decode_in}
 use Rattle.lookup.proofs.Rule.{names_allowed, code_allowed, entry_is}
@@ -210,22 +210,12 @@ by_code w c Row.AcquireReleaseRow n h = ap (λ (k : ℕ). seen (undefined_unused
 -- ---- every word
 
 module _ (w : ℕ) where
-  some_row : (c : ℕ) (r : Row) → row_of w ≡ r → ¬ (r ≡ Row.NoRow) → c ≡ operation_code r w → Examined w (examine_as r c w)
-  some_row c r e n h = rw (by_code w c r n h) (viewed_is w {l = row_of w} {r = plain r w} refl r e (λ q. absurd (n q)) refl refl refl (refl, refl))
+  some_row : (c : ℕ) (r : Row) → row_of w ≡ r → is_row r ≡ true → ¬ (r ≡ Row.NoRow) → c ≡ operation_code r w → Examined w (examine_as r c w)
+  some_row c r e t n h = rw (by_code w c r n h) (rw (class_by w, e, t), rw (instruction_by w, e, t))
 
   by_row : (c : ℕ) (r : Row) → row_of w ≡ r → (¬ (r ≡ Row.NoRow) → c ≡ operation_code r w) → Examined w (examine_as r c w)
-  by_row c Row.NoRow e h = outside w {l = row_of w} {r = examine_as Row.NoRow c w} refl Row.NoRow e refl (refl, refl)
-  by_row c Row.LiteralRow e h = some_row c Row.LiteralRow e (λ q. never cc) (h (λ q. never cc))
-  by_row c Row.PairRow e h = some_row c Row.PairRow e (λ q. never cc) (h (λ q. never cc))
-  by_row c Row.OrderedRow e h = some_row c Row.OrderedRow e (λ q. never cc) (h (λ q. never cc))
-  by_row c Row.UnscaledRow e h = some_row c Row.UnscaledRow e (λ q. never cc) (h (λ q. never cc))
-  by_row c Row.PostRow e h = some_row c Row.PostRow e (λ q. never cc) (h (λ q. never cc))
-  by_row c Row.PreRow e h = some_row c Row.PreRow e (λ q. never cc) (h (λ q. never cc))
-  by_row c Row.RegisterRow e h = some_row c Row.RegisterRow e (λ q. never cc) (h (λ q. never cc))
-  by_row c Row.UnsignedRow e h = some_row c Row.UnsignedRow e (λ q. never cc) (h (λ q. never cc))
-  by_row c Row.LoadExclusiveRow e h = some_row c Row.LoadExclusiveRow e (λ q. never cc) (h (λ q. never cc))
-  by_row c Row.StoreExclusiveRow e h = some_row c Row.StoreExclusiveRow e (λ q. never cc) (h (λ q. never cc))
-  by_row c Row.AcquireReleaseRow e h = some_row c Row.AcquireReleaseRow e (λ q. never cc) (h (λ q. never cc))
+  by_row c Row.NoRow e h = (rw (class_by w, e), rw (instruction_by w, e))
+  by_row c r e h = some_row c r e refl (λ q. never cc) (h (λ q. never cc))
 
   looked_up : examine_in entries w ≡ examine_as (row_of w) (code_in (entry_of (part 22 10 w))) w
   unfolding examine_in examine_by
