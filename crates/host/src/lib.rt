@@ -20,7 +20,7 @@ use stream::{Lister, Pushed};
 // What a run returns beside what it leaves in the slices: the record after the steps done, how many they are, and the
 // answer, code and address of the last step tried.
 #[repr(C)]
-#[derive(Drop)]
+#[derive(Clone, Copy)]
 pub struct RunReply {
     pub session: State,
     pub steps: u64,

@@ -9,7 +9,7 @@ use machine::State;
 use session::StepReply;
 
 // What a step leaves in the record, and says beside it.
-#[derive(Drop)]
+#[derive(Clone, Copy)]
 pub struct Lent {
     pub state: State,
     pub reply: StepReply,

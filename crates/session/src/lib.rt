@@ -19,7 +19,7 @@ use vectors::Halves;
 // What a step says beside the record that it leaves, the answer by its number; the status is 0 but for a store-exclusive
 // that fails.
 #[repr(C)]
-#[derive(Drop)]
+#[derive(Clone, Copy)]
 pub struct StepReply {
     pub answer: u64,
     pub code: u64,
