@@ -33,11 +33,11 @@ PAGES = [CRATES / 'promises/specs' / f'{name}.antt' for name in PAGE_NAMES]
 WORD = re.compile(r'(\.?)([^\s(){}\[\];:,.&<>⌜⌝]+)')
 HEAD = re.compile(r'(?:(?:unfoldable|abbrev|pub) )*(?:(record|data|use|mod) )?(\S+)( :)?')
 DECLARED = re.compile(r'^(?:pub )?(struct|enum) (\w+) \{\n(.*?)^\}', re.M | re.S)
-SPECS_USED = re.compile(r'^(?:pub |ghost )?use (Rattle·[^\s{;]+?)(?:\.\{([^}]*)\})?;?$', re.M)
-MODULE_USED = re.compile(r'^use (Rattle·\S+) as (\w+)$', re.M)
-CODE_USED = re.compile(r'^(?:pub )?use (?:crate::)?(\w+)::\{?([\w, ]+)\}?;', re.M)
+SPECS_USED = re.compile(r'^(?:pub |ghost )?use (Rattle\.[^\s{;]+?)(?:\.\{([^}]*)\})?;?$', re.M)
+MODULE_USED = re.compile(r'^use (Rattle\.\S+) as (\w+)$', re.M)
+CODE_USED = re.compile(r'^(?:pub )?use (?:crate::)?(\w+)::\{?([\w,\s]+)\}?;', re.M)
 FUNCTION = re.compile(r'^impl (\w+) \{|^\}|^ *pub (?:extern "C" )?fn (\w+)(.*?)^ *\{', re.M | re.S)
-CLAUSE = re.compile(r'\b(ensures|requires)\b[^{]*\{(.*?⌝) \}', re.S)
+CLAUSE = re.compile(r'^ *(ensures|requires)\b[^{]*\{ (.*?) \}$', re.M | re.S)
 
 
 class Definition(NamedTuple):
@@ -116,10 +116,11 @@ def spelled_out(text):
 def imports_in(text, path):
     found = {}
     for module, listed in SPECS_USED.findall(text):
-        crate, part, rest = re.fullmatch(r'Rattle·(\w+?)(?:·\w+)?\.(\w+)\.(.+)', module).groups()
+        crate, _, inside = module.removeprefix('Rattle.').partition('.')
         if not (CRATES / crate).is_dir():
             continue
-        steps = [step for step in rest.split('.') if step != 'the-variants']
+        part, _, rest = inside.partition('.')
+        steps = [step for step in rest.split('.') if step != 'TheVariants']
         owner = steps.pop() if steps[0] == 'declared' else None
         if owner:
             there = CRATES.joinpath(crate, 'src', *(steps[1:] or ['lib'])).with_suffix('.rt')
@@ -132,7 +133,7 @@ def imports_in(text, path):
             found[here or name] = there, owner or name
     for where, listed in CODE_USED.findall(text):
         for there in filter(pathlib.Path.exists, (CRATES / where / 'src/lib.rt', path.with_name(where + '.rt'))):
-            found.update({name: (there, name) for name in listed.split(', ')})
+            found.update({name: (there, name) for name in re.findall(r'\w+', listed)})
     return found
 
 
@@ -170,7 +171,8 @@ def closure(roots):
 def contracts_of(crate):
     """The file and the clauses, each with its kind, of every function that a library exports."""
     lib = CRATES / crate / 'src/lib.rt'
-    passed_on = set(re.findall(r'^pub use (\w+)::(\w+);', lib.read_text(), re.M)) if lib.exists() else ()
+    passed_on = {(module, name) for module, listed in re.findall(r'^pub use (\w+)::\{?([\w,\s]+)\}?;', lib.read_text(), re.M)
+                 for name in re.findall(r'\w+', listed)} if lib.exists() else ()
     opened = {'lib', *re.findall(r'^pub mod (\w+);', lib.read_text(), re.M)} if lib.exists() else ()
     for path in sorted(lib.parent.glob('*.rt')) if lib.exists() else ():
         owner = None
@@ -182,7 +184,8 @@ def contracts_of(crate):
 
 
 def crates_in_order():
-    below = dict(line.split(':') for line in (CRATES.parent / 'crates.txt').read_text().split('\n') if ':' in line)
+    # A static library exports what libraries have, with their contracts.
+    below = dict(line.split(':') for line in (CRATES.parent / 'crates.txt').read_text().split('\n') if ':' in line and ' staticlib' not in line)
     order = {}
 
     def visit(crate):
