@@ -130,11 +130,7 @@ pub fn milestarling_list(bytes: &[u8], output: &mut [u8]) -> TextReply
 }
 
 // The lines of the words that are whole with one more fragment of a stream, at the start of an output.
-pub fn milestarling_lister_push(
-    lister: Lister,
-    fragment: &[u8],
-    output: &mut [u8],
-) -> ListerReply
+pub fn milestarling_lister_push(lister: Lister, fragment: &[u8], output: &mut [u8]) -> ListerReply
     ensures { lister_outcome result output.new ≡ lister_numbered (call_of lister (push fragment.now output.old)) }
 {
     lister_reply(lister.push(fragment, output))
