@@ -25,7 +25,7 @@ use Rattle.machine.specs.Machine.{Machine, operands_of, effect_of, code_of}
 use Rattle.machine.specs.Refusals.{access_refusals, refusals, bad}
 use Rattle.machine.specs.Step.{shown, Step, stopped, moved, perform_of, step_in, step_of}
 use Rattle.machine.proofs.Taints.{Follows, taints_in, taints_by_rule}
-use Rattle.execution.specs.Walk.{Walked, go_on, walk_of, numbers_of, statuses_of, Log, log, logged, short, run_of, shown_at, after_steps, too_short}
+use Rattle.execution.specs.Walk.{Walked, go_on, walk_of, numbers_of, statuses_of, Log, logged, short, run_of, shown_at, after_steps, too_short}
 use Rattle.execution.specs.Ends.{alone}
 use Rattle.execution.specs.Run.{machine_run}
 use Rattle.execution.proofs.Walks.{numbers_long, statuses_long, long_enough, walk_short, trace_begins, statuses_begin, log_of, after_cons, after_log, same_at}

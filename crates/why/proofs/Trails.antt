@@ -266,14 +266,14 @@ module _ (g : Past) (full : length g.start.registers ≡ 64) where
 -- ---- every place in memory on a path lies in memory, so that no address of a link wraps
 
 abbrev pub AllFine : ℕ → List Link → Type 0
-AllFine len [] = Unit {0}
-AllFine len (l ∷ ls) = Fine len l.place × AllFine len ls
+AllFine n [] = Unit {0}
+AllFine n (l ∷ ls) = Fine n l.place × AllFine n ls
 
-follow_fine : (len : ℕ) (q : Place) (j : ℕ) (earlier : Place → Trail) (o : Origin) → Fine len q → FineFrom len o → ((p : Place) → Fine len p → AllFine len (earlier p).links) → AllFine len (follow q j earlier o).links
-follow_fine len q j earlier none f h k = tt
-follow_fine len q j earlier (from o) f h k = go (copied q o)
+follow_fine : (n : ℕ) (q : Place) (j : ℕ) (earlier : Place → Trail) (o : Origin) → Fine n q → FineFrom n o → ((p : Place) → Fine n p → AllFine n (earlier p).links) → AllFine n (follow q j earlier o).links
+follow_fine n q j earlier none f h k = tt
+follow_fine n q j earlier (from o) f h k = go (copied q o)
   where
-    go : (b : Bool) → AllFine len (pick b (ahead (link q (suc j)) (earlier o)) (earlier o)).links
+    go : (b : Bool) → AllFine n (pick b (ahead (link q (suc j)) (earlier o)) (earlier o)).links
     go true = (f, k o h)
     go false = k o h
 
