@@ -73,6 +73,7 @@ record Three (line a t b : List ℕ) : Type 0 where
 
 three_by : {line a t b : List ℕ} → Parted 9 (a ∷ t ∷ b ∷ []) line → Three line a t b
 three_by (more f (more g (only h))) = record { whole = refl; no_tab = (free_without f, free_without h) }
+three_by (more f (more g (more h none))) = elim none [ ]
 
 three_of : (line a t b : List ℕ) → fields_of line ≡ a ∷ t ∷ b ∷ [] → Three line a t b
 three_of line a t b e = three_by (subst (λ ps. Parted 9 ps line) e (parted 9 line))

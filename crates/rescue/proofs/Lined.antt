@@ -10,7 +10,7 @@ use native.Mathlib.Numerals.{add-one}
 use native.Mathlib.Omega.{arith}
 use borrow.Author.Tests.{lt-ltb, le-ltb, le-leb, lt-leb, leb-true}
 use lib.Dec.{leb}
-use lib.ListN.{length, take, drop, get_or, length-append, drop_of_length-le}
+use lib.ListN.{length, take, drop, get_or, length-append}
 use lib.Seq.{sets-eq, take_at, take_all, take-suc, get_or-take}
 use Rattle.bits.proofs.Choices.{tested}
 use Rattle.ascii.specs.route.Puts.{Puts}
@@ -18,24 +18,11 @@ use Rattle.ascii.proofs.Pieces.{fits}
 use Rattle.listing.specs.Listing.{hex_digit, line_text, line_most}
 use Rattle.listing.proofs.Steps.{line_short}
 use Rattle.rescue.specs.Rescue.{Digits}
-use Rattle.rescue.specs.route.Search.{until, digit_of, hex_n}
+use Rattle.rescue.specs.route.Search.{digit_of, hex_n}
 use Rattle.rescue.specs.Whole.{LowerDigit, EightDigits}
 use Rattle.rescue.specs.route.Steps.{DigitsAre}
-use Rattle.rescue.proofs.Parts.{until_on, until_here}
 use Rattle.rescue.proofs.Hex.{digit_back, digit_is, hex_same, hex_length}
 use Rattle.rescue.proofs.Fates.{body_of, line_is, line_length, no_newline}
-
--- ---- where a byte first stands
-
-module _ (s : ℕ) (xs : List ℕ) (i : ℕ) {t : ℕ} (e : i + until s (drop i xs) ≡ t) where
-  pub found_here : i < length xs → get_or xs i 0 ≡ s → i ≡ t
-  found_here h k = omega (arith, e, until_here s xs i h k)
-
-  pub found_on : i < length xs → ¬ (get_or xs i 0 ≡ s) → i + 1 + until s (drop (i + 1) xs) ≡ t
-  found_on h n = rw (add-one i) (omega (arith, e, until_on s xs i h n))
-
-  pub found_none : length xs ≤ i → i ≡ t
-  found_none h = omega (arith, e, ap (until s) (drop_of_length-le xs h))
 
 -- ---- a digit
 

@@ -14,7 +14,7 @@ use lib.ListN.{length, take, drop, get_or, length-append, length-drop, drop_of_l
 use lib.Seq.{sets, drop-drop, drop-cons}
 use Rattle.bits.specs.Choice.{pick}
 use Rattle.ascii.specs.route.Puts.{Puts}
-use Rattle.ascii.proofs.Pieces.{after, nothing, fits}
+use Rattle.ascii.proofs.Pieces.{after, fits}
 use Rattle.rescue.specs.Lines.{lead, lines_of}
 use Rattle.rescue.specs.Rescue.{FateOf, Fates, none, next, line_out, output_of, report_line, report_from, report_of, outcome, lacks, both_put, RescueOf}
 use Rattle.rescue.specs.declared.Reply.{Reply}
@@ -113,9 +113,6 @@ pub record Counted (input : List ℕ) (i lines : ℕ) : Type 0 where
   pub some : 0 < lines
   pub all : lines ≡ length (lines_of (drop i input))
 
-pub counted_none : (input : List ℕ) → length input ≡ 0 → 0 ≡ length (lines_of input)
-counted_none input h = ap (λ (t : List ℕ). length (lines_of t)) (sym (drop_of_length-le input {i = 0} (omega (arith, h))))
-
 pub counted_last : (input : List ℕ) → ¬ (length input ≡ 0) → Counted input (length input - 1) 1
 counted_last input h =
     let k = length input - 1 in
@@ -140,9 +137,6 @@ module _ {input : List ℕ} {i lines : ℕ} (c : Counted input i lines) where
             (λ j. c.all j + e j) ∙ byte_before (get_or input k 0) (lines_of (drop i input)) some (eqb (get_or input k 0) 10)
             ∙ ap (λ (t : List ℕ). length (lines_of t)) (sym rest);
       }
-
-  pub counted_end : i ≤ 0 → lines ≡ length (lines_of input)
-  counted_end h = let e : i ≡ 0 = omega arith in c.all ∙ ap (λ (j : ℕ). length (lines_of (drop j input))) e
 
 -- ---- measuring
 
@@ -218,9 +212,6 @@ pub record Putting (input output report after reportAfter : List ℕ) (at n end 
   pub passed : Passed input at n done
   pub lines : Puts output 0 (output_of done) after end
   pub rows : Puts report 0 (report_of done) reportAfter reportEnd
-
-pub putting_none : (input output report : List ℕ) → Putting input output report output report 0 0 0 0
-putting_none input output report = record { done = []; passed = passed_none input; lines = nothing output 0; rows = nothing report 0 }
 
 module _ {input output report ys zs : List ℕ} {at n i j : ℕ} (m : Putting input output report ys zs at n i j) where
   pub putting_end : length input ≤ at → PutAs input output report ys zs i j

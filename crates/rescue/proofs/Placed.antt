@@ -14,9 +14,7 @@ use Rattle.ascii.specs.route.Puts.{Puts}
 use Rattle.ascii.proofs.Pieces.{after, fits}
 use Rattle.listing.specs.Listing.{line_text, line_most}
 use Rattle.listing.proofs.Steps.{line_short}
-use Rattle.rescue.specs.Rescue.{FateOf, line_out}
-use Rattle.rescue.specs.declared.Fate.{Fate}
-use Rattle.rescue.specs.declared.Fate.TheVariants.{Kept, Restored, Dropped}
+use Rattle.rescue.specs.declared.Fate.TheVariants.{Kept}
 use Rattle.rescue.specs.route.Search.{until}
 use Rattle.rescue.specs.route.Steps.{LineAt, Stands}
 use Rattle.rescue.proofs.Parts.{Free, nil, cons}
@@ -98,10 +96,3 @@ pub copied : {xs ys zs : List ℕ} {at m n : ℕ} (p : List ℕ) (i k : ℕ) →
 copied {xs} {ys} {zs} {at} {m} {n} p i k h e a b =
     let all : take k (drop i p) ≡ drop i p = take_all k (drop i p) (omega (arith, length-drop i p)) in
     subst (λ t. Puts xs at t zs n) (take-append-drop i p) (after a (subst (λ t. Puts ys m t zs n) all b))
-
--- ---- a line that is kept is what is put out for it
-
-pub put_kept : (line : List ℕ) (f : Fate) {w : ℕ} → FateOf line f → f ≡ Kept w → {xs ys : List ℕ} {at n : ℕ} → Puts xs at (line ++ (10 ∷ [])) ys n → Puts xs at (line_out f) ys n
-put_kept line (Kept v) a e {xs} {ys} {at} {n} p = subst (λ t. Puts xs at t ys n) a.whole p
-put_kept line (Restored v) a e p = absurd (let z : ◌≡◌ {A = ℕ} 0 1 = cc in omega (arith, z))
-put_kept line Dropped a e p = absurd (let z : ◌≡◌ {A = ℕ} 0 1 = cc in omega (arith, z))

@@ -1,13 +1,12 @@
 -- The rooms that any input of so many bytes and lines needs at most. Assumes nothing.
 use Prim.Native.Nat.{ℕ, zero, suc, ◌+◌, ◌*◌, ◌/◌, ◌%◌, ◌-◌, ◌≤◌}
-use mathlib.Core.Path.{◌≡◌, refl, sym, ap, ◌∙◌, subst}
+use mathlib.Core.Path.{◌≡◌, refl, ap}
 use mathlib.Core.Bool.{Bool, true, false}
 use mathlib.Core.List.{List, [], ◌∷◌, ◌++◌}
 use native.Mathlib.Omega.{arith}
 use borrow.Author.Tests.{le-ltb}
 use lib.Dec.{eqb, ltb}
-use lib.ListN.{length, take, length-append}
-use lib.Seq.{length-take-le}
+use lib.ListN.{length, length-append}
 use Rattle.bits.specs.Choice.{pick}
 use Rattle.ascii.specs.Ascii.{digits, dec}
 use Rattle.reader.specs.Reading.{LineOf}
@@ -66,21 +65,8 @@ gains line (Restored w) r =
     omega (arith, line_length w, ap length (content_of r.text), fields, three)
 gains line Dropped d = omega arith
 
--- where a line is kept, its length and one more
-fate_long : (line : List ℕ) (f : Fate) → FateOf line f → LongAs (length line) f
-fate_long line (Kept w) k = sym (length-append line (10 ∷ [])) ∙ ap length k.whole
-fate_long line (Restored w) r = tt
-fate_long line Dropped d = tt
-
-pub part_long : (xs : List ℕ) (n : ℕ) (f : Fate) → n ≤ length xs → FateOf (take n xs) f → LongAs n f
-part_long xs n f h a = subst (λ k. LongAs k f) (length-take-le n xs h) (fate_long (take n xs) f a)
-
+-- where a line is kept, one byte more than it has is no more than a line's
 module _ (n : ℕ) {w : ℕ} where
-  pub kept_length : (f : Fate) → LongAs n f → f ≡ Kept w → n + 1 ≡ length (line_out f)
-  kept_length (Kept v) l e = l
-  kept_length (Restored v) l e = cc
-  kept_length Dropped l e = cc
-
   pub kept_short : (f : Fate) → LongAs n f → f ≡ Kept w → n + 1 ≤ line_most + 1
   kept_short (Kept v) l e = omega (arith, l, line_short v)
   kept_short (Restored v) l e = absurd (let z : ◌≡◌ {A = ℕ} 0 1 = cc in omega (arith, z))

@@ -1,6 +1,6 @@
 -- What each return of the functions over a line shows of its fate, over plain values. Assumes nothing.
 use Prim.Native.Nat.{ℕ, suc, ◌+◌, ◌^◌, ◌-◌, ◌≤◌, ◌<◌}
-use mathlib.Core.Path.{◌≡◌, refl, sym, ap, ◌∙◌, subst}
+use mathlib.Core.Path.{◌≡◌, refl, sym, ap, ◌∙◌}
 use mathlib.Core.Bool.{Bool, true, false}
 use mathlib.Core.List.{List, [], ◌∷◌, ◌++◌}
 use mathlib.Core.Logic.{inl, inr, ◌↔◌}
@@ -16,7 +16,7 @@ use Rattle.reader.specs.declared.Reading.{Reading}
 use Rattle.reader.specs.Reading.{ReadOf}
 use Rattle.listing.specs.Listing.{hex8, line_text}
 use Rattle.rescue.specs.Lines.{lead, fields_of}
-use Rattle.rescue.specs.Rescue.{Digits, KeptAs, RestoredAs, FateOf}
+use Rattle.rescue.specs.Rescue.{KeptAs, RestoredAs, FateOf}
 use Rattle.rescue.specs.declared.Fate.TheVariants.{Dropped}
 use Rattle.rescue.specs.route.Search.{until}
 use Rattle.rescue.specs.route.Steps.{DigitsAre, WordFirst, OtherFirst}
@@ -62,10 +62,6 @@ module _ (X : List ℕ) where
       let f = first_field n e in
       record { rest = f.0; fields = f.1 ∙ ap (λ (t : List ℕ). t ∷ f.0) (ap (λ (m : ℕ). take m X) k ∙ sym d) }
   word_first n e k (inr (b, d)) h = absurd (omega (arith, b, h))
-
-  pub other_digits : (n : ℕ) → n ≡ until 9 X → n ≡ 8 → {w : ℕ} → DigitsAre (take 8 X) w → 4294967296 ≤ w → OtherFirst X n
-  other_digits n e k (inl (b, d)) h = absurd (omega (arith, b, h))
-  other_digits n e k (inr (b, d)) h = record { ends = e; other = subst (λ m. ¬ Digits (take m X)) (sym k) d }
 
   -- a field of another length
   pub other_length : (n : ℕ) → n ≡ until 9 X → ¬ (n ≡ 8) → OtherFirst X n
