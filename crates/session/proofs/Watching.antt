@@ -1,32 +1,18 @@
--- What a monitor watches and what another's step stored: the code's tests, and that the monitor opens exactly where there is a
--- byte of both. Assumes nothing.
+-- What a monitor watches and what another's step stored: the monitor opens exactly where there is a byte of both. Assumes
+-- nothing.
 use Prim.Native.Nat.{ℕ, ◌+◌, ◌-◌, ◌≤◌, ◌<◌}
 use mathlib.Core.Path.{◌≡◌, refl}
-use mathlib.Core.Bool.{Bool, true, false, ◌&&◌}
+use mathlib.Core.Bool.{Bool, true, false}
 use native.Mathlib.Omega.{arith}
-use borrow.Author.Tests.{ltb-true, ltb-false, eqb-true, lt-ltb, le-ltb}
+use borrow.Author.Tests.{ltb-true, ltb-false, eqb-true, lt-ltb}
 use lib.Dec.{ltb, eqb}
 use Rattle.bits.proofs.Choices.{pick_by, both}
-use Rattle.plan.proofs.Tests.{same_test}
 use Rattle.machine.specs.declared.monitor.Monitor.{Monitor}
 use Rattle.machine.specs.declared.State.{State}
 use Rattle.machine.specs.Machine.{opened}
 use Rattle.session.specs.Watch.{meet, stores_watched, observed, Stored, Watched}
 
--- where the first range starts before the second, and where it doesn't
-module _ (a n b k : ℕ) where
-  pub meet_later : a < b → (ltb (b - a) n && ltb 0 k) ≡ meet a n b k
-  unfolding meet
-  meet_later h =
-      rw (lt-ltb a b h, same_test b (a + n) (b - a) n (λ z. omega arith) (λ z. omega arith), same_test b (b + k) 0 k (λ z. omega arith) (λ z. omega arith))
-
-  pub meet_first : b ≤ a → (ltb 0 n && ltb (a - b) k) ≡ meet a n b k
-  unfolding meet
-  meet_first h =
-      rw (le-ltb a b h, same_test a (a + n) 0 n (λ z. omega arith) (λ z. omega arith), same_test a (b + k) (a - b) k (λ z. omega arith) (λ z. omega arith))
-
--- ---- a byte of both
-
+-- of n bytes from a on and k bytes from b on
 module _ (a n b k : ℕ) where
   meet_at : (t : Bool) → ltb a b ≡ t → (x : ℕ) → a ≤ x → x < a + n → b ≤ x → x < b + k → meet a n b k ≡ true
   unfolding meet
@@ -54,7 +40,7 @@ unfolding stores_watched
 stored_watched r code address status true e h =
     let (x, (from, to, first, last)) = meets_at r.address r.size address (code - 64) (ltb r.address address) refl (rw e at h) in
     (x, ((eqb-true status 0 e, first, last), (from, to)))
-stored_watched r code address status false e h = absurd (let z : ◌≡◌ {A = ℕ} 0 1 = cc in omega arith)
+stored_watched r code address status false e h = cc
 
 -- and all stays where none was
 pub observed_keeps : (code address status : ℕ) (s : State) → ((x : ℕ) → Stored code address status x → ¬ Watched s.monitor x) → observed code address status s ≡ s

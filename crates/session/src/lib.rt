@@ -190,6 +190,7 @@ fn with_reply(state: State, answer: Answer, shown: Shown) -> Replied
     }
 }
 
+#[tactic(auto, unfolding(crate::specs::Lent::with_register))]
 fn with_register(state: State, n: u32, value: u64, marks: u64) -> State
     ensures { result ≡ with_register n value marks state }
 {

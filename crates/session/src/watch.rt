@@ -5,6 +5,7 @@ ghost use Rattle.session.specs.Watch.{meet, stores_watched};
 use machine::Monitor;
 
 // Whether a step that showed this code, address and status stored a byte that the monitor watches.
+#[tactic(auto, unfolding(crate::specs::Watch::stores_watched))]
 pub fn stores_watched(monitor: Monitor, code: u64, address: u64, status: u64) -> bool
     ensures { result ≡ stores_watched monitor code address status }
 {
@@ -25,6 +26,7 @@ fn bytes_stored(code: u64) -> u64
 }
 
 // Whether n bytes from a on and k bytes from b on have one in common.
+#[tactic(auto, unfolding(crate::specs::Watch::meet))]
 fn meets(a: u64, n: u64, b: u64, k: u64) -> bool
     ensures { result ≡ meet a n b k }
 {
