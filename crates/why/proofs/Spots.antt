@@ -19,7 +19,7 @@ use Rattle.why.specs.declared.source.Spot.TheVariants.{Part, Cell}
 use Rattle.why.specs.declared.source.Came.{Came}
 use Rattle.why.specs.declared.source.Came.TheVariants.{Kept, Cleared, Copied}
 use Rattle.why.specs.Trail.{origin_before}
-use Rattle.why.specs.route.Came.{spot_place, origin_by, loaded_from, written_came, cell_came, part_in, cell_in, came_of, Steps, past_of, came_at, access_at, index_at}
+use Rattle.why.specs.route.Came.{spot_place, origin_by, loaded_from, written_came, part_in, cell_in, came_of, Steps, past_of, came_at, access_at, index_at}
 use Rattle.why.proofs.Sources.{source_at}
 
 -- ---- a byte of a number
@@ -172,20 +172,3 @@ pub origin_came : (g : Steps) (u k : List ℕ) (j : ℕ) (q : Spot) → origin_b
 unfolding came_of
 origin_came g u k j (Part n) = part_at (access_at g j) (shown_at g.log j).status (index_at g j) n (ltb 1023 n) refl
 origin_came g u k j (Cell i) = cell_at (access_at g j) (shown_at g.log j).status (index_at g j) i (bounded (get_or g.words j 0))
-
--- ---- a byte of memory, test by test
-
-module _ (t : Transfer) (status at i : ℕ) (s : not t.store ≡ false) where
-  pub came_failed : fails t status ≡ true → Kept ≡ cell_came t status at i
-  came_failed f = rw (s, f)
-
-  module _ (f : fails t status ≡ false) where
-    pub came_second : among i (at + t.bytes) t.more ≡ true → (n : ℕ) → n ≡ 16 * t.second + (i - (at + t.bytes)) % 16 → Copied n ≡ cell_came t status at i
-    came_second m n e = rw (s, f, m, e)
-
-    module _ (m : among i (at + t.bytes) t.more ≡ false) where
-      pub came_first : among i at t.bytes ≡ true → (n : ℕ) → n ≡ 16 * t.target + (i - at) % 16 → Copied n ≡ cell_came t status at i
-      came_first k n e = rw (s, f, m, k, e)
-
-      pub came_kept : among i at t.bytes ≡ false → Kept ≡ cell_came t status at i
-      came_kept k = rw (s, f, m, k)

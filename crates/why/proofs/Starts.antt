@@ -1,19 +1,13 @@
 -- The taints of a register at the start: a slot below 32 in one array, one from 32 on in two halves of the other. Assumes nothing.
 use Rattle.std.proofs.Common.{◌≡◌, ℕ, zero, suc, ◌+◌, ◌-◌, ◌*◌, ◌/◌, ◌^◌, ◌<◌, ◌≤◌, List, ◌++◌, map, length, get_or, sym, ap, ◌∙◌, mul_assoc, pow-suc, arith}
-use lib.ListN.{get_or-append, get_or-eq_default}
+use lib.ListN.{get_or-eq_default}
 use Rattle.memory.specs.Taints.{byte_at}
-use Rattle.vectors.specs.File.{wide, number_of, halves_at}
-use Rattle.vectors.proofs.Slots.{vector_get, wide_get, length_map}
+use Rattle.vectors.specs.File.{wide}
+use Rattle.vectors.proofs.Slots.{vector_get, length_map}
 
 -- ---- by the slot
 
 module _ (u : List ℕ) (vs : List (List ℕ)) (slot : ℕ) (general : length u ≡ 32) where
-  pub taints_general : slot < 32 → get_or (u ++ map wide vs) slot 0 ≡ get_or u slot 0
-  taints_general h = get_or-append u (map wide vs) 0 slot (omega (arith, general))
-
-  pub taints_vector : 32 ≤ slot → get_or (u ++ map wide vs) slot 0 ≡ number_of (halves_at vs (slot - 32))
-  taints_vector h = vector_get u (map wide vs) general slot h ∙ wide_get vs (slot - 32)
-
   pub taints_none : length vs ≡ 32 → 64 ≤ slot → get_or (u ++ map wide vs) slot 0 ≡ 0
   taints_none k h =
       let l : length (map wide vs) ≤ slot - 32 = omega (arith, length_map wide vs, k) in

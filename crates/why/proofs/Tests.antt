@@ -1,5 +1,5 @@
 -- Laws of the code's tests. Assumes nothing.
-use Rattle.std.proofs.Common.{◌≡◌, ℕ, zero, suc, ◌+◌, ◌-◌, ◌*◌, ◌/◌, ◌%◌, ◌^◌, ◌<◌, ◌≤◌, Bool, true, false, eqb, ltb, List, [], ◌∷◌, length, sym, refl, ap, ◌∙◌, arith, ltb-false, le-ltb, lt-ltb, ne_eqb}
+use Rattle.std.proofs.Common.{◌≡◌, ℕ, ◌+◌, ◌-◌, ◌*◌, ◌/◌, ◌%◌, ◌^◌, ◌<◌, ◌≤◌, Bool, true, false, eqb, ltb, List, [], ◌∷◌, length, sym, refl, ap, ◌∙◌, arith, ltb-false, le-ltb, lt-ltb, ne_eqb}
 use borrow.Author.Tests.{eqb-false}
 use lib.Seq.{sets}
 use Rattle.bits.specs.Choice.{pick}
@@ -9,42 +9,17 @@ use Rattle.instruction.specs.Answers.{answer_number}
 use Rattle.plan.specs.declared.window.Window.{Window}
 use Rattle.plan.specs.Window.{bad_window}
 use Rattle.plan.specs.Refusals.{answer_in}
-use Rattle.execution.specs.Walk.{too_short}
 use Rattle.machine.specs.Origins.{of_register, of_memory}
 use Rattle.why.specs.declared.Question.{Question}
 use Rattle.why.specs.declared.Reply.{Reply}
 use Rattle.why.specs.Trail.{Past, Link, Trail, told}
-use Rattle.why.specs.Trace.{some_step, wrong_trace}
+use Rattle.why.specs.Trace.{wrong_trace}
 use Rattle.why.specs.Reply.{slot_of, place_of, no_byte, no_part, no_register, links_of, early_refusals, why_refusals, flat, said, said_of}
 use Rattle.why.specs.route.Came.{spot_place, Steps, steps_of, past_of, access_at, index_at, total_in, Asks}
 use Rattle.why.specs.route.Reached.{listed_of, put_all, Written, written_of, spot_of}
 use Rattle.why.proofs.Traces.{passes, Long, long, good, inside}
 use Rattle.why.proofs.Said.{Accepted}
 use Rattle.why.proofs.Walked.{all_fits}
-
--- ---- the loop over all steps
-
-pub some_here : (f : ℕ → Bool) (j : ℕ) → 0 < j → f (j - 1) ≡ true → some_step f j ≡ true
-unfolding some_step
-some_here f zero h e = absurd (omega arith)
-some_here f (suc i) h e =
-    let d : suc i - 1 ≡ i = omega arith in
-    let k : f i ≡ true = rw d at e in
-    rw k
-
-pub some_past : (f : ℕ → Bool) (j : ℕ) → 0 < j → f (j - 1) ≡ false → some_step f (j - 1) ≡ some_step f j
-unfolding some_step
-some_past f zero h e = absurd (omega arith)
-some_past f (suc i) h e =
-    let d : suc i - 1 ≡ i = omega arith in
-    let k : f i ≡ false = rw d at e in
-    rw (d, k)
-
-pub short_not : (steps trace statuses : ℕ) → too_short steps trace statuses ≡ false → (steps * 2 ≤ trace) × (steps ≤ statuses)
-unfolding too_short
-short_not steps trace statuses e =
-    let t = passes (ltb trace (steps * 2)) e in
-    (ltb-false trace (steps * 2) t.0, ltb-false statuses steps t.1)
 
 -- ---- a question that is not refused
 
@@ -91,34 +66,6 @@ asks w len ws trace statuses u k steps step q a small far =
   where
     fits : (g : Steps) (k : List ℕ) (j : ℕ) → index_at g j + total_in (access_at g j) ≤ length k → length k < 2 ^ 64 → index_at g j + total_in (access_at g j) < 2 ^ 64
     fits g k j h s = omega arith
-
--- ---- the first test that holds
-
-module _ (w : Window) (len : ℕ) (g : Past) (steps step : ℕ) (q : Question) where
-  abbrev first : Answer
-  first = answer_in (early_refusals w len g steps step q)
-
-  pub first_window : bad_window w len (length g.start.bytes) 0 ≡ true → BadWindow ≡ first
-  first_window a = rw a
-
-  module _ (a : bad_window w len (length g.start.bytes) 0 ≡ false) where
-    pub first_byte : no_byte w len q ≡ true → OutOfWindow ≡ first
-    first_byte b = rw (a, b)
-
-    module _ (b : no_byte w len q ≡ false) where
-      pub first_register : no_register q ≡ true → NoSuchInstruction ≡ first
-      first_register c = rw (a, b, c)
-
-      module _ (c : no_register q ≡ false) where
-        pub first_trace : wrong_trace w len g.words g.log steps ≡ true → BadTrace ≡ first
-        first_trace d = rw (a, b, c, d)
-
-        module _ (d : wrong_trace w len g.words g.log steps ≡ false) where
-          pub first_step : steps < step → AfterEnd ≡ first
-          first_step e = rw (a, b, c, d, lt-ltb steps step e)
-
-          pub first_none : step ≤ steps → Done ≡ first
-          first_none e = rw (a, b, c, d, le-ltb steps step e)
 
 -- ---- what is said
 

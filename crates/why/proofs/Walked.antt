@@ -1,5 +1,5 @@
 -- Laws of trails, as they are written and by what last set a byte. Assumes nothing.
-use Rattle.std.proofs.Common.{◌≡◌, ℕ, zero, suc, ◌+◌, ◌-◌, ◌*◌, ◌/◌, ◌<◌, ◌≤◌, Bool, true, false, List, [], ◌∷◌, ◌++◌, length, set, sym, refl, ap, ◌∙◌, subst, arith, lt-ltb}
+use Rattle.std.proofs.Common.{◌≡◌, ℕ, zero, suc, ◌+◌, ◌-◌, ◌*◌, ◌/◌, ◌<◌, ◌≤◌, Bool, true, false, List, [], ◌∷◌, ◌++◌, length, sym, refl, ap, ◌∙◌, subst, arith, lt-ltb}
 use lib.Seq.{sets, length-sets}
 use Rattle.bits.specs.Choice.{pick}
 use Rattle.machine.specs.Origins.{Place, of_register, of_memory}
@@ -10,18 +10,11 @@ use Rattle.why.specs.declared.source.Came.TheVariants.{Kept, Cleared, Copied}
 use Rattle.why.specs.declared.source.LastSet.{LastSet}
 use Rattle.why.specs.declared.source.LastSet.TheVariants.{Never, Clearing, Copying}
 use Rattle.why.specs.declared.Asked.{Asked}
-use Rattle.why.specs.Trail.{Past, Link, link, place_numbers, numbers_of, Trail, begun, lost, ahead, follow, trail_of, told}
+use Rattle.why.specs.Trail.{Past, Link, link, place_numbers, numbers_of, Trail, begun, lost, ahead, follow, trail_of}
 use Rattle.why.specs.Reply.{flat}
 use Rattle.why.specs.route.Came.{spot_place, across, origin_by, is_kept, Steps, past_of, came_at, set_by, last_of, InRange, Asks}
 use Rattle.why.specs.route.Reached.{put_one, put_all, written_of, ended_at, spot_of, Reached}
 use Rattle.why.proofs.Spots.{origin_came}
-
--- three stores in a row
-pub three : (xs : List ℕ) (i k n s : ℕ) → set (set (set xs i k) (i + 1) n) (i + 2) s ≡ sets xs i (k ∷ n ∷ s ∷ [])
-three xs i k n s =
-    let p : i + 1 ≡ suc i = omega arith in
-    let q : i + 2 ≡ suc (suc i) = omega arith in
-    rw (p, q)
 
 -- ---- a trail, by what last set its byte
 
@@ -150,19 +143,6 @@ last_kept g q (suc i) s h e f =
     kept_set Cleared f = absurd (let z : ◌≡◌ {A = ℕ} 0 1 = cc in omega arith)
     kept_set (Copied m) f = absurd (let z : ◌≡◌ {A = ℕ} 0 1 = cc in omega arith)
 
-pub last_set : (g : Steps) (q : Spot) (j : ℕ) (s : Came) → 0 < j → s ≡ came_at g (j - 1) q → is_kept s ≡ false → set_by (j - 1) Never s ≡ last_of g j q
-unfolding last_of
-last_set g q zero s h e f = absurd (omega arith)
-last_set g q (suc i) s h e f =
-    let d : suc i - 1 ≡ i = omega arith in
-    let k : s ≡ came_at g i q = rw d at e in
-    rw (d, ← k) (other_set s f)
-  where
-    other_set : (s : Came) → is_kept s ≡ false → set_by i Never s ≡ set_by i (last_of g i q) s
-    other_set Kept f = absurd (let z : ◌≡◌ {A = ℕ} 0 1 = cc in omega arith)
-    other_set Cleared f = refl
-    other_set (Copied m) f = refl
-
 pub range_less : (g : Steps) (s j : ℕ) → InRange g j → s ≤ j → InRange g s
 range_less g s j r l =
     let w : s ≤ length g.words = omega (arith, r.words) in
@@ -173,11 +153,6 @@ range_less g s j r l =
 -- what a question at an earlier step may rely on
 pub asks_less : (g : Steps) (i j d : ℕ) → Asks g j d → i < j → Asks g i (d + 1)
 asks_less g i j d a l = record { range = range_less g i j a.range (omega arith); small = omega (arith, a.small) }
-
--- ---- the loop over what is left to ask
-
-pub asks_on : (g : Steps) (d j d' j' : ℕ) → Asks g j d → j' ≤ j → d' + j' ≤ d + j → Asks g j' d'
-asks_on g d j d' j' a l m = record { range = range_less g j' j a.range l; small = omega (arith, a.small) }
 
 -- ---- what is written in a list with room
 
@@ -200,10 +175,3 @@ all_fits origin d (l ∷ ls) b h =
     let m : List ℕ = sets b (d * 3) (numbers_of origin l) in
     let room : (d + 1 + length ls) * 3 ≤ length m = rw length-sets (omega arith) in
     rw (put_fits d (numbers_of origin l) b fit) (all_fits origin (d + 1) ls m room ∙ rw p (numbers_three origin l.place l.step (flat origin ls) b (d * 3)))
-
-pub told_count : (t : Trail) → pick t.marked (0 + length t.links) 0 ≡ length (told t)
-told_count t = go t.marked
-  where
-    go : (b : Bool) → pick b (0 + length t.links) 0 ≡ length (pick b t.links [])
-    go true = omega arith
-    go false = refl

@@ -427,6 +427,7 @@ fn start(tainted: bool, links: &mut [u64], depth: usize, kind: u64, number: u64)
 }
 
 // One link behind depth others; what has no room is dropped.
+#[tactic(auto, unfolding(crate::specs::route::Reached::put_one))]
 fn put(links: &mut [u64], depth: usize, kind: u64, number: u64, step: u64)
     ensures { links.new ≡ put_one depth (kind ∷ number ∷ step ∷ []) links.old }
 {

@@ -32,6 +32,7 @@ pub enum LastSet {
 }
 
 // What last set a byte before a step.
+#[tactic(auto, unfolding(crate::specs::route::Came::last_of))]
 pub fn last_set(
     words: &[u32],
     trace: &[u64],
@@ -85,6 +86,7 @@ fn came_at(
     )
 }
 
+#[tactic(auto, unfolding(crate::specs::route::Came::came_of))]
 fn came_of(x: Access, status: u8, at: u64, spot: Spot) -> Came
     requires { at + total_in x < 2 ^ 64 }
     ensures { result ≡ came_of x status at spot }

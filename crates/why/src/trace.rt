@@ -11,6 +11,7 @@ ghost use Rattle.why.specs.Trace.{is_refused, wrong_access, wrong_step, some_ste
 use access::{Access, Transfer};
 use plan::Window;
 
+#[tactic(auto, unfolding(crate::specs::Trace::wrong_trace, execution::specs::Walk::too_short))]
 pub fn is_wrong_trace(
     words: &[u32],
     trace: &[u64],
@@ -30,6 +31,7 @@ pub fn is_wrong_trace(
     has_wrong_step(words, trace, statuses, steps, window, len)
 }
 
+#[tactic(auto, unfolding(crate::specs::Trace::some_step))]
 fn has_wrong_step(
     words: &[u32],
     trace: &[u64],
@@ -59,6 +61,7 @@ fn has_wrong_step(
     false
 }
 
+#[tactic(auto, unfolding(crate::specs::Trace::wrong_step))]
 fn is_wrong_step(word: u32, code: u64, address: u64, status: u8, window: Window, len: u64) -> bool
     ensures { result ≡ wrong_step window len word (shown code address status) }
 {
