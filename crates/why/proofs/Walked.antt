@@ -143,6 +143,19 @@ last_kept g q (suc i) s h e f =
     kept_set Cleared f = absurd (let z : ◌≡◌ {A = ℕ} 0 1 = cc in omega arith)
     kept_set (Copied m) f = absurd (let z : ◌≡◌ {A = ℕ} 0 1 = cc in omega arith)
 
+pub last_set : (g : Steps) (q : Spot) (j : ℕ) (s : Came) → 0 < j → s ≡ came_at g (j - 1) q → is_kept s ≡ false → set_by (j - 1) Never s ≡ last_of g j q
+unfolding last_of
+last_set g q zero s h e f = absurd (omega arith)
+last_set g q (suc i) s h e f =
+    let d : suc i - 1 ≡ i = omega arith in
+    let k : s ≡ came_at g i q = rw d at e in
+    rw (d, ← k) (other_set s f)
+  where
+    other_set : (s : Came) → is_kept s ≡ false → set_by i Never s ≡ set_by i (last_of g i q) s
+    other_set Kept f = absurd (let z : ◌≡◌ {A = ℕ} 0 1 = cc in omega arith)
+    other_set Cleared f = refl
+    other_set (Copied m) f = refl
+
 pub range_less : (g : Steps) (s j : ℕ) → InRange g j → s ≤ j → InRange g s
 range_less g s j r l =
     let w : s ≤ length g.words = omega (arith, r.words) in
