@@ -4,7 +4,6 @@ use mathlib.Core.Path.{◌≡◌, refl, ap, ◌∙◌}
 use mathlib.Core.List.{List, [], ◌∷◌, map}
 use Rattle.plan.specs.declared.ranges.Ranges.{Ranges}
 use Rattle.machine.specs.Machine.{Machine}
-use Rattle.machine.specs.Real.{Real}
 use Rattle.machine.proofs.Reals.{Below}
 use Rattle.execution.specs.Walk.{Log, Result}
 use Rattle.execution.specs.Run.{turn_of}

@@ -1,7 +1,7 @@
 -- Isolation of two plugins, and demand 3 of each over what it may read with its other half: three instances of one theorem (`kept`),
 -- for relations that are views of what is seen. Assumes nothing.
 use Prim.Native.Nat.{ℕ, ◌<◌}
-use mathlib.Core.Path.{◌≡◌, refl, sym, ap, subst, ◌∙◌}
+use mathlib.Core.Path.{◌≡◌, sym, ap, subst, ◌∙◌}
 use mathlib.Core.Bool.{Bool}
 use mathlib.Core.List.{List}
 use lib.ListN.{length, get_or}
@@ -15,10 +15,9 @@ use Rattle.machine.proofs.Reals.{Below}
 use Rattle.secrecy.specs.route.Alike.{View, by_taint, exactly, Copied, Alike}
 use Rattle.secrecy.proofs.Numbers.{same_number}
 use Rattle.secrecy.proofs.Halves.{secret, opposed, exact}
-use Rattle.execution.specs.Walk.{Log}
-use Rattle.execution.specs.Run.{plain_window, bad_turn, turn_step, turn_of}
+use Rattle.execution.specs.Run.{plain_window, bad_turn, turn_of}
 use Rattle.execution.proofs.Secrecy.{Shaped, run_shown, run_logs, past_end}
-use Rattle.turns.specs.Sight.{Sees, Framed}
+use Rattle.turns.specs.Sight.{Sees}
 use Rattle.turns.specs.Turns.{World, own_machine, Turn, play_of, SameOrder, ShowsPlay}
 use Rattle.turns.specs.Views.{Unchanged, RelatedOver, SameOver, FilledOver}
 use Rattle.turns.proofs.Ranges.{ranges_safe}

@@ -14,6 +14,7 @@ use plan::Ranges;
 
 // One turn of the plugin that the ranges call own: a run from its record, which is handed in by value and comes back in the
 // reply, and from its vector registers and their taints, which are lent. Where the turn is not begun, nothing is changed.
+#[tactic(auto, using(arm::proofs::Runs::turn_as_arm))]
 pub fn milestarling_turn(
     words: &[u32],
     session: State,
