@@ -13,7 +13,7 @@ use Rattle.plan.specs.Window.{bad_window}
 use Rattle.image.specs.declared.Reply.{Reply}
 use Rattle.image.specs.Lines.{lines_of, digit_table, digit_of, byte_in, shaped}
 use Rattle.image.specs.Records.{sum_in, bad_count, bad_type, upper_after, places_in}
-use Rattle.image.specs.Import.{reply, beyond, faults_in, reply_of, put, Outcome, import_of}
+use Rattle.image.specs.Import.{beyond, faults_in, reply_of, put, Outcome, import_of}
 use Rattle.image.specs.Faults.{fault_at, Lowest, OneEnd}
 use Rattle.image.specs.Last.{named, LastIs}
 use Rattle.image.specs.Hex.{hex_of, upper_digits, lower_digits}

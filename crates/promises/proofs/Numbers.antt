@@ -10,7 +10,7 @@ use Rattle.instruction.specs.declared.answer.Answer.{Answer}
 use Rattle.instruction.specs.declared.answer.Encoded.{Encoded}
 use Rattle.instruction.specs.Answers.{answer_number}
 use Rattle.instruction.specs.Table.{in_set, undefined, allocated, instruction_of}
-use Rattle.decoder.specs.Decoding.{decode_of, class_of, empty}
+use Rattle.decoder.specs.Decoding.{decode_of, empty}
 use Rattle.encoder.specs.Exact.{encoded, no_word}
 use Rattle.plain.specs.declared.record.Plain.{Plain}
 use Rattle.plain.specs.declared.record.DecodedPlain.{DecodedPlain}

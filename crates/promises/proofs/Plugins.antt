@@ -128,6 +128,8 @@ turns_show R c d p q lent lent' left left' g h s logs =
 
 all_show : (R : Machine → Machine → Type 0) {cs ds : List TurnCall} {ps qs : List Report} → Gave cs ps → Gave ds qs → Reports R ps qs → AllShow R cs ds
 all_show R nothing nothing Reports.none = neither
+all_show R nothing (more d q lent' left' h others) s = elim s [ ]
+all_show R (more c p lent left g further) nothing s = elim s [ ]
 all_show R (more c p lent left g further) (more d q lent' left' h others) (Reports.more s logs rest) = both c d (turns_show R c d p q lent lent' left left' g h s logs) (all_show R further others rest)
 
 calls_show : (origin : ℕ) (r : Ranges) (R : Machine → Machine → Type 0)

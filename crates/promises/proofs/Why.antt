@@ -28,7 +28,7 @@ use Rattle.plan.specs.declared.ranges.Reach.TheVariants.{Alone}
 use Rattle.machine.specs.Machine.{Machine, code_of}
 use Rattle.machine.specs.Step.{shown}
 use Rattle.machine.specs.Origins.{of_register, taint_of}
-use Rattle.execution.specs.Walk.{Walked, Log, log, Result, too_short}
+use Rattle.execution.specs.Walk.{Walked, Log, Result, too_short}
 use Rattle.execution.specs.Ends.{alone}
 use Rattle.execution.specs.Run.{machine_run}
 use Rattle.arm.specs.Choices.{arm_step, arm_run}
