@@ -1,4 +1,4 @@
--- Laws of the code's tests. Assumes nothing.
+-- A question that no test refuses, and what is said of any. Assumes nothing.
 use Rattle.std.proofs.Common.{◌≡◌, ℕ, ◌+◌, ◌-◌, ◌*◌, ◌/◌, ◌%◌, ◌^◌, ◌<◌, ◌≤◌, Bool, true, false, eqb, ltb, List, [], ◌∷◌, length, sym, refl, ap, ◌∙◌, arith, ltb-false, le-ltb, lt-ltb, ne_eqb}
 use borrow.Author.Tests.{eqb-false}
 use lib.Seq.{sets}

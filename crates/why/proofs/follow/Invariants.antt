@@ -1,3 +1,4 @@
+-- The loop of `why::follow`: what has been put, with what is still to ask, is the whole, and it is asked at ever earlier steps.
 use Rattle.std.proofs.Common.{◌≡◌, suc, ◌+◌, ◌≤◌, length}
 use Rattle.bits.specs.Choice.{pick}
 use Rattle.why.specs.Trail.{lent, trail_of}

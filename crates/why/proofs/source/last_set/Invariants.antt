@@ -1,3 +1,4 @@
+-- The loop of `why::source::last_set`: what the steps below j say is what all of them do.
 use Rattle.std.proofs.Common.{◌≡◌, ◌≤◌}
 use Rattle.why.specs.route.Came.{steps_of, last_of}
 use Rattle.why.proofs.source.last_set.Given as goal

@@ -1,3 +1,4 @@
+-- The loop of `why::trace::has_wrong_step`: whether a step below j is wrong says whether one of all is.
 use Rattle.std.proofs.Common.{◌≡◌, ◌≤◌}
 use Rattle.execution.specs.Walk.{log}
 use Rattle.why.specs.Trace.{some_step, wrong_at}
