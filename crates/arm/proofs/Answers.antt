@@ -1,4 +1,4 @@
--- What Arm's step answers, from the list of its refusals alone: the first that holds (`answers-in`), so that what is refused
+-- What Arm's step answers, from the list of its refusals alone: the first that holds (`answers_in`), so that what is refused
 -- changes nothing, a marked address is 5 and a misaligned SP 6. Assumes nothing.
 use Prim.Native.Nat.{ℕ, ◌%◌}
 use mathlib.Core.Path.{◌≡◌, refl, sym, ap, ◌∙◌}

@@ -1,4 +1,4 @@
--- Arm's bits as the machine's numbers: extensions, offsets and indexes. `sign-extend` carries it: at every width, copies of
+-- Arm's bits as the machine's numbers: extensions, offsets and indexes. `sign_extend` carries it: at every width, copies of
 -- the top bit are one number to add. Assumes nothing.
 use Prim.Native.Nat.{ℕ, zero, suc, ◌+◌, ◌-◌, ◌*◌, ◌/◌, ◌%◌, ◌^◌, ◌≤◌, ◌<◌}
 use mathlib.Core.Path.{◌≡◌, refl, sym, ap, ◌∙◌}

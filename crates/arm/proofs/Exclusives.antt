@@ -1,4 +1,4 @@
--- The pages of the ninth family: what a store-exclusive leaves, whatever the monitor says (`status-store`), and then every size.
+-- The pages of the ninth family: what a store-exclusive leaves, whatever the monitor says (`status_store`), and then every size.
 -- Assumes nothing.
 use Prim.Native.Nat.{ℕ, ◌+◌, ◌-◌, ◌*◌, ◌/◌, ◌^◌, ◌≤◌, ◌<◌}
 use mathlib.Core.Path.{◌≡◌, refl, sym, ap, ◌∙◌}

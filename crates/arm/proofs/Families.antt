@@ -1,5 +1,5 @@
--- The pages of one register, each with its family: the two form the same address (`based-form`, `index-form`,
--- `literal-form`), and then `all-sizes` says the rest. Assumes nothing.
+-- The pages of one register, each with its family: the two form the same address (`based_form`, `index_form`,
+-- `literal_form`), and then `all_sizes` says the rest. Assumes nothing.
 use Prim.Native.Nat.{ℕ, ◌+◌, ◌*◌, ◌%◌, ◌^◌, ◌≤◌, ◌<◌}
 use mathlib.Core.Path.{◌≡◌, refl, sym, ap, subst, ◌∙◌}
 use mathlib.Core.Bool.{Bool, true, false, not, ◌&&◌, ◌||◌, or-false}

@@ -1,4 +1,4 @@
--- The page of pairs: what a load and a store of two registers leave, once over the width (`two-loads`, `two-stores`), then
+-- The page of pairs: what a load and a store of two registers leave, once over the width (`two_loads`, `two_stores`), then
 -- each opc and L (`all`), and each mode (`modes`). Assumes nothing.
 use Prim.Native.Nat.{ℕ, ◌+◌, ◌-◌, ◌*◌, ◌/◌, ◌%◌, ◌^◌, ◌≤◌, ◌<◌}
 use mathlib.Core.Path.{◌≡◌, refl, sym, ap, ◌∙◌}

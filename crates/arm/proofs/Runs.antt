@@ -1,4 +1,4 @@
--- A run is the run of Arm's steps, from a machine that there is: each step leaves one (`real-in`). What is known of the one is then
+-- A run is the run of Arm's steps, from a machine that there is: each step leaves one (`real_in`). What is known of the one is then
 -- known of the other. Assumes nothing.
 use Prim.Native.Nat.{ℕ}
 use mathlib.Core.Path.{◌≡◌, refl, ap, subst, ◌∙◌}

@@ -1,5 +1,5 @@
--- The pages of one register: what a load and a store leave, once over the width (`one-load`, `one_store`), and then every
--- size and opc, where both decodes compute (`all-sizes`). Assumes nothing.
+-- The pages of one register: what a load and a store leave, once over the width (`one_load`, `one_store`), and then every
+-- size and opc, where both decodes compute (`all_sizes`). Assumes nothing.
 use Prim.Native.Nat.{ℕ, zero, suc, ◌+◌, ◌-◌, ◌*◌, ◌/◌, ◌^◌, ◌≤◌, ◌<◌}
 use mathlib.Core.Path.{◌≡◌, refl, sym, ap, ◌∙◌}
 use mathlib.Core.Bool.{Bool, true, false, ◌&&◌, ◌||◌}

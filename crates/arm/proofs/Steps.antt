@@ -1,5 +1,5 @@
 -- The step of one access is that of a page, from a record of what the two agree on (`Agreed`): the tests by cases, then the
--- effect. `hints-step` and `access-step` are what the families use. Assumes nothing.
+-- effect. `hints_step` and `access_step_lem` are what the families use. Assumes nothing.
 use Prim.Native.Nat.{ℕ, ◌+◌, ◌-◌, ◌/◌, ◌%◌, ◌^◌, ◌≤◌, ◌<◌}
 use mathlib.Core.Path.{◌≡◌, refl, ap, subst, ◌∙◌}
 use mathlib.Core.Bool.{Bool, true, false, ◌&&◌, ◌||◌, not}

@@ -1,4 +1,4 @@
--- Demand 3 and its other half, of a step and of a run: one law of machines that are viewed alike (`step-shows`, `run-shown`), for two
+-- Demand 3 and its other half, of a step and of a run: one law of machines that are viewed alike (`step_shows`, `run_shown`), for two
 -- relations. And the taints of a run. Assumes nothing.
 use Prim.Native.Nat.{ℕ, ◌-◌, ◌≤◌, ◌<◌}
 use mathlib.Core.Path.{◌≡◌, refl, sym, ap, ◌∙◌}

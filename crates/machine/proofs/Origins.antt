@@ -1,5 +1,5 @@
 -- The taint of a byte after a step is that of its origin before it: of a register by what is set last (`last`), of memory by which
--- bytes are set (`sets-at`). Assumes nothing.
+-- bytes are set (`sets_at`). Assumes nothing.
 use Rattle.std.proofs.Common.{◌≡◌, ℕ, zero, suc, ◌+◌, ◌-◌, ◌/◌, ◌<◌, Bool, true, false, ◌&&◌, eqb, ltb, leb, List, [], ◌∷◌, map, length, get_or, set, refl, ap, ◌∙◌, inl, inr, arith, length-set, get_or-set_other, get_or-set_same, ltb-false, ltb-true, eq-eqb, ne_eqb, leb-false, leb-true}
 use native.Mathlib.Decide.{ℕ_discrete}
 use lib.Seq.{sets, length-sets}

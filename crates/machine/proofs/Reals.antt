@@ -1,4 +1,4 @@
--- A step leaves a machine that there is (`Real`), where it starts from one: its loads fit (`extended-below`), and its stores are
+-- A step leaves a machine that there is (`Real`), where it starts from one: its loads fit (`extended_below`), and its stores are
 -- bytes. What code holds is one, and there is one. Assumes nothing.
 use Rattle.std.proofs.Common.{◌≡◌, ℕ, zero, suc, ◌+◌, ◌-◌, ◌/◌, ◌%◌, ◌^◌, ◌<◌, ◌≤◌, Bool, true, false, List, [], ◌∷◌, ◌++◌, map, length, get_or, set, replicate, refl, ◌∙◌, inl, lt_trans, lt_of_lt_of_le, arith, lit<, length-append, length-set}
 use native.Mathlib.Nat.{pow-le-pow_right}

@@ -1,5 +1,5 @@
 -- Where the taint of a byte comes from at a step: every byte has one origin, so that a taint can be followed back along a path.
--- The taint rule itself is said in Rule.antt; this is what it copies (`taint-by-origin`).
+-- The taint rule itself is said in Rule.antt; this is what it copies (`taint_by_origin`).
 use Rattle.std.specs.Prelude.{ℕ, ◌+◌, ◌-◌, Bool, false, ◌&&◌, ◌==◌, nat_le, nat_lt, slice_index, slice_index_or}
 use Rattle.bits.specs.Choice.{pick}
 use Rattle.memory.specs.Taints.{tainted, byte_at}

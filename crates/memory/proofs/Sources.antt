@@ -1,4 +1,4 @@
--- A loaded number, byte by byte: its value and its taints come from the same sources. `extended-sources` says it of the value,
+-- A loaded number, byte by byte: its value and its taints come from the same sources. `extended_sources` says it of the value,
 -- by the top byte (`sign_at`); of the taints it is the same law, of taint bytes that are 255 for 1. Assumes nothing.
 use Prim.Native.Nat.{ℕ, zero, suc, ◌+◌, ◌-◌, ◌*◌, ◌/◌, ◌^◌, ◌≤◌, ◌<◌}
 use mathlib.Core.Path.{◌≡◌, refl, sym, ap, ◌∙◌}

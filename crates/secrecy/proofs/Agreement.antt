@@ -1,5 +1,5 @@
 -- Bytes, registers and memories that are related by their taints, before and after bytes and registers are set. A register that is
--- loaded goes by its sources: byte by byte, value and taints come from the same one (`byte-from`). Assumes nothing.
+-- loaded goes by its sources: byte by byte, value and taints come from the same one (`byte_from`). Assumes nothing.
 use Prim.Native.Nat.{ℕ, zero, suc, ◌+◌, ◌-◌, ◌/◌, ◌%◌, ◌^◌, ◌≤◌, ◌<◌}
 use mathlib.Core.Path.{◌≡◌, refl, ap, subst}
 use mathlib.Core.Bool.{Bool, true, false}

@@ -1,4 +1,4 @@
--- `arm::real` meets its contract: `real-machine`, of what its callees say of each part by its type. Assumes nothing.
+-- `arm::real` meets its contract: `real_machine`, of what its callees say of each part by its type. Assumes nothing.
 use mathlib.Core.Path.{◌≡◌}
 use lib.ListN.{length}
 use borrow.Author.Rules.{rules}

@@ -1,4 +1,4 @@
--- `arm::run` meets its contract: what `execution::run` does, by `run-as-arm`. Assumes nothing.
+-- `arm::run` meets its contract: what `execution::run` does, by `run_as_arm`. Assumes nothing.
 use Rattle.machine.specs.Machine.{machine_of}
 use Rattle.execution.specs.Walk.{log}
 use Rattle.arm.proofs.Runs.{run_as_arm}

@@ -1,4 +1,4 @@
--- `arm::step` meets its contract: what `machine::step` does, by `step-as-arm`. Assumes nothing.
+-- `arm::step` meets its contract: what `machine::step` does, by `step_as_arm`. Assumes nothing.
 use Rattle.machine.specs.Machine.{machine_of}
 use Rattle.arm.proofs.Arm.{step_as_arm}
 use Rattle.arm.proofs.step.Goals as goal

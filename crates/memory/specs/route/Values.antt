@@ -1,5 +1,5 @@
 -- The bytes of a loaded number by the sources that its taints have. What a load gives is said by `joined` and `extended_of` of
--- bits; that these are its bytes is proved (`extended-sources`).
+-- bits; that these are its bytes is proved (`extended_sources`).
 use Rattle.std.specs.Prelude.{ℕ, List, ltb, get_or}
 use Rattle.bits.specs.Choice.{pick}
 use Rattle.memory.specs.Sources.{Source, cleared, byte, sign}
