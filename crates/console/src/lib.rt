@@ -75,3 +75,121 @@ pub fn write<R: Print + Eprint>(rt: &R, output: &[u8], end: usize) -> bool
 fn say<R: Eprint>(rt: &R, what: &str, reason: Error) {
     let _ = eprintln!(rt; "{what}: {reason}");
 }
+
+#[cfg(test)]
+mod tests {
+    use super::{Input, fill, read, write};
+    use std::alloc::Allocator;
+    use std::cell::Cell;
+    use std::fmt::Display;
+    use std::io::{BufRead, Error, ErrorKind, Lines, Read, Result};
+
+    // Three bytes and two come, and no more; an output that takes nothing. It counts what is said of that.
+    #[derive(Drop)]
+    struct Broken {
+        reads: Cell<u32>,
+        said: Cell<u32>,
+    }
+
+    #[derive(Drop)]
+    struct Source<'a> {
+        of: &'a Broken,
+    }
+
+    impl Read for Source<'_> {
+        fn read(&mut self, buf: &mut [u8]) -> Result<usize> {
+            let turn = self.of.reads.get();
+            self.of.reads.set(turn.wrapping_add(1));
+            if turn == 0 && buf.len() >= 3 {
+                return Ok(3);
+            }
+            if turn == 1 && buf.len() >= 2 {
+                return Ok(2);
+            }
+            Err(Error::from(ErrorKind::Other))
+        }
+    }
+
+    impl BufRead for Source<'_> {
+        fn fill_buf(&mut self) -> Result<&[u8]> {
+            Ok(&[])
+        }
+
+        fn consume(&mut self, amount: usize) {}
+    }
+
+    impl<'a> std::io::Input for &'a Broken {
+        type Reader = Source<'a>;
+
+        fn read_line<A: Allocator + Clone>(&self, buf: &mut String<A>) -> Result<usize> {
+            Err(Error::from(ErrorKind::Other))
+        }
+
+        fn lines<A: Allocator>(&self, alloc: A) -> Lines<Source<'a>, A> {
+            self.reader().lines(alloc)
+        }
+
+        fn reader(&self) -> Source<'a> {
+            Source { of: *self }
+        }
+    }
+
+    impl Print for &Broken {
+        fn print<D: Display + Drop>(&self, value: D) -> Result<()> {
+            Err(Error::from(ErrorKind::Other))
+        }
+
+        fn println<D: Display + Drop>(&self, value: D) -> Result<()> {
+            Err(Error::from(ErrorKind::Other))
+        }
+
+        fn write_all(&self, bytes: &[u8]) -> Result<()> {
+            Err(Error::from(ErrorKind::Other))
+        }
+    }
+
+    impl Eprint for &Broken {
+        fn eprint<D: Display + Drop>(&self, value: D) -> Result<()> {
+            Ok(())
+        }
+
+        fn eprintln<D: Display + Drop>(&self, value: D) -> Result<()> {
+            self.said.set(self.said.get().wrapping_add(1));
+            Ok(())
+        }
+    }
+
+    fn made() -> Broken {
+        Broken {
+            reads: Cell::new(0),
+            said: Cell::new(0),
+        }
+    }
+
+    // What came before a read that fails is kept, and the failure is said once; the next read fails too, and is no end.
+    #[test]
+    fn a_failed_read_is_said(rt: HostRuntime) {
+        let broken = made();
+        let mut buf = [0u8; 8];
+        let came = fill(&&broken, &mut buf);
+        assert_eq!(rt; came, 5);
+        assert_eq!(rt; broken.said.get(), 1);
+        let failed = match read(&&broken, &mut buf) {
+            Input::Bytes(_) => false,
+            Input::End => false,
+            Input::Failed => true,
+        };
+        assert!(rt; failed);
+        assert_eq!(rt; broken.said.get(), 2);
+    }
+
+    #[test]
+    fn a_failed_write_is_said(rt: HostRuntime) {
+        let broken = made();
+        let text = [0u8; 4];
+        assert!(rt; !write(&&broken, &text, 4));
+        assert_eq!(rt; broken.said.get(), 1);
+        assert!(rt; !write(&&broken, &text, 5));
+        assert_eq!(rt; broken.said.get(), 1);
+    }
+}
