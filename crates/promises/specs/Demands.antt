@@ -207,7 +207,7 @@ pub record Requests : Type 0 where
   pub others_keep : (w : Window) (word : ℕ) (m : Machine) → Real m → matches word Row.LoadExclusiveRow ≡ false → matches word Row.StoreExclusiveRow ≡ false
       → ((stepped w word m).machine.monitor ≡ m.monitor) × ((stepped w word m).shown.status ≡ 0)
   -- "All tests come before the monitor is looked at": with any other the answer is the same, and so are code and address, a refusal's
-  -- too; "a refused step keeps the monitor" is demand 1's `refused-step`
+  -- too; "a refused step keeps the monitor" is demand 1's `refused_step`
   pub tests_first : (w : Window) (word : ℕ) (m : Machine) (r : Monitor) → Real m → let other = stepped w word (with_monitor r m) in
       (answer_number other.answer ≡ step_answer w word m) × (other.shown.code ≡ (stepped w word m).shown.code) × (other.shown.address ≡ (stepped w word m).shown.address)
   -- "and the host can open it": registers and program counter stay, and the monitor is open, of size 0

@@ -1,5 +1,5 @@
--- A turn is one of Arm's steps, from a machine that there is, and leaves one (`turn-real`): so what is known of turns, and of a sequence
--- of them (`play-as-arm`), is known of Arm's. Assumes nothing.
+-- A turn is one of Arm's steps, from a machine that there is, and leaves one (`turn_real`): so what is known of turns, and of a sequence
+-- of them (`play_as_arm`), is known of Arm's. Assumes nothing.
 use Prim.Native.Nat.{ℕ, ◌+◌, ◌%◌}
 use mathlib.Core.Path.{◌≡◌, refl, sym, ap, subst, ◌∙◌}
 use mathlib.Core.Bool.{false, ◌||◌}

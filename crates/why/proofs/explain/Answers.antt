@@ -1,4 +1,4 @@
--- `why::explain` meets its contract: `said-early` where a test refuses, else `said-listed`. Assumes nothing.
+-- `why::explain` meets its contract: `said_early` where a test refuses, else `said_listed`. Assumes nothing.
 use Rattle.std.proofs.Common.{◌++◌, map, sym, ap, ◌∙◌, arith}
 use Rattle.vectors.specs.File.{wide}
 use Rattle.machine.specs.Origins.{Place}
