@@ -219,7 +219,7 @@ fn follow(
     links: &mut [u64],
 ) -> usize
     requires { Asks (steps_of words.now trace.now statuses.now origin) step 0 }
-    ensures { record { links = links.exit.now; count = result } ≡ written_of origin 0 (trail_of (lent words.now trace.now statuses.now origin register_taint.now vector_taint.now taint.now) step (spot_place (spot_of byte number))) links.entry.now }
+    ensures { record { links = links.new; count = result } ≡ written_of origin 0 (trail_of (lent words.now trace.now statuses.now origin register_taint.now vector_taint.now taint.now) step (spot_place (spot_of byte number))) links.old }
 {
     let mut q = pending(byte, number, step, 0);
     while !q.done {
