@@ -7,7 +7,8 @@
 
 It fetches Debian's arm64 packages of login plugins and of what they stand on, by the package index of a mirror, into
 target/coverage, and holds each against its checksum there. Neither root nor a foreign architecture is needed. `milestarling
-list` and `milestarling check` go through the executable sections of each file, and objdump is handed their loads and stores.
+list --sections` and `milestarling check` go through the executable sections of each file, and objdump is handed their loads and
+stores.
 
 A load or store is a word with bit 27 = 1 and bit 25 = 0, as Arm's top table has it, that objdump knows as an
 instruction. It is taken where it has a text and answer 0, and of those the ninth family's, exclusives, and the
@@ -110,7 +111,7 @@ def loads_and_stores(path):
     checked, = json.loads(said('check', '--json', path))['files']
     reasons = {int(found['address'], 16): found['reason'] for found in checked['not_taken']}
     found = []
-    for fields in (line.split('\t') for line in said('list', path).splitlines()):
+    for fields in (line.split('\t') for line in said('list', '--sections', path).splitlines()):
         # Lines of sections, labels and bytes that are left over have no word.
         if len(fields) == 4 and len(fields[1]) == 8 and is_load_or_store(int(fields[1], 16)):
             address, word, text, answer = fields

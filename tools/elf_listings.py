@@ -1,5 +1,5 @@
 #!/usr/bin/env python3
-"""Holds `milestarling list` of ELF files against objdump: sections, addresses, words, labels and data.
+"""Holds `milestarling list --sections` of ELF files against objdump: sections, addresses, words, labels and data.
 
     apt-get install binutils-aarch64-linux-gnu
     bash tests/bindings.sh
@@ -50,7 +50,7 @@ class Listing(NamedTuple):
 
 def ours(path):
     words, labels, data, section = [], set(), 0, None
-    for line in coverage.said('list', path).splitlines():
+    for line in coverage.said('list', '--sections', path).splitlines():
         fields, label = line.split('\t'), LABEL.fullmatch(line)
         if label:
             labels.add((section, int(label[1], 16), label[2]))

@@ -63,6 +63,7 @@ fn a_trace_in_numbers_is_read() {
     assert_eq!(said[1], "milestarling: step 3: no step leaves code 0 with address 16");
     assert_eq!(said.len(), 3);
     call(&["trace", "1", "4096", "65"], b"").fails(2, "the last code has no address behind it");
-    call(&["trace", "1", "x"], b"")
-        .fails(2, "`x` is no number of 64 bits: a trace in numbers has a code and an address");
+    for words in [["trace", "1", "x"], ["trace", "x", "1"]] {
+        call(&words, b"").fails(2, "`x` is no number of 64 bits: a trace in numbers has a code and an address");
+    }
 }

@@ -38,6 +38,57 @@ fn lists_with_addresses() {
     }
 }
 
+/// An ELF file with segments of a type, flags, an address and bytes.
+fn elf(segments: &[(u32, u32, u64, &[u8])]) -> Vec<u8> {
+    let mut file = vec![0; 64];
+    file[..6].copy_from_slice(b"\x7fELF\x02\x01");
+    file[18] = 183;
+    file[32] = 64;
+    file[54] = 56;
+    file[56] = segments.len() as u8;
+    let mut offset = 64 + 56 * segments.len() as u64;
+    for (kind, flags, address, bytes) in segments {
+        file.extend(kind.to_le_bytes());
+        file.extend(flags.to_le_bytes());
+        let length = bytes.len() as u64;
+        for number in [offset, *address, *address, length, length, 4] {
+            file.extend(number.to_le_bytes());
+        }
+        offset += length;
+    }
+    segments.iter().for_each(|segment| file.extend(segment.3));
+    file
+}
+
+#[test]
+fn lists_the_executable_segments_of_an_elf_file() {
+    let load = [0x20, 0x04, 0x40, 0xf9];
+    let store = [0x20, 0x04, 0x00, 0xf9, 1];
+    let file = elf(&[(1, 4, 0, &load), (1, 5, 0x1000, &load), (6, 5, 0x2000, &load), (1, 1, 0x3000, &store)]);
+    let listed = "1000\tf9400420\tldr x0, [x1, #8]\t0\n3000\tf9000420\tstr x0, [x1, #8]\t0\n3004\tshort\t-\t1\n";
+    assert_eq!(call(&["list"], &file), Ended::well(listed));
+    call(&["list", "--at", "0"], &file).fails(2, "addresses of its own");
+
+    // Cut anywhere it is said to be damaged; a file of fewer than four bytes is no ELF file yet.
+    for cut in 4..file.len() {
+        call(&["list"], &file[..cut]).fails(1, "a damaged ELF file");
+    }
+    let with = |place: usize, byte: u8| {
+        let mut file = file.clone();
+        file[place] = byte;
+        call(&["list"], &file)
+    };
+    for (place, byte) in [(4, 1), (5, 2), (18, 62), (19, 1)] {
+        with(place, byte).fails(1, "not a 64-bit little-endian one for AArch64");
+    }
+    with(54, 55).fails(1, "55 bytes each");
+    with(39, 0xff).fails(1, "its table of program headers lies behind its end");
+    with(64 + 56 + 15, 0xff).fails(1, "an executable segment lies behind its end");
+    with(64 + 56 + 39, 0xff).fails(1, "an executable segment lies behind its end");
+    call(&["list"], &elf(&[(1, 4, 0, &load)])).fails(1, "without an executable load segment");
+    call(&["list"], &elf(&[])).fails(1, "objcopy -O binary");
+}
+
 #[test]
 fn a_failed_read_or_write_is_no_end() {
     call(&["list", "/no/such/file"], b"").fails(1, "/no/such/file: ");
@@ -80,7 +131,7 @@ fn words_and_texts() {
     assert_eq!((ended.wrote.as_str(), ended.said.lines().count(), ended.status), (line, 3, Some(1)));
     let ended = call(&["text"], b"ldr x0, [x1, #8]\r\nldr x0, [x1, #8]\n\n");
     assert_eq!((ended.wrote.as_str(), ended.said.lines().count(), ended.status), (line, 2, Some(1)));
-    assert!(ended.said.starts_with("milestarling: line 1: `ldr x0, [x1, #8]\\r`: refused (9): "), "{ended:?}");
+    assert!(ended.said.starts_with("milestarling: line 1: `ldr x0, [x1, #8]\r`: refused (9): "), "{ended:?}");
     call(&["text"], b"\xff\n").fails(1, "isn't UTF-8");
 }
 
@@ -204,7 +255,7 @@ monitor 0x1000 4
     assert_eq!(call(&["run"], case.as_bytes()), Ended::well(failed));
     let taken = "\
 step 1: store of 4 at 0x1000, by 88037c02, `stxr w3, w2, [x0]`
-done, after 1 step
+done, after 1 steps
 x0 0x1000
 x2 0x1
 pc 0x4
@@ -242,7 +293,7 @@ refused (12): the access is neither in the plugin's own range nor, for a load, i
 by 39404025, `ldrb w5, [x1, #16]`, after 1 step
 turn 4, hall:
 step 1: load of 8 at 0x1018, by f9400426, `ldr x6, [x1, #8]`
-done, after 1 step
+done, after 1 steps
 turn 5, login:
 refused (12): the access is neither in the plugin's own range nor, for a load, in the shared one, at address 0x100c, \
 by f840c007, `ldur x7, [x0, #12]`
@@ -278,7 +329,7 @@ fn runs_two_plugins() {
 
     let two = "shared 0 4\nplugin a 4 4\nplugin b 8 4\n";
     assert_eq!(call(&["run"], format!("zeros 12\n{two}").as_bytes()).status, Some(0));
-    let shown = "turn 1, b:\nstep 1: load of 4 at 0x8, by b9400020, `ldr w0, [x1]`\ndone, after 1 step\n\
+    let shown = "turn 1, b:\nstep 1: load of 4 at 0x8, by b9400020, `ldr w0, [x1]`\ndone, after 1 steps\n\
                  plugin a:\nx1 0x4\npc 0x0\nplugin b:\nx1 0x8\npc 0x4\n0x0: 00 00 00 00 00 00 00 00 00 00 00 00\n";
     let case = "plugin a 4 4\nx1 4\nplugin b 8 4\nx1 8\nturn b\nldr w0, [x1]\nshared 0 4\nzeros 12\n";
     assert_eq!(call(&["run"], case.as_bytes()), Ended::well(shown));
@@ -491,7 +542,7 @@ x2 bytes 0 to 3: step 1, ldp w2, w3, [x0], from 0x1000 to 0x1003
         }
     }
     assert_eq!(call(&["why", "-", "sp"], COPIES.as_bytes()), Ended::well("sp: not tainted\n"));
-    call(&["why", path], b"").fails(1, "no word was refused for a tainted address: name a place");
+    call(&["why", path], b"").fails(2, "no word was refused for a tainted address: name a place");
 }
 
 /// Without a place it is the refused word's address that is asked about.
@@ -692,4 +743,25 @@ fn a_case_takes_an_image() {
     call(&["run"], case(9).as_bytes()).fails(1, "standard input: line 3: ");
     call(&["run"], case(9).as_bytes()).fails(1, "case.hex: refused (7), line 3: ");
     call(&["run"], b"image nowhere.hex\n").fails(1, "line 1: nowhere.hex: ");
+}
+
+#[test]
+fn says_how_it_is_called() {
+    let help = call(&["--help"], b"");
+    assert!(help.status == Some(0) && help.said.is_empty());
+    for name in ["list", "word", "text", "run", "why", "trace"] {
+        assert!(help.wrote.contains(&format!("milestarling {name} [")), "{name}");
+        assert_eq!(call(&[name, "--help"], b""), help);
+    }
+    let widest = help.wrote.lines().map(|line| line.chars().count()).max().unwrap();
+    assert!(widest <= 90, "{widest}");
+    assert_eq!(call(&["--version"], b""), Ended::well(concat!("milestarling ", env!("CARGO_PKG_VERSION"), "\n")));
+    call(&[], b"").fails(2, "list, rescue, word, text, run, import, why or trace");
+    call(&["lists"], b"").fails(2, "`lists` is no command");
+    call(&["list", "a", "b"], b"").fails(2, "one file at a time");
+    call(&["list", "--as", "b"], b"").fails(2, "one file at a time");
+    for name in ["run", "why", "trace"] {
+        call(&[name, "--secret"], b"").fails(2, "is no option");
+    }
+    call(&["trace", "a", "b"], b"").fails(2, "one file at a time");
 }

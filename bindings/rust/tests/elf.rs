@@ -62,20 +62,20 @@ const LISTED: &str = "section .text:\n\
 #[test]
 fn lists_executable_sections_with_labels_and_data() {
     for kind in [SYMTAB, DYNSYM] {
-        assert_eq!(call(&["list"], &elf(false, &[], &sections(kind))), Ended::well(LISTED));
+        assert_eq!(call(&["list", "--sections"], &elf(false, &[], &sections(kind))), Ended::well(LISTED));
     }
     // Those of .symtab are taken where there are both, in whatever order.
     let [other, names] = symbols(DYNSYM, 8, &[(b"dynamic", FUNCTION, 2, 0x1000)]);
     let both: Vec<Section> = sections(SYMTAB).into_iter().chain([other, names]).collect();
-    assert_eq!(call(&["list"], &elf(false, &[], &both)), Ended::well(LISTED));
+    assert_eq!(call(&["list", "--sections"], &elf(false, &[], &both)), Ended::well(LISTED));
 
     // Without symbols all of a section is code.
     let plain = elf(false, &[], &sections(SYMTAB)[..3]);
     let listed = "section .text:\n1000\tf9400420\tldr x0, [x1, #8]\t0\n1004\td65f03c0\t-\t2\n\
                   1008\tf9400420\tldr x0, [x1, #8]\t0\n100c\tf9400420\tldr x0, [x1, #8]\t0\n\
                   1010\tf9000420\tstr x0, [x1, #8]\t0\nsection .fini:\n2000\tf9000420\tstr x0, [x1, #8]\t0\n";
-    assert_eq!(call(&["list"], &plain), Ended::well(listed));
-    call(&["list", "--at", "0"], &plain).fails(2, "addresses of its own");
+    assert_eq!(call(&["list", "--sections"], &plain), Ended::well(listed));
+    call(&["list", "--sections", "--at", "0"], &plain).fails(2, "addresses of its own");
 }
 
 /// In an object file symbols are counted from their sections, which all begin at 0.
@@ -87,7 +87,7 @@ fn lists_object_files() {
     sections[1].bytes.push(7);
     let listed = "section .text.f:\n0000000000000000 <f>:\n0\tf9400420\tldr x0, [x1, #8]\t0\n4\tdata\t-\t4\n\
                   section .text.g:\n0\td65f03c0\t-\t2\n0000000000000004 <g>:\n4\tf9000420\tstr x0, [x1, #8]\t0\n8\tshort\t-\t1\n";
-    assert_eq!(call(&["list"], &elf(true, &[], &sections)), Ended::well(listed));
+    assert_eq!(call(&["list", "--sections"], &elf(true, &[], &sections)), Ended::well(listed));
 }
 
 /// The words of sections are what the lister makes of their bytes.
@@ -97,7 +97,7 @@ fn words_are_as_listed() {
     let expected = std::fs::read_to_string(stored("crates/list/stdout")).unwrap();
     let section = Section { bytes, ..Section::code(".text", 0, &[]) };
     let path = made("words.elf", &elf(false, &[], &[section]));
-    let ended = call(&["list", path.to_str().unwrap()], b"");
+    let ended = call(&["list", "--sections", path.to_str().unwrap()], b"");
     let lines = ended.wrote.lines().skip(1).map(|line| line.split_once('\t').unwrap().1);
     assert!(lines.eq(expected.lines()) && ended.status == Some(0));
 }
@@ -109,8 +109,8 @@ fn names_reach_no_terminal() {
     let file = elf(true, &[], &[Section::code(".te\nxt", 0, &[LOAD]), table, names]);
     let listed = "section .te\\nxt:\n\
                   0000000000000000 <a\\n0\\tf9400420\\tldr x0\\u{1b}[2J\u{fffd}\\u{202e}>:\n0\tf9400420\tldr x0, [x1, #8]\t0\n";
-    assert_eq!(call(&["list"], &file), Ended::well(listed));
-    let document = Value::read(&call(&["list", "--json"], &file).wrote);
+    assert_eq!(call(&["list", "--sections"], &file), Ended::well(listed));
+    let document = Value::read(&call(&["list", "--sections", "--json"], &file).wrote);
     let label = &document.get("files").items()[0].get("lines").items()[1];
     assert_eq!(label.get("label").text().as_bytes(), String::from_utf8_lossy(name).as_bytes());
 }
@@ -123,17 +123,17 @@ fn lists_executable_segments() {
         [(1, 4, 0, &load), (1, 5, 0x1000, &load), (6, 5, 0x2000, &load), (1, 1, 0x3000, &store)];
     let listed = "1000\tf9400420\tldr x0, [x1, #8]\t0\n3000\tf9000420\tstr x0, [x1, #8]\t0\n3004\tshort\t-\t1\n";
     for sections in [vec![], sections(SYMTAB)] {
-        assert_eq!(call(&["list", "--segments"], &elf(false, &segments, &sections)), Ended::well(listed));
+        assert_eq!(call(&["list"], &elf(false, &segments, &sections)), Ended::well(listed));
     }
-    // Without section headers it goes by segments, and says so.
+    // Without section headers there is nothing else to go by, which is said to whoever asks for sections.
     let file = elf(false, &segments, &[]);
-    let ended = call(&["list"], &file);
+    let ended = call(&["list", "--sections"], &file);
     assert_eq!((ended.wrote.as_str(), ended.status), (listed, Some(0)));
     assert!(ended.said.contains("standard input: it has no section headers"), "{ended:?}");
 
     // Cut anywhere it is said to be damaged; a file of fewer than four bytes is no ELF file yet.
     for cut in 4..file.len() {
-        call(&["list", "--segments"], &file[..cut]).fails(1, "a damaged ELF file");
+        call(&["list"], &file[..cut]).fails(1, "a damaged ELF file");
     }
     for (place, byte, said) in [
         (54, 55, "55 bytes each"),
@@ -143,10 +143,19 @@ fn lists_executable_segments() {
     ] {
         let mut file = file.clone();
         file[place] = byte;
-        call(&["list", "--segments"], &file).fails(1, said);
+        call(&["list"], &file).fails(1, said);
     }
-    call(&["list"], &elf(false, &[(1, 4, 0, &load)], &[])).fails(1, "without an executable load segment");
-    call(&["list", "--segments"], &load).fails(1, "no ELF file, so that it has no segments");
+    call(&["list", "--sections"], &elf(false, &[(1, 4, 0, &load)], &[])).fails(1, "without an executable load segment");
+    let hint = "; --sections goes by its sections";
+    let ended = call(&["list"], &elf(true, &[], &sections(SYMTAB)));
+    ended.fails(1, "FILE.o FILE.bin; --sections goes by its sections\n");
+    for words in [&["list"][..], &["list", "--sections"]] {
+        assert!(!call(words, &elf(false, &[], &[])).said.contains(hint));
+    }
+    // An image has neither, so that whoever asks for segments is told.
+    let listed = Ended::well("f9400420\tldr x0, [x1, #8]\t0\n");
+    assert_eq!((call(&["list"], &load), call(&["list", "--sections"], &load)), (listed.clone(), listed));
+    call(&["check", "--segments"], &load).fails(2, "no ELF file, so that it has no segments");
 }
 
 #[test]
@@ -157,7 +166,7 @@ fn foreign_files() {
     {
         let mut file = file.clone();
         file[place] = byte;
-        for words in [&["list"][..], &["list", "--segments"]] {
+        for words in [&["list"][..], &["list", "--sections"]] {
             let ended = call(words, &file);
             ended.fails(1, "not a 64-bit little-endian one for AArch64");
             assert!(ended.said.contains(said), "{ended:?}");
@@ -176,7 +185,7 @@ fn damaged_sections() {
     let with = |place: usize, number: u64, length: usize| {
         let mut file = file.clone();
         file[place..place + length].copy_from_slice(&number.to_le_bytes()[..length]);
-        call(&["list"], &file)
+        call(&["list", "--sections"], &file)
     };
     let [text, fini, table, names] = [2, 3, 5, 7].map(|index| header(&file, index));
     with(40, file.len() as u64 - 63, 8).fails(1, "its table of section headers lies behind its end");
@@ -199,10 +208,12 @@ fn damaged_sections() {
     with(table + 40, 8, 4).fails(1, "names a section 8");
     with(table + 40, 0, 4).fails(1, "a name lies behind its table");
     let none = |segments| elf(false, segments, &sections(SYMTAB)[..1]);
-    call(&["list"], &none(&[])).fails(1, "without an executable section that has bytes\n");
-    call(&["list"], &none(&[(1, 5, 0, &[])])).fails(1, "that has bytes; --segments goes by segments alone\n");
+    call(&["list", "--sections"], &none(&[])).fails(1, "without an executable section that has bytes\n");
+    let empty = none(&[(1, 5, 0, &[])]);
+    call(&["list", "--sections"], &empty).fails(1, "that has bytes; without --sections it goes by segments alone\n");
+    call(&["check"], &empty).fails(2, "that has bytes; by --segments it goes by segments alone\n");
     for cut in 4..file.len() {
-        let ended = call(&["list"], &file[..cut]);
+        let ended = call(&["list", "--sections"], &file[..cut]);
         ended.fails(1, "a damaged ELF file");
     }
 }
@@ -215,10 +226,10 @@ fn very_many_sections() {
     file[first + 32..first + 40].copy_from_slice(&8u64.to_le_bytes());
     file[first + 40..first + 44].copy_from_slice(&7u32.to_le_bytes());
     file[60..64].copy_from_slice(&[0, 0, 0xff, 0xff]);
-    assert_eq!(call(&["list"], &file), Ended::well(LISTED));
+    assert_eq!(call(&["list", "--sections"], &file), Ended::well(LISTED));
     for count in [1 << 20, 1 << 58, u64::MAX] {
         file[first + 32..first + 40].copy_from_slice(&count.to_le_bytes());
-        call(&["list"], &file).fails(1, "its table of section headers lies behind its end");
+        call(&["list", "--sections"], &file).fails(1, "its table of section headers lies behind its end");
     }
 
     // A file that has them, all of the same bytes or of none.
@@ -234,8 +245,8 @@ fn very_many_sections() {
         large[place as usize + 32..][..8].copy_from_slice(&count.to_le_bytes());
         large.extend(table.repeat(count as usize - 1));
         match said {
-            "" => assert_eq!(call(&["list"], &large), Ended::well("")),
-            said => call(&["list"], &large).fails(1, said),
+            "" => assert_eq!(call(&["list", "--sections"], &large), Ended::well("")),
+            said => call(&["list", "--sections"], &large).fails(1, said),
         }
     }
 }
@@ -255,7 +266,7 @@ fn any_byte_changed() {
         }
     }
     let mut counts = [0; 2];
-    for (name, batch) in ["list", "list --segments", "list --json", "check"]
+    for (name, batch) in ["list --each", "list --each --sections", "list --sections --json", "check"]
         .iter()
         .flat_map(|name| paths.chunks(1000).map(move |batch| (name, batch)))
     {
@@ -283,7 +294,7 @@ fn as_a_document() {
     let path = made("document.elf", &file);
     let image = made("document.bin", &[0x20, 0x04, 0x40, 0xf9, 0, 0, 0, 0x91, 1]);
     let [path, image] = [&path, &image].map(|path| path.to_str().unwrap());
-    let ended = call(&["list", "--json", path, "/no/such/file", image], b"");
+    let ended = call(&["list", "--json", "--sections", path, "/no/such/file", image], b"");
     assert_eq!(ended.status, Some(1));
     assert!(ended.said.starts_with("milestarling: /no/such/file: "), "{ended:?}");
     let document = Value::read(&ended.wrote);

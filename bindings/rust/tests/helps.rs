@@ -6,8 +6,22 @@ use calls::{call, command, made, Ended};
 use std::fs;
 use std::process::Stdio;
 
-const COMMANDS: [&str; 13] =
-    ["list", "check", "rescue", "word", "text", "run", "import", "why", "trace", "answer", "completion", "man", "help"];
+const COMMANDS: [&str; 14] = [
+    "list",
+    "rescue",
+    "word",
+    "text",
+    "run",
+    "import",
+    "why",
+    "trace",
+    "check",
+    "report",
+    "answer",
+    "completion",
+    "man",
+    "help",
+];
 
 const VERSION: &str = concat!("milestarling ", env!("CARGO_PKG_VERSION"), "\n");
 
@@ -20,11 +34,12 @@ fn help_tells_of_each_command() {
     }
     for name in COMMANDS {
         assert!(help.wrote.contains(&format!("\n  milestarling {name}")), "{name}");
-        let told = call(&[name, "--help"], b"");
+        let told = call(&["help", name], b"");
+        assert!(told.status == Some(0) && told.said.is_empty(), "{told:?}");
         let own = told.wrote.split("\n      -h, --help ").next().unwrap();
         assert!(own.starts_with(&format!("  milestarling {name}")) && help.wrote.contains(own), "{told:?}");
-        for words in [&[name, "-h"][..], &["help", name], &[name, "-", "-h", "--bogus"]] {
-            assert_eq!(call(words, b""), told);
+        for words in [&[name, "--help"][..], &[name, "-h"], &[name, "-", "-h", "--bogus"]] {
+            assert_eq!(call(words, b""), help);
         }
         for flag in ["-V", "--version"] {
             assert_eq!(call(&[name, flag], b""), Ended::well(VERSION));
@@ -39,8 +54,10 @@ fn help_tells_of_each_command() {
 
 #[test]
 fn a_wrong_call_is_named() {
-    call(&[], b"")
-        .fails(2, "list, check, rescue, word, text, run, import, why, trace, report, answer, completion, man or help");
+    call(&[], b"").fails(
+        2,
+        "list, rescue, word, text, run, import, why or trace, and also check, report, answer, completion, man or help;",
+    );
     call(&["lists"], b"").fails(2, "`lists` is no command; did you mean `list`?");
     call(&["wyh"], b"").fails(2, "did you mean `why`?");
     call(&["disassemble"], b"").fails(2, "`disassemble` is no command: list, ");
@@ -50,11 +67,21 @@ fn a_wrong_call_is_named() {
     }
     call(&["run", "--secret"], b"").fails(2, "did you mean `--secrets`?");
     call(&["run", "--secrets=yes"], b"").fails(2, "--secrets takes no value");
-    call(&["list", "--as", "b"], b"").fails(2, "`--as` is no option of `list`; did you mean `--at`?");
+    call(&["list", "--as"], b"").fails(2, "`--as` is no option of `list`; did you mean `--at`?\n");
+    for words in [&["list", "--as", "b"][..], &["list", "b", "--as"]] {
+        call(words, b"")
+            .fails(2, "`--as` is no option of `list`; did you mean `--at`? (as a file: one file at a time)\n");
+    }
+    for words in [&["check", "--as", "b"][..], &["why", "b", "--as"]] {
+        assert!(!call(words, b"").said.contains("one file at a time"), "{words:?}");
+    }
     call(&["import", "--at=0", "--at", "1"], b"").fails(2, "--at is given twice");
     for name in ["rescue", "import"] {
         call(&[name, "a", "b", "--at=0", "--size=1"][..if name == "import" { 5 } else { 3 }], b"")
             .fails(2, "one file at a time, and not a b");
+    }
+    for name in ["list", "run"] {
+        call(&[name, "a", "b"], b"").fails(2, "one file at a time, and not a b: --each takes several\n");
     }
     call(&["man", "list"], b"").fails(2, "takes no words");
     for words in [&["completion"][..], &["completion", "csh"]] {
@@ -78,18 +105,19 @@ fn several_files_are_named() {
     let word = made("one.bin", &[0x20, 0x04, 0x40, 0xf9]);
     let (word, line) = (word.to_str().unwrap(), "f9400420\tldr x0, [x1, #8]\t0\n");
     let twice = format!("==> {word} <==\n{line}\n==> {word} <==\n{line}");
-    assert_eq!(call(&["list", word, word], b""), Ended::well(&twice));
+    assert_eq!(call(&["list", "--each", word, word], b""), Ended::well(&twice));
+    assert_eq!(call(&["list", "--each", word], b""), Ended::well(line));
     // One that fails is said, and the others are done.
-    let ended = call(&["list", word, "/no/such/file", word], b"");
+    let ended = call(&["list", "--each", word, "/no/such/file", word], b"");
     let around = format!("==> {word} <==\n{line}\n==> /no/such/file <==\n\n==> {word} <==\n{line}");
     assert_eq!((ended.wrote.as_str(), ended.status), (around.as_str(), Some(1)));
     assert!(ended.said.starts_with("milestarling: /no/such/file: ") && ended.said.lines().count() == 1, "{ended:?}");
 
     let case = made("prefetch.case", b"prfm pldl1keep, [x1]\n");
     let case = case.to_str().unwrap();
-    let ran = "step 1: prefetch, by f9800020, `prfm pldl1keep, [x1]`\ndone, after 1 step\npc 0x4\n";
+    let ran = "step 1: prefetch, by f9800020, `prfm pldl1keep, [x1]`\ndone, after 1 steps\npc 0x4\n";
     let twice = format!("==> {case} <==\n{ran}\n==> {case} <==\n{ran}");
-    assert_eq!(call(&["run", case, case], b""), Ended::well(&twice));
+    assert_eq!(call(&["run", case, "--each", case], b""), Ended::well(&twice));
 }
 
 /// Whoever reads no further is no fault: nothing is said, and the status is 0.

@@ -73,9 +73,11 @@ fn a_text_that_is_almost_right_is_told_what_is_wrong() {
         assert!(said.contains("`: refused (9): the text isn't the line of any load or store: "), "{said}");
         assert!(said.contains(wrong), "{said}");
         assert_eq!(suggested(&said), Some(*text), "{line}: {said}");
-        // The escape is for the terminal.
-        assert!(!said.contains(['\t', '\r']), "{said:?}");
+        // The escape is for the terminal, which gets only what ends the line.
+        assert!(!said.contains('\t') && said.contains('\r') == line.ends_with('\r'), "{said:?}");
     }
+    let escaped = said(&["ldr\rx0\x1b[2J".into()]);
+    assert!(escaped[0].contains("`ldr\\rx0\\u{1b}[2J`"), "{escaped:?}");
 }
 
 #[test]

@@ -358,16 +358,7 @@ fn noise() {
 fn long_texts() {
     let mut random = Random::new(6);
     for length in [29, 30, 31, 32, 34, 35, 36, 100, 106, 107, 255, 256, 257, 4096, 65_535, 65_536, 1 << 20] {
-        for head in [
-            "",
-            "ldr x0, [x1, #",
-            "ldr x0, #-",
-            "ldr x",
-            "prfm #",
-            "prfm pldl1",
-            "ldr x0, [x1, x2, lsl #",
-            "stp x0, x1, ",
-        ] {
+        for head in ["", "ldr x0, [x1, #", "ldr x0, #-", "ldr x", "prfm #", "prfm pldl1", "ldr x0, [x1, x2, lsl #", "stp x0, x1, "] {
             for filling in [b"0", b"1", b"9", b" ", b"["] {
                 let mut text = head.as_bytes().to_vec();
                 text.extend(filling.iter().cycle().take(length));

@@ -47,7 +47,10 @@ impl<'a> Call<'a> {
         let Some(flag) = command.option(name) else {
             let names = command.options.iter().map(|flag| flag.name);
             let meant = meant(name, names).map_or_else(String::new, |near| format!("; did you mean `{near}`?"));
-            return Err(Failure::Usage(format!("`{name}` is no option of `{}`{meant}", command.name)));
+            // It may have been meant as a file beside another.
+            let is_beside = command.takes_one_file() && (!self.operands.is_empty() || words.next().is_some());
+            let file = if is_beside { " (as a file: one file at a time)" } else { "" };
+            return Err(Failure::Usage(format!("`{name}` is no option of `{}`{meant}{file}", command.name)));
         };
         let value = match (flag.value, joined) {
             (None, None) => "",

@@ -2,7 +2,7 @@
 
 use crate::call::Call;
 use crate::import;
-use crate::input::{steps, Failure, Source};
+use crate::input::{Failure, Source};
 use crate::places::{blame, shown_places, shown_word, tainted_by_steps, Region};
 use crate::statements::{said, said_of_tainted};
 use crate::turns::{Pair, Plugins};
@@ -238,7 +238,7 @@ pub fn command(call: &Call, output: &mut dyn Write) -> Result<(), Failure> {
     if call.has("--json") {
         return run_json::all(&call.operands, secrets, output);
     }
-    Source::each(&call.operands, output, |mut source, output| match Machine::read(&mut source)? {
+    Source::each(call, output, |mut source, output| match Machine::read(&mut source)? {
         Machine::Alone(session, memory, words) => run_alone(*session, memory, &words, secrets, output),
         Machine::Pair(pair) => pair.run(secrets, output),
     })
@@ -256,7 +256,7 @@ fn run_alone(
     let mut show = || -> io::Result<()> {
         show_steps(words, past.trace(), past.statuses(), &tainted, output)?;
         match ran {
-            Ok(_) => writeln!(output, "done, after {}", steps(past.steps()))?,
+            Ok(_) => writeln!(output, "done, after {} steps", past.steps())?,
             Err(refusal) => writeln!(output, "{refusal}{}", blame(&session, &memory, refusal))?,
         }
         show_session(&session, secrets, output)?;

@@ -199,7 +199,7 @@ impl Report<'_> {
 
 /// `milestarling check`. The files behind one that can't be read are checked too.
 pub fn command(call: &Call, output: &mut dyn Write) -> Result<(), Failure> {
-    let asked = Asked::of(call)?;
+    let asked = Asked::of_check(call)?;
     let mut report = Report { json: asked.json, files: Items::default(), output };
     let (mut total, mut read) = (Counts::default(), 0);
     report.begin().map_err(Failure::write)?;

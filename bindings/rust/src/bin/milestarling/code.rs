@@ -8,29 +8,47 @@ use crate::input::{say, Failure, Source};
 /// What is asked for beside files.
 pub struct Asked {
     pub at: Option<u64>,
+    /// How an ELF file is made to go by segments alone, where it goes by sections.
+    sections: Option<&'static str>,
+    /// Whether an option asks for segments, which no image has.
     segments: bool,
     pub json: bool,
 }
 
 impl Asked {
-    pub fn of(call: &Call) -> Result<Asked, Failure> {
-        Ok(Asked { at: call.number("--at")?, segments: call.has("--segments"), json: call.has("--json") })
+    /// What is asked of `list`, which goes by an ELF file's segments.
+    pub fn of_list(call: &Call) -> Result<Asked, Failure> {
+        Asked::of(call, call.has("--sections").then_some("without --sections"))
     }
 
-    /// The parts of what was read. A file without sections goes by segments, which is said.
+    /// What is asked of `check`, which goes by sections.
+    pub fn of_check(call: &Call) -> Result<Asked, Failure> {
+        Asked::of(call, (!call.has("--segments")).then_some("by --segments"))
+    }
+
+    fn of(call: &Call, sections: Option<&'static str>) -> Result<Asked, Failure> {
+        Ok(Asked { at: call.number("--at")?, sections, segments: call.has("--segments"), json: call.has("--json") })
+    }
+
+    /// The parts of what was read. A file without sections goes by segments, which is said to whoever asked for sections.
     pub fn parts<'a>(&self, source: &Source, file: &'a [u8]) -> Result<Vec<Part<'a>>, Failure> {
         if !file.starts_with(elf::MAGIC) {
-            self.fits_image(source)?;
-            return Ok(vec![Part::image(self.at.unwrap_or(0), file)]);
+            return match self.segments {
+                true => Err(source.wrong("no ELF file, so that it has no segments")),
+                false => Ok(vec![Part::image(self.at.unwrap_or(0), file)]),
+            };
         }
         if self.at.is_some() {
             return Err(Failure::Usage("an ELF file has addresses of its own: leave out --at".into()));
         }
         let wrong = |said: String| source.wrong(said);
         let elf = Elf::new(file).map_err(wrong)?;
-        if !self.segments {
-            let hint = if elf.has_segments() { "; --segments goes by segments alone" } else { "" };
-            if let Some(sections) = elf.sections().map_err(|said| wrong(said + hint))? {
+        if let Some(otherwise) = self.sections {
+            let hint = match elf.has_segments() {
+                true => format!("; {otherwise} it goes by segments alone"),
+                false => String::new(),
+            };
+            if let Some(sections) = elf.sections().map_err(|said| wrong(said + &hint))? {
                 return Ok(sections);
             }
             let name = source.name();
@@ -38,15 +56,9 @@ impl Asked {
                 "{name}: it has no section headers, so that it goes by segments, with all that is in them"
             ));
         }
-        elf.segments().map_err(wrong)
-    }
-
-    /// Whether a file that isn't an ELF file goes together with the options.
-    pub fn fits_image(&self, source: &Source) -> Result<(), Failure> {
-        match self.segments {
-            true => Err(source.wrong("no ELF file, so that it has no segments")),
-            false => Ok(()),
-        }
+        let is_usual = self.sections.is_none() && !self.segments;
+        let hint = if is_usual && elf.has_sections() { "; --sections goes by its sections" } else { "" };
+        elf.segments().map_err(|said| wrong(said + hint))
     }
 
     /// Does the same with the parts of each file that was named, or of standard input. Of one that can't be read it is told

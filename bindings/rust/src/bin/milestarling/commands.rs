@@ -68,8 +68,10 @@ pub const SUMMARY: &str =
      choosing addresses, and tells why a byte is tainted.";
 
 /// Options of every command, and of none.
-pub const COMMON: &[(&str, &str)] =
-    &[("-h, --help", "this text, or behind a command's name what it does"), ("-V, --version", "the version")];
+pub const COMMON: &[(&str, &str)] = &[
+    ("-h, --help", "what all commands do; `milestarling help COMMAND` tells of one"),
+    ("-V, --version", "the version"),
+];
 
 /// The statuses that a call ends with.
 pub const STATUSES: &[(&str, &str)] = &[
@@ -84,8 +86,7 @@ pub const CLOSING: &str =
      Numbers are in decimal or after 0x in hexadecimal. The answers are those of docs/ANSWERS.md, which \
      `milestarling answer` has too. What is wrong is said on standard error, behind what was written before it.";
 
-const SEGMENTS: Flag =
-    Flag::new("--segments", "goes by an ELF file's load segments, with all that is in them: section headers can lie");
+const EACH: Flag = Flag::new("--each", "takes several files, each behind a line with its name");
 
 const JSON: Flag = Flag::new("--json", "writes the same as a JSON document");
 
@@ -153,7 +154,10 @@ const TRACE_STATEMENTS: &[(&str, &str)] = &[
 
 /// All commands, in the order of the help.
 pub const COMMANDS: &[Command] =
-    &[LIST, CHECK, RESCUE, WORD, TEXT, RUN, IMPORT, WHY, TRACE, REPORT, ANSWER, COMPLETION, MAN, HELP];
+    &[LIST, RESCUE, WORD, TEXT, RUN, IMPORT, WHY, TRACE, CHECK, REPORT, ANSWER, COMPLETION, MAN, HELP];
+
+/// How many of them do the library's work. The others explain it, and are named apart.
+const MAIN: usize = 8;
 
 const LIST: Command = Command {
     name: "list",
@@ -161,38 +165,25 @@ const LIST: Command = Command {
     about: "list the words of an image or an ELF file",
     options: &[
         Flag::with_value("--at", "ADDRESS", "begins each line with its address, counted from this one, and a tab"),
-        SEGMENTS,
+        Flag::new("--sections", "goes by an ELF file's sections, with names and data: object files too"),
+        EACH,
         JSON,
     ],
     text: &[
         Says(
             "Lists little-endian words: a line for each with the word, its text or `-`, and its answer 0, 2 (not a \
              load or store of the set), 3 (undefined) or 4 (unpredictable), parted by tabs; and a line `short` for \
-             bytes that are left over. Of several files each is listed behind a line with its name.",
+             bytes that are left over. With --json it takes several files.",
         ),
         Says(
-            "Of an ELF file the executable sections are listed, with their own addresses: behind a line with the \
-             section's name, and with a line like `0000000000001234 <name>:` before the word that a symbol names. A \
-             line `data` stands for bytes that symbols ($d) say to be data, with their number. A file without \
-             section headers goes by segments, which is said.",
+            "Of an ELF file the executable load segments are listed, with their own addresses and all that is in \
+             them. With --sections its executable sections are: behind a line with the section's name, and with a \
+             line like `0000000000001234 <name>:` before the word that a symbol names. A line `data` stands for bytes \
+             that symbols ($d) say to be data, with their number. A file without section headers goes by segments \
+             all the same, which is said.",
         ),
     ],
     run: list::command,
-};
-
-const CHECK: Command = Command {
-    name: "check",
-    operands: "[FILE..]",
-    about: "find loads and stores that aren't taken",
-    options: &[Flag::with_value("--at", "ADDRESS", "the address of an image's first word, at first 0"), SEGMENTS, JSON],
-    text: &[Says(
-        "Lists the loads and stores of an image or an ELF file that this machine doesn't take, as `list` does, with \
-         the reason and the symbol behind each: what kind it is, or by which rule of docs/RULES.md it is undefined \
-         or unpredictable. The last line counts. It goes by sections or segments as `list` does. `dc zva` counts as \
-         a store, and the loads and stores of SVE and SME, which a host doesn't show, aren't looked for. The status \
-         is 0 where all are taken, 1 where some aren't, and 2 where a file couldn't be read.",
-    )],
-    run: check::command,
 };
 
 const RESCUE: Command = Command {
@@ -237,13 +228,13 @@ const RUN: Command = Command {
     name: "run",
     operands: "[FILE..]",
     about: "run a case",
-    options: &[Flag::new("--secrets", "shows what is tainted"), JSON],
+    options: &[Flag::new("--secrets", "shows what is tainted"), EACH, JSON],
     text: &[
         Says(
             "Runs a case and shows each step, whether it is a store-exclusive that failed, and what it taints, and \
              then the registers and the vector registers that aren't 0, the monitor where it isn't open, and memory. \
              Behind answer 5 stand the tainted bytes that the address would have come from. The status is 1 where a \
-             word was refused.",
+             word was refused. With --json it takes several files.",
         ),
         Says(
             "A tainted byte is shown as `**`, and by --secrets as it is: in memory with a star behind it, and in a \
@@ -308,6 +299,28 @@ const TRACE: Command = Command {
         Terms(TRACE_STATEMENTS),
     ],
     run: trace::command,
+};
+
+const CHECK: Command = Command {
+    name: "check",
+    operands: "[FILE..]",
+    about: "find loads and stores that aren't taken",
+    options: &[
+        Flag::with_value("--at", "ADDRESS", "the address of an image's first word, at first 0"),
+        Flag::new(
+            "--segments",
+            "goes by an ELF file's load segments, with all that is in them: section headers can lie",
+        ),
+        JSON,
+    ],
+    text: &[Says(
+        "Lists the loads and stores of an image or an ELF file that this machine doesn't take, as `list` does, with \
+         the reason and the symbol behind each: what kind it is, or by which rule of docs/RULES.md it is undefined \
+         or unpredictable. The last line counts. It goes by sections as `list --sections` does. `dc zva` counts as \
+         a store, and the loads and stores of SVE and SME, which a host doesn't show, aren't looked for. The status \
+         is 0 where all are taken, 1 where some aren't, and 2 where a file couldn't be read.",
+    )],
+    run: check::command,
 };
 
 const REPORT: Command = Command {
@@ -377,7 +390,12 @@ pub fn find(name: &str) -> Option<&'static Command> {
 
 /// The names of all, as a sentence has them.
 pub fn names() -> String {
-    let names: Vec<&str> = COMMANDS.iter().map(|command| command.name).collect();
+    let (main, others) = COMMANDS.split_at(MAIN);
+    format!("{}, and also {}", one_of(main), one_of(others))
+}
+
+fn one_of(commands: &[Command]) -> String {
+    let names: Vec<&str> = commands.iter().map(|command| command.name).collect();
     match &names[..] {
         [others @ .., last] => format!("{} or {last}", others.join(", ")),
         [] => String::new(),
@@ -387,6 +405,11 @@ pub fn names() -> String {
 impl Command {
     pub fn option(&self, name: &str) -> Option<&'static Flag> {
         self.options.iter().find(|flag| flag.name == name)
+    }
+
+    /// Whether it takes one file, where no option asks for more.
+    pub fn takes_one_file(&self) -> bool {
+        self.operands == "[FILE]" || self.option(EACH.name).is_some()
     }
 
     /// How it is called, without the command's own name.

@@ -105,7 +105,7 @@ fn zsh_arguments(command: &Command) -> String {
         choices if choices.is_empty() => "'*: : '".to_string(),
         choices => format!("'1:word:({})'", choices.join(" ")),
     };
-    format!("{rows}                '--help[tell what it does]' \\\n                {operands}\n")
+    format!("{rows}                '--help[tell what all do]' \\\n                {operands}\n")
 }
 
 fn zsh() -> String {
@@ -167,6 +167,6 @@ fn fish() -> String {
             lines += &format!("{behind} -a '{}'\n", command.choices().join(" "));
         }
     }
-    lines += "complete -c milestarling -s h -l help -d 'tell what it does'\n";
+    lines += "complete -c milestarling -s h -l help -d 'tell what all do'\n";
     lines + "complete -c milestarling -s V -l version -d 'tell the version'\n"
 }

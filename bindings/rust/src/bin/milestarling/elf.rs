@@ -185,6 +185,10 @@ impl<'a> Elf<'a> {
         number(self.header, 56, 2) != 0
     }
 
+    pub fn has_sections(&self) -> bool {
+        number(self.header, 40, 8) != 0
+    }
+
     /// The executable load segments, in the order of the file's table.
     pub fn segments(&self) -> Result<Vec<Part<'a>>, String> {
         let [table, size, count] = [(32, 8), (54, 2), (56, 2)].map(|(at, length)| number(self.header, at, length));
@@ -200,7 +204,9 @@ impl<'a> Elf<'a> {
             }
         }
         if found.is_empty() {
-            return Err("an ELF file without an executable load segment".into());
+            return Err("an ELF file without an executable load segment. Of an object file, make an image first: \
+                        aarch64-linux-gnu-objcopy -O binary -j .text FILE.o FILE.bin"
+                .into());
         }
         self.apart(found, "executable segments")
     }

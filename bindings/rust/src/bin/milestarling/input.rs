@@ -1,5 +1,6 @@
 //! What is read, what fails, and what is said while it takes long.
 
+use crate::call::Call;
 use crate::Failure::{Failed, Usage};
 use std::fmt::Display;
 use std::fs::File;
@@ -67,15 +68,19 @@ impl Source {
         Ok(Source { name: name.into(), reader, length })
     }
 
-    /// Does the same of each file that was named, or of standard input. Of several each is named before what is written of it,
-    /// and one that fails is said and those behind it are still done.
+    /// Does the same of the file that was named, or of standard input. Where several are asked for, each is named before what is
+    /// written of it, and one that fails is said and those behind it are still done.
     pub fn each(
-        files: &[&str],
+        call: &Call,
         output: &mut dyn Write,
         mut done: impl FnMut(Source, &mut dyn Write) -> Result<(), Failure>,
     ) -> Result<(), Failure> {
-        let files: Vec<&[&str]> = if files.is_empty() { vec![files] } else { files.chunks(1).collect() };
-        let several = files.len() > 1;
+        let named = &call.operands[..];
+        let several = named.len() > 1;
+        if several && !call.has("--each") {
+            return Err(Usage(format!("one file at a time, and not {}: --each takes several", named.join(" "))));
+        }
+        let files: Vec<&[&str]> = if several { named.chunks(1).collect() } else { vec![named] };
         let mut refused = false;
         for (at, &file) in files.iter().enumerate() {
             if several {
@@ -166,21 +171,14 @@ impl Source {
     }
 }
 
-/// So many steps, in words.
-pub fn steps(count: usize) -> String {
-    match count {
-        1 => "1 step".into(),
-        _ => format!("{count} steps"),
-    }
-}
-
-/// A text whose control characters are escaped, so that a terminal obeys none.
+/// A text whose control characters are escaped, so that a terminal obeys none but a carriage return at the end.
 pub fn printable(text: &str) -> String {
+    let (text, end) = text.strip_suffix('\r').map_or((text, ""), |text| (text, "\r"));
     let shown = text.chars().map(|letter| match letter.is_control() {
         true => letter.escape_default().to_string(),
         false => letter.into(),
     });
-    shown.collect()
+    shown.collect::<String>() + end
 }
 
 /// Says something on standard error. If that fails there is nowhere else to say it.

@@ -132,11 +132,11 @@ fn members_of(line: &[u8]) -> Vec<(&'static str, Json)> {
 
 /// `milestarling list`.
 pub fn command(call: &Call, output: &mut dyn Write) -> Result<(), Failure> {
-    let asked = Asked::of(call)?;
+    let asked = Asked::of_list(call)?;
     if asked.json {
         return list_json(call, &asked, output);
     }
-    Source::each(&call.operands, output, |source, output| list(source, &asked, output))
+    Source::each(call, output, |source, output| list(source, &asked, output))
 }
 
 fn list(mut source: Source, asked: &Asked, output: &mut dyn Write) -> Result<(), Failure> {
@@ -148,7 +148,6 @@ fn list(mut source: Source, asked: &Asked, output: &mut dyn Write) -> Result<(),
         let file = source.rest(batch[..begins].to_vec())?;
         return listing.parts(&asked.parts(&source, &file)?, &mut progress);
     }
-    asked.fits_image(&source)?;
     let (mut length, mut listed) = (begins, 0);
     while length > 0 {
         listing.push(&batch[..length])?;

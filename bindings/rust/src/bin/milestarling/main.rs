@@ -68,7 +68,7 @@ fn command(words: &[OsString], output: &mut dyn Write) -> Result<(), Failure> {
             let command = commands::find(name).ok_or_else(|| help::unknown(name))?;
             match Call::read(command, rest)? {
                 Asked::Work(call) => return (command.run)(&call, output),
-                Asked::Help => help::of(command),
+                Asked::Help => help::whole(),
                 Asked::Version => version(),
             }
         }

@@ -20,6 +20,9 @@ pub fn command(call: &Call, output: &mut dyn Write) -> Result<(), Failure> {
 }
 
 fn numbers(words: &[&str]) -> Result<Vec<u64>, Failure> {
+    if words.iter().all(|word| number(word).is_err()) {
+        return Err(Failure::Usage(format!("one file at a time, and not {}", words.join(" "))));
+    }
     let numbers: Result<Vec<u64>, String> = words.iter().map(|word| number(word)).collect();
     let numbers = numbers.map_err(|said| {
         Failure::Usage(format!("{said}: a trace in numbers has a code and an address for each step"))

@@ -1,7 +1,7 @@
 //! What a case says of two plugins that take turns, and their turns.
 
 use crate::case::{first_word, show_memory, show_session, show_steps};
-use crate::input::{steps, Failure};
+use crate::input::Failure;
 use crate::json::Json;
 use crate::places::{blame, tainted_by, Region};
 use crate::{number, run_json};
@@ -178,7 +178,7 @@ impl Pair {
         show_steps(&turn.words, &turn.trace, &turn.statuses, &turn.tainted, output)?;
         let (session, memory) = (self.shared.session(turn.plugin), self.shared.memory());
         match turn.ran {
-            Ok(done) => writeln!(output, "done, after {}", steps(done)),
+            Ok(done) => writeln!(output, "done, after {done} steps"),
             Err(refusal) => writeln!(output, "{refusal}{}", blame(session, memory, refusal)),
         }
     }

@@ -59,7 +59,7 @@ pub fn command(call: &Call, output: &mut dyn Write) -> Result<(), Failure> {
     let step = at.map_or(past.steps(), |at| usize::try_from(at).unwrap_or(usize::MAX));
     let explained = explained(&past, asked, step).map_err(|refusal| source.wrong(refusal))?;
     let Some(explained) = explained else {
-        return Err(source.wrong("no word was refused for a tainted address: name a place"));
+        return Err(Failure::Usage("no word was refused for a tainted address: name a place".into()));
     };
     let text = match call.has("--json") {
         true => format!("{}\n", explained.json(&source)),
