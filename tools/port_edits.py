@@ -22,7 +22,8 @@ from collections import defaultdict
 from concurrent.futures import ThreadPoolExecutor
 from difflib import SequenceMatcher
 
-KIT = "/opt/rattle"
+# The kit's folder, where `rt doc` has its first page.
+KIT = os.path.dirname(subprocess.run(["rt", "doc"], capture_output=True, text=True).stdout.strip())
 APART = 4  # lines between variants that share a file
 # Edits that are written by hand: their lines fall together with others when they are respelled, or a pair reads better so.
 HANDS = {
