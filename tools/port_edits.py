@@ -11,7 +11,7 @@ tools/port_names.py wrote after it. Both scripts have to be as they were for tha
 `turn` applies each edit to OLD's files, puts the variants where the originals stood, and lets port.py and port_names.py turn them: so
 a variant is spelled by the same scripts as the real file. Variants of one file share a clone where their lines are some lines apart.
 `write` sets each variant beside the original, both respelled, and writes the lines that differ as the edit's new pairs, cut to the
-fragment that the old pair had.
+fragment that the old pair had. Edits whose text was mended by hand afterwards are on docs/PORT.md.
 """
 
 import os
