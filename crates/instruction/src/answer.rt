@@ -5,7 +5,7 @@ ghost use Rattle.instruction.specs.Answers.{answer_number};
 
 use crate::family::Instruction;
 
-#[derive(Clone, Copy)]
+#[derive(Clone, Copy, PartialEq, Eq)]
 pub enum Answer {
     Done,
     BadWindow,

@@ -3,7 +3,7 @@ ghost use Rattle.std.specs.Prelude.{◌≡◌, ◌<◌};
 ghost use Rattle.instruction.specs.Operations.{exclusive_code, exclusive_at, store_exclusive_code, store_exclusive_at, access_scale, access_bytes, size_at};
 
 // The bytes of an access that has its size apart from its operation.
-#[derive(Clone, Copy)]
+#[derive(Clone, Copy, PartialEq, Eq)]
 pub enum AccessSize {
     Byte,
     Half,
@@ -12,7 +12,7 @@ pub enum AccessSize {
 }
 
 // Of ldxr, ldaxr, stlr and ldar.
-#[derive(Clone, Copy)]
+#[derive(Clone, Copy, PartialEq, Eq)]
 pub enum ExclusiveOp {
     LoadExclusive,
     LoadAcquireExclusive,
@@ -21,7 +21,7 @@ pub enum ExclusiveOp {
 }
 
 // Of stxr and stlxr, which have a status register.
-#[derive(Clone, Copy)]
+#[derive(Clone, Copy, PartialEq, Eq)]
 pub enum StoreExclusiveOp {
     StorePlainExclusive,
     StoreReleaseExclusive,

@@ -4,7 +4,7 @@ ghost use Rattle.instruction.specs.Operations.{sized_code, vector_of, size_of, o
 
 // A size with an opc. A signed load extends to 64 bits, or to 32 with zeros above. The last ten move a vector register's
 // low 1, 2, 4 or 8 bytes, or all 16.
-#[derive(Clone, Copy)]
+#[derive(Clone, Copy, PartialEq, Eq)]
 pub enum SizedOp {
     StoreByte,
     LoadByte,
@@ -32,7 +32,7 @@ pub enum SizedOp {
     LoadVectorDouble,
 }
 
-#[derive(Clone, Copy)]
+#[derive(Clone, Copy, PartialEq, Eq)]
 pub enum LiteralOp {
     LiteralWord,
     LiteralDouble,
@@ -43,7 +43,7 @@ pub enum LiteralOp {
     LiteralVectorQuad,
 }
 
-#[derive(Clone, Copy)]
+#[derive(Clone, Copy, PartialEq, Eq)]
 pub enum PairOp {
     StoreWords,
     LoadWords,
@@ -58,7 +58,7 @@ pub enum PairOp {
     LoadVectorQuads,
 }
 
-#[derive(Clone, Copy)]
+#[derive(Clone, Copy, PartialEq, Eq)]
 pub enum PairMode {
     NoAllocate,
     Post,
