@@ -1,10 +1,9 @@
 -- What writing the text of a word gives: 01, "Answer numbers", tests 2, 3 and 10 in this order.
-use Rattle.std.specs.Prelude.{ℕ, List, ltb}
+use Rattle.std.specs.Prelude.{ℕ, List, ltb, Result, Ok, Err}
 use Rattle.std.proofs.Math.ListN
 use Rattle.std.proofs.lemmas.List.Edits.{sets}
 use Rattle.bits.specs.Choice.{pick}
 use Rattle.text.specs.Texts.{word_text}
-use Rattle.printer.specs.declared.Written.{Written}
 use Rattle.instruction.specs.declared.answer.Answer.{Answer}
 use Rattle.instruction.specs.declared.answer.Answer.TheVariants.{Done, NoRoom}
 use Rattle.instruction.specs.Table.{allocated}
@@ -16,8 +15,10 @@ pub record Outcome : Type 0 where
   pub length : ℕ
   pub buffer : List ℕ
 
-abbrev pub outcome : Written → List ℕ → Outcome
-outcome r buffer = record { answer = r.answer; length = r.length; buffer = buffer }
+-- a refusal has length 0
+abbrev pub outcome : Result ℕ Answer → List ℕ → Outcome
+outcome (Ok n) buffer = record { answer = Done; length = n; buffer = buffer }
+outcome (Err a) buffer = record { answer = a; length = 0; buffer = buffer }
 
 -- a text at the start of a buffer, or answer 10 where the buffer is shorter than the text
 unfoldable pub copied : List ℕ → List ℕ → Outcome

@@ -14,13 +14,6 @@ ghost use Rattle.printer.specs.route.Printing.{textless};
 use instruction::Answer;
 use text::Pieces;
 
-// What writing a text returns. The length is 0 where it is refused.
-#[derive(Drop)]
-pub struct Written {
-    pub answer: Answer,
-    pub length: usize,
-}
-
 // What putting a text returns: the answer of its word, and the position behind the text.
 #[derive(Drop)]
 pub struct Shown {
@@ -43,39 +36,32 @@ pub fn put(line: &mut [u8], at: usize, word: u32) -> Shown
     }
 }
 
-// Of the answers of words, 2 and 3.
+// Of the answers of words.
 fn has_no_text(answer: Answer) -> bool
     ensures { result ≡ textless answer }
 {
-    let number = instruction::answer_number(answer);
-    (number == 2) | (number == 3)
+    matches!(answer, Answer::NotInSet | Answer::Undefined)
 }
 
-// Puts the text of a word at the start of a buffer. A word that has none, and a buffer that is too short, are
-// refused, and the buffer is unchanged.
-pub fn write(word: u32, buffer: &mut [u8]) -> Written
+// Puts the text of a word at the start of a buffer, and returns its length. A word that has none, and a buffer that is
+// too short, are refused, and the buffer is unchanged.
+pub fn write(word: u32, buffer: &mut [u8]) -> Result<usize, Answer>
     ensures { outcome result buffer.new ≡ write_of word buffer.old }
 {
     let spelling = text::spell(word);
     let answer = spelling.answer;
     if has_no_text(answer) {
-        return Written { answer, length: 0 };
+        return Err(answer);
     }
     write_pieces(spelling.pieces, buffer)
 }
 
-fn write_pieces(pieces: Pieces, buffer: &mut [u8]) -> Written
+fn write_pieces(pieces: Pieces, buffer: &mut [u8]) -> Result<usize, Answer>
     requires { Sound pieces }
     ensures { outcome result buffer.new ≡ copied (whole pieces) buffer.old }
 {
     if buffer.len() < store::total(pieces) {
-        return Written {
-            answer: Answer::NoRoom,
-            length: 0,
-        };
+        return Err(Answer::NoRoom);
     }
-    Written {
-        answer: Answer::Done,
-        length: store::put_pieces(buffer, 0, pieces),
-    }
+    Ok(store::put_pieces(buffer, 0, pieces))
 }
