@@ -13,14 +13,13 @@ use Rattle.access.specs.declared.Access.{Access}
 use Rattle.access.specs.declared.Access.TheVariants.{Nothing, Moves}
 use Rattle.access.specs.Accesses.{word_access}
 use Rattle.plan.specs.declared.window.Window.{Window}
-use Rattle.plan.specs.declared.Plan.TheVariants.{Refuse, Touch}
 use Rattle.plan.specs.Address.{sum_of, address_of}
 use Rattle.plan.specs.Refusals.{Refusal, first_of, answer_in, Given}
 use Rattle.plan.specs.Admission.{admit_of}
 use Rattle.plan.specs.declared.ranges.Reach.{Reach}
 use Rattle.plan.specs.declared.ranges.Reach.TheVariants.{Alone, Ranged}
 use Rattle.plan.specs.Ranges.{admit_ranges, admit_in}
-use Rattle.plan.specs.Plans.{misaligned_stack, refusals_of, plan_of}
+use Rattle.plan.specs.Plans.{Refuse, Touch, misaligned_stack, refusals_of, plan_of}
 use Rattle.plan.proofs.Refusals.{Passed, Each, each_map, first_by, first_map, none_holds, given}
 use Rattle.vectors.specs.File.{wide}
 use Rattle.vectors.proofs.Slots.{length_map}

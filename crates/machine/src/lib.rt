@@ -20,7 +20,7 @@ use access::{Access, Addressing, Transfer};
 pub use effect::{Writes, code};
 use instruction::Answer;
 pub use monitor::{Monitor, fails};
-use plan::Plan;
+use plan::{Refusal, Touch};
 pub use plan::{Reach, Window};
 use registers::Registers;
 use vectors::VectorWrites;
@@ -317,8 +317,8 @@ fn decide_moves(
 {
     let operands = plan::operands_of(a, pc, value, tainted);
     match plan::planned(t, a, operands, window, reach, memory.len() as u64) {
-        Plan::Refuse(answer, address) => Decision::Refused(answer, address),
-        Plan::Touch(address, sum) => {
+        Err(Refusal { answer, address }) => Decision::Refused(answer, address),
+        Ok(Touch { address, sum }) => {
             let at = (address - window.origin) as usize;
             let code = effect::code(t);
             let status = monitor::status(t, address, monitor);

@@ -1,10 +1,10 @@
 -- Laws of a list of refusals: the first that holds decides. Assumes nothing.
-use Rattle.std.proofs.Common.{◌≡◌, ℕ, Bool, true, false, eqb, ◌⊎◌, ◌↔◌, List, [], ◌∷◌, sym, refl, inl, inr, arith, ne_eqb}
+use Rattle.std.proofs.Common.{◌≡◌, ℕ, Bool, true, false, not, eqb, ◌⊎◌, ◌↔◌, List, [], ◌∷◌, Result, Ok, Err, is_err, sym, refl, inl, inr, arith, ne_eqb}
 use Rattle.bits.specs.Choice.{pick}
 use Rattle.bits.proofs.Choices.{pick_by}
 use Rattle.instruction.specs.declared.answer.Answer.{Answer}
 use Rattle.instruction.specs.Answers.{answer_number}
-use Rattle.plan.specs.Refusals.{Refusal, first_of, answer_in, Given}
+use Rattle.plan.specs.Refusals.{Refusal, first_of, answer_in, verdict_in, Given}
 
 -- no refusal holds
 abbrev pub Passed : List Refusal → Type 0
@@ -52,6 +52,29 @@ pub by_answer : {A : Type 0} (refuse : Answer → ℕ → A) (done : A) (a : ℕ
     → first_of refuse done es ≡ pick (eqb (answer_number (answer_in es)) 0) done (refuse (answer_in es) a)
 by_answer refuse done a [] h = refl
 by_answer refuse done a (e ∷ es) h = answer_at refuse done a e.holds e (answer_in es) _ h.0 (by_answer refuse done a es h.1)
+
+-- the same of what a function returns, whose error needs no number
+abbrev pub refused_at : {A : Type 0} → (Answer → ℕ → A) → A → ℕ → Result (Unit {0}) Answer → A
+refused_at refuse done a (Ok u) = done
+refused_at refuse done a (Err answer) = refuse answer a
+
+verdict_at : {A : Type 0} (refuse : Answer → ℕ → A) (done : A) (a : ℕ) (b : Bool) (e : Refusal) (other : Result (Unit {0}) Answer) (x : A) → Reports a e → x ≡ refused_at refuse done a other
+    → pick b (refuse e.answer e.address) x ≡ refused_at refuse done a (pick b (Err e.answer) other)
+verdict_at refuse done a true e other x h k = rw h.0
+verdict_at refuse done a false e other x h k = k
+
+pub by_verdict : {A : Type 0} (refuse : Answer → ℕ → A) (done : A) (a : ℕ) (es : List Refusal) → Each (Reports a) es → first_of refuse done es ≡ refused_at refuse done a (verdict_in es)
+by_verdict refuse done a [] h = refl
+by_verdict refuse done a (e ∷ es) h = verdict_at refuse done a e.holds e (verdict_in es) _ h.0 (by_verdict refuse done a es h.1)
+
+-- it is an error exactly where the answer is not 0
+error_at : (b : Bool) (answer other : Answer) (r : Result (Unit {0}) Answer) → ¬ (answer_number answer ≡ 0) → is_err r ≡ not (eqb (answer_number other) 0) → is_err (pick b (Err answer) r) ≡ not (eqb (answer_number (pick b answer other)) 0)
+error_at true answer other r z h = rw (ne_eqb (answer_number answer) 0 z)
+error_at false answer other r z h = h
+
+pub verdict_refused : (es : List Refusal) → Each (λ e. ¬ (answer_number e.answer ≡ 0)) es → is_err (verdict_in es) ≡ not (eqb (answer_number (answer_in es)) 0)
+verdict_refused [] z = refl
+verdict_refused (e ∷ es) z = error_at e.holds e.answer (answer_in es) (verdict_in es) z.0 (verdict_refused es z.1)
 
 -- where the answer is 0 none holds
 passed_at : (b : Bool) (e : Refusal) (other : Answer) {B : Type 0} → ¬ (answer_number e.answer ≡ 0) → answer_number (pick b e.answer other) ≡ 0 → (answer_number other ≡ 0 → B) → (b ≡ false) × B

@@ -1,5 +1,5 @@
 -- Laws of the tests of a plan. Assumes nothing.
-use Rattle.std.proofs.Common.{◌≡◌, ℕ, ◌+◌, ◌%◌, ◌^◌, ◌<◌, ◌≤◌, Bool, true, false, not, ◌||◌, eqb, ltb, List, ◌++◌, sym, refl, ap, ◌∙◌, subst, arith, ltb-false, ltb-true, eqb-true}
+use Rattle.std.proofs.Common.{◌≡◌, ℕ, ◌+◌, ◌%◌, ◌^◌, ◌<◌, ◌≤◌, Bool, true, false, not, ◌||◌, eqb, ltb, List, ◌++◌, Result, is_err, sym, refl, ap, ◌∙◌, subst, arith, ltb-false, ltb-true, eqb-true}
 use Rattle.bits.specs.Choice.{pick}
 use Rattle.instruction.specs.declared.answer.Answer.{Answer}
 use Rattle.instruction.specs.declared.answer.Answer.TheVariants.{TaintedAddress, Misaligned}
@@ -11,18 +11,16 @@ use Rattle.access.specs.declared.addressing.Addressing.{Addressing}
 use Rattle.plan.specs.declared.window.Window.{Window}
 use Rattle.plan.specs.Operands.{used_of}
 use Rattle.plan.specs.declared.operands.Operands.{Operands}
-use Rattle.plan.specs.declared.Plan.{Plan}
-use Rattle.plan.specs.declared.Plan.TheVariants.{Refuse, Touch}
 use Rattle.plan.specs.Window.{bad_window}
-use Rattle.plan.specs.Refusals.{Refusal, first_of, answer_in}
+use Rattle.plan.specs.Refusals.{Refusal, first_of, answer_in, verdict_in}
 use Rattle.plan.specs.Admission.{total_of, outside, placed, admit_of}
 use Rattle.plan.specs.Ranges.{admit_ranges, admit_in}
 use Rattle.plan.specs.route.Reaches.{reach_of}
 use Rattle.plan.specs.declared.ranges.Reach.{Reach}
 use Rattle.plan.specs.declared.ranges.Reach.TheVariants.{Alone, Ranged}
 use Rattle.plan.specs.Address.{sum_of, address_of}
-use Rattle.plan.specs.Plans.{misaligned_stack, refusals_of, plan_of}
-use Rattle.plan.proofs.Refusals.{Passed, Each, each, first_by, Reports, by_answer}
+use Rattle.plan.specs.Plans.{Plan, Refuse, Touch, misaligned_stack, refusals_of, plan_of}
+use Rattle.plan.proofs.Refusals.{Passed, Each, each, each_map, first_by, Reports, refused_at, by_verdict, verdict_refused}
 
 -- two tests that hold together are one: the code subtracts where the definitions add
 same_at : (a b c d : ℕ) (t u : Bool) → ltb a b ≡ t → ltb c d ≡ u → (a < b → c < d) → (c < d → a < b) → t ≡ u
@@ -62,8 +60,8 @@ unfolding admit_of admit_ranges
 admit_placed w Alone len t a = refl
 admit_placed w (Ranged r) len t a = refl
 
-pub answers_placed : (w : Window) (reach : Reach) (len : ℕ) (t : Transfer) (a : ℕ) {r : Answer} → r ≡ answer_in (placed w.origin len t a ++ reach_of w reach t.store (total_of t) a) → r ≡ answer_in (admit_in w reach len t a)
-answers_placed w reach len t a h = h ∙ ap answer_in (sym (admit_placed w reach len t a))
+pub verdict_placed : (w : Window) (reach : Reach) (len : ℕ) (t : Transfer) (a : ℕ) {r : Result (Unit {0}) Answer} → r ≡ verdict_in (placed w.origin len t a ++ reach_of w reach t.store (total_of t) a) → r ≡ verdict_in (admit_in w reach len t a)
+verdict_placed w reach len t a h = h ∙ ap verdict_in (sym (admit_placed w reach len t a))
 
 -- an admitted access lies in the window
 pub admit_inside : (w : Window) (reach : Reach) (len : ℕ) (t : Transfer) (a : ℕ) → Passed (admit_in w reach len t a) → Inside (total_of t) a w.origin len
@@ -105,14 +103,18 @@ unfolding admit_of admit_ranges
 admit_answers w Alone len t a = ((refl, λ h. omega arith), ((refl, λ h. omega arith), ((refl, λ h. omega arith), ((refl, λ h. omega arith), tt))))
 admit_answers w (Ranged r) len t a = ((refl, λ h. omega arith), ((refl, λ h. omega arith), ((refl, λ h. omega arith), ((refl, λ h. omega arith), ((refl, λ h. omega arith), tt)))))
 
-pub plan_admitted : (w : Window) (reach : Reach) (len : ℕ) (t : Transfer) (d : Addressing) (o : Operands) {u : Bool} {s x : ℕ} {r : Answer} → o.tainted ≡ false → u ≡ misaligned_stack d.base o.base → u ≡ false → s ≡ sum_of d o → x ≡ pick d.post o.base s
-    → r ≡ answer_in (admit_in w reach len t x) → pick (eqb (answer_number r) 0) (Touch x s) (Refuse r x) ≡ plan_of (admit_in w reach len) t d o
+pub plan_admitted : (w : Window) (reach : Reach) (len : ℕ) (t : Transfer) (d : Addressing) (o : Operands) {u : Bool} {s x : ℕ} {r : Result (Unit {0}) Answer} → o.tainted ≡ false → u ≡ misaligned_stack d.base o.base → u ≡ false → s ≡ sum_of d o → x ≡ pick d.post o.base s
+    → r ≡ verdict_in (admit_in w reach len t x) → refused_at Refuse (Touch x s) x r ≡ plan_of (admit_in w reach len) t d o
 unfolding plan_of misaligned_stack
 plan_admitted w reach len t d o {u} {s} {x} {r} e f v p q g =
-    let admitted : pick (eqb (answer_number r) 0) (Touch x s) (Refuse r x) ≡ first_of Refuse (Touch (address_of d o) (sum_of d o)) (admit_in w reach len t (address_of d o)) =
-    rw (← p, ← q, g) (sym (by_answer Refuse (Touch x s) x (admit_in w reach len t x) (admit_answers w reach len t x)))
+    let admitted : refused_at Refuse (Touch x s) x r ≡ first_of Refuse (Touch (address_of d o) (sum_of d o)) (admit_in w reach len t (address_of d o)) =
+    rw (← p, ← q, g) (sym (by_verdict Refuse (Touch x s) x (admit_in w reach len t x) (admit_answers w reach len t x)))
     in
     admitted ∙ passed (misaligned_stack d.base o.base) (Refuse Misaligned o.base) (sym f ∙ v) ∙ passed o.tainted (Refuse TaintedAddress 0) e
+
+-- an admission is an error exactly where its answer is not 0
+pub admitted_refused : (w : Window) (len : ℕ) (t : Transfer) (a : ℕ) → is_err (verdict_in (admit_of w len t a)) ≡ not (eqb (answer_number (answer_in (admit_of w len t a))) 0)
+admitted_refused w len t a = verdict_refused (admit_of w len t a) (each_map (λ e h. h.1) (admit_of w len t a) (admit_answers w Alone len t a))
 
 lengths_at : (a b c : Bool) (taints len : ℕ) → eqb taints len ≡ c → (d : Bool) → pick a true (pick b true (pick (not c) true d)) ≡ false → taints ≡ len
 lengths_at true b c taints len e d h = absurd (let z : ◌≡◌ {A = ℕ} 0 1 = cc in omega arith)

@@ -1,6 +1,6 @@
 -- Refusals: an answer, when it is given, and the address that it reports. They stand in one list, in the order in which
 -- they are tested, and the first that holds decides.
-use Rattle.std.specs.Prelude.{◌≡◌, ℕ, Bool, true, false, ◌⊎◌, List, [], ◌∷◌}
+use Rattle.std.specs.Prelude.{◌≡◌, ℕ, Bool, true, false, ◌⊎◌, List, [], ◌∷◌, Result, Ok, Err}
 use Rattle.bits.specs.Choice.{pick}
 use Rattle.instruction.specs.declared.answer.Answer.{Answer}
 use Rattle.instruction.specs.declared.answer.Answer.TheVariants.{Done}
@@ -21,6 +21,10 @@ first_of refuse done (e ∷ es) = pick e.holds (refuse e.answer e.address) (firs
 
 abbrev pub answer_in : List Refusal → Answer
 answer_in es = first_of (λ answer address. answer) Done es
+
+-- the same as a function returns it: what is refused is an error, with its answer
+abbrev pub verdict_in : List Refusal → Result (Unit {0}) Answer
+verdict_in es = first_of (λ answer address. Err answer) (Ok tt) es
 
 -- a refusal with this number holds, and none before it does
 abbrev pub Given : ℕ → List Refusal → Type 0

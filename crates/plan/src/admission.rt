@@ -1,6 +1,6 @@
 // Whether an access may be made at an address: answers 6, 7, 8 and 12, in their order.
 ghost use Rattle.std.specs.Prelude.{◌≡◌, ◌+◌, ◌%◌, ◌≤◌, not, ◌==◌};
-ghost use Rattle.plan.specs.Refusals.{answer_in};
+ghost use Rattle.plan.specs.Refusals.{verdict_in};
 ghost use Rattle.plan.specs.Ranges.{admit_in};
 ghost use Rattle.plan.specs.Admission.{misaligned, unaligned, outside, guarded, guards};
 
@@ -10,18 +10,21 @@ use crate::window::Window;
 use access::Transfer;
 use instruction::Answer;
 
-pub fn admission(t: Transfer, address: u64, window: Window, reach: Reach, len: u64) -> Answer
-    ensures { result ≡ answer_in (admit_in window reach len t address) }
+pub fn admission(
+    t: Transfer,
+    address: u64,
+    window: Window,
+    reach: Reach,
+    len: u64,
+) -> Result<(), Answer>
+    ensures { result ≡ verdict_in (admit_in window reach len t address) }
 {
-    let total = t.bytes as u64 + t.more as u64;
-    if is_misaligned(t.ordered, total, address) {
-        return Answer::Misaligned;
-    }
-    if is_unaligned(t.exclusive, total, address) {
-        return Answer::Misaligned;
+    let total = u64::from(t.bytes) + u64::from(t.more);
+    if is_misaligned(t.ordered, total, address) || is_unaligned(t.exclusive, total, address) {
+        return Err(Answer::Misaligned);
     }
     if is_outside(total, address, window.origin, len) {
-        return Answer::OutOfWindow;
+        return Err(Answer::OutOfWindow);
     }
     ranges::reached(t.store, total, address, window, reach)
 }
@@ -73,14 +76,14 @@ pub fn is_outside(total: u64, address: u64, origin: u64, len: u64) -> bool
 }
 
 // Answer 8 of a plugin alone.
-pub fn guard(store: bool, address: u64, window: Window) -> Answer
+pub fn guard(store: bool, address: u64, window: Window) -> Result<(), Answer>
     requires { window.origin ≤ address }
-    ensures { result ≡ answer_in (guards window store address) }
+    ensures { result ≡ verdict_in (guards window store address) }
 {
     if is_guarded(store, address, window) {
-        return Answer::ReadOnly;
+        return Err(Answer::ReadOnly);
     }
-    Answer::Done
+    Ok(())
 }
 
 #[tactic(auto, unfolding(crate::specs::Admission::guarded))]

@@ -11,8 +11,8 @@ mod window;
 ghost use Rattle.std.specs.Prelude.{◌≡◌};
 ghost use Rattle.plan.specs.Admission.{admit_of};
 ghost use Rattle.plan.specs.Ranges.{admit_in};
-ghost use Rattle.plan.specs.Refusals.{answer_in};
-ghost use Rattle.plan.specs.Plans.{misaligned_stack, plan_of};
+ghost use Rattle.plan.specs.Refusals.{verdict_in};
+ghost use Rattle.plan.specs.Plans.{misaligned_stack, plan_in, plan_of};
 
 use access::{Addressing, Transfer};
 pub use admission::is_outside;
@@ -21,12 +21,18 @@ pub use operands::{Operands, operands_of};
 pub use ranges::{Range, Ranges, Reach, are_bad};
 pub use window::{Window, is_bad};
 
-// A refusal has an answer and the address that it reports; a touch the address of the first byte, and the
-// number that is written back.
-#[derive(Drop)]
-pub enum Plan {
-    Refuse(Answer, u64),
-    Touch(u64, u64),
+// Where an access touches memory: the address of its first byte, and the number that is written back.
+#[derive(Clone, Copy)]
+pub struct Touch {
+    pub address: u64,
+    pub sum: u64,
+}
+
+// What an access is refused with, and the address that is reported.
+#[derive(Clone, Copy)]
+pub struct Refusal {
+    pub answer: Answer,
+    pub address: u64,
 }
 
 pub fn planned(
@@ -36,27 +42,32 @@ pub fn planned(
     window: Window,
     reach: Reach,
     len: u64,
-) -> Plan
-    ensures { result ≡ plan_of (admit_in window reach len) transfer addressing operands }
+) -> Result<Touch, Refusal>
+    ensures { plan_in result ≡ plan_of (admit_in window reach len) transfer addressing operands }
 {
     if operands.tainted {
-        return Plan::Refuse(Answer::TaintedAddress, 0);
+        return Err(Refusal {
+            answer: Answer::TaintedAddress,
+            address: 0,
+        });
     }
     if is_misaligned_stack(addressing.base, operands.base) {
-        return Plan::Refuse(Answer::Misaligned, operands.base);
+        return Err(Refusal {
+            answer: Answer::Misaligned,
+            address: operands.base,
+        });
     }
     let sum = address::sum(addressing, operands);
     let address = address::first_byte(addressing.post, operands.base, sum);
-    let answer = admission::admission(transfer, address, window, reach, len);
-    if instruction::answer_number(answer) != 0 {
-        return Plan::Refuse(answer, address);
+    match admission::admission(transfer, address, window, reach, len) {
+        Ok(()) => Ok(Touch { address, sum }),
+        Err(answer) => Err(Refusal { answer, address }),
     }
-    Plan::Touch(address, sum)
 }
 
 // What an access of a plugin alone is refused with at an address, whatever the registers hold.
-pub fn admitted(transfer: Transfer, address: u64, window: Window, len: u64) -> Answer
-    ensures { result ≡ answer_in (admit_of window len transfer address) }
+pub fn admitted(transfer: Transfer, address: u64, window: Window, len: u64) -> Result<(), Answer>
+    ensures { result ≡ verdict_in (admit_of window len transfer address) }
 {
     admission::admission(transfer, address, window, Reach::Alone, len)
 }

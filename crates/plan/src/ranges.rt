@@ -1,6 +1,6 @@
 // The ranges of two plugins in one window, and what an access may reach.
 ghost use Rattle.std.specs.Prelude.{◌≡◌, ◌≤◌};
-ghost use Rattle.plan.specs.Refusals.{answer_in};
+ghost use Rattle.plan.specs.Refusals.{verdict_in};
 ghost use Rattle.plan.specs.Ranges.{range, share, overlap, misses, bad_ranges, common, strays, limits};
 ghost use Rattle.plan.specs.route.Reaches.{reach_of};
 
@@ -86,9 +86,15 @@ fn shares(p: Range, q: Range) -> bool
 }
 
 // Answers 8 and 12 of an access inside the window, by what it may reach.
-pub fn reached(store: bool, total: u64, address: u64, window: Window, reach: Reach) -> Answer
+pub fn reached(
+    store: bool,
+    total: u64,
+    address: u64,
+    window: Window,
+    reach: Reach,
+) -> Result<(), Answer>
     requires { window.origin ≤ address }
-    ensures { result ≡ answer_in (reach_of window reach store total address) }
+    ensures { result ≡ verdict_in (reach_of window reach store total address) }
 {
     match reach {
         Reach::Alone => admission::guard(store, address, window),
@@ -96,16 +102,16 @@ pub fn reached(store: bool, total: u64, address: u64, window: Window, reach: Rea
     }
 }
 
-fn within(store: bool, total: u64, address: u64, r: Ranges) -> Answer
-    ensures { result ≡ answer_in (limits r store total address) }
+fn within(store: bool, total: u64, address: u64, r: Ranges) -> Result<(), Answer>
+    ensures { result ≡ verdict_in (limits r store total address) }
 {
     if is_common(store, total, address, r.shared) {
-        return Answer::ReadOnly;
+        return Err(Answer::ReadOnly);
     }
     if is_astray(store, total, address, r) {
-        return Answer::NotAllowed;
+        return Err(Answer::NotAllowed);
     }
-    Answer::Done
+    Ok(())
 }
 
 // A store that touches the shared range.

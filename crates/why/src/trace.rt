@@ -95,11 +95,12 @@ fn is_wrong_nothing(code: u64, address: u64) -> bool
     true
 }
 
+#[tactic(auto, using(plan::proofs::Tests::admitted_refused))]
 fn is_wrong_move(t: Transfer, code: u64, address: u64, window: Window, len: u64) -> bool
     ensures { result ≡ pick (code == code_of t) (is_refused (answer_in (admit_of window len t address))) true }
 {
     if code == machine::code(t) {
-        return instruction::answer_number(plan::admitted(t, address, window, len)) != 0;
+        return plan::admitted(t, address, window, len).is_err();
     }
     true
 }

@@ -4,8 +4,7 @@ use Rattle.access.specs.declared.transfer.Transfer.{Transfer}
 use Rattle.access.specs.declared.addressing.Addressing.{Addressing}
 use Rattle.access.specs.declared.Access.{Access}
 use Rattle.access.specs.Accesses.{word_access}
-use Rattle.plan.specs.declared.Plan.{Plan}
-use Rattle.plan.specs.declared.Plan.TheVariants.{Refuse, Touch}
+use Rattle.plan.specs.Plans.{Plan, Refuse, Touch}
 use Rattle.plan.specs.Refusals.{Refusal, first_of}
 use Rattle.machine.specs.Machine.{Machine}
 use Rattle.machine.specs.Refusals.{access_refusals, word_refusals}

@@ -1,5 +1,5 @@
 -- `plan::planned` meets its contract. Assumes nothing.
-use Rattle.std.proofs.Common.{sym, ◌∙◌, eq-eqb, ne_eqb}
+use Rattle.std.proofs.Common.{◌∙◌, sym}
 use Rattle.plan.proofs.Tests.{plan_tainted, plan_stack, plan_admitted}
 use Rattle.plan.proofs.planned.Goals as goal
 
@@ -9,14 +9,12 @@ returns-then-operands c = plan_tainted _ _ _ _ c.if-operands.true
 pub returns-then-is_misaligned_stack : goal.returns-then-is_misaligned_stack
 returns-then-is_misaligned_stack c = plan_stack _ _ _ _ c.if-operands.false c.is_misaligned_stack.ensures c.if-is_misaligned_stack.true
 
-pub returns-then-answer_number-ne0 : goal.returns-then-answer_number-ne0
-returns-then-answer_number-ne0 c =
+pub returns-in-Ok : goal.returns-in-Ok
+returns-in-Ok c =
     let a = c.args in
-    let fine = plan_admitted a.window a.reach a.len a.transfer a.addressing a.operands c.if-operands.false c.is_misaligned_stack.ensures c.if-is_misaligned_stack.false c.sum-sum.ensures c.first_byte-address.ensures c.admission-answer.ensures in
-    rw (ne_eqb _ 0 (λ h. c.if-answer_number-ne0.true (c.answer_number.ensures.0 ∙ h))) at fine
+    plan_admitted a.window a.reach a.len a.transfer a.addressing a.operands c.if-operands.false c.is_misaligned_stack.ensures c.if-is_misaligned_stack.false c.sum-sum.ensures c.first_byte-address.ensures (sym c.in-Ok.is ∙ c.admission.ensures)
 
-pub returns : goal.returns
-returns c =
+pub returns-in-Err : goal.returns-in-Err
+returns-in-Err c =
     let a = c.args in
-    let fine = plan_admitted a.window a.reach a.len a.transfer a.addressing a.operands c.if-operands.false c.is_misaligned_stack.ensures c.if-is_misaligned_stack.false c.sum-sum.ensures c.first_byte-address.ensures c.admission-answer.ensures in
-    rw (eq-eqb _ 0 (sym c.answer_number.ensures.0 ∙ c.if-answer_number-ne0.false)) at fine
+    plan_admitted a.window a.reach a.len a.transfer a.addressing a.operands c.if-operands.false c.is_misaligned_stack.ensures c.if-is_misaligned_stack.false c.sum-sum.ensures c.first_byte-address.ensures (sym c.in-Err.is ∙ c.admission.ensures)

@@ -1,22 +1,23 @@
 -- `plan::admission::admission` meets its contract. Assumes nothing.
 use Rattle.std.proofs.Common.{sym, ◌∙◌}
-use Rattle.plan.proofs.Tests.{not_outside, answers_placed}
+use Rattle.plan.proofs.Tests.{not_outside, verdict_placed}
 use Rattle.plan.proofs.admission.admission.Goals as goal
+use Rattle.plan.proofs.admission.admission.Goals.{then-is_misaligned-via-then-is_misaligned, then-is_misaligned-via-else-is_misaligned+then-is_unaligned}
 
 pub returns-then-is_misaligned : goal.returns-then-is_misaligned
 returns-then-is_misaligned c =
     let a = c.args in
-    answers_placed a.window a.reach a.len a.t a.address (rw (← c.is_misaligned.ensures, c.if-is_misaligned.true))
-
-pub returns-then-is_unaligned : goal.returns-then-is_unaligned
-returns-then-is_unaligned c =
-    let a = c.args in
-    answers_placed a.window a.reach a.len a.t a.address (rw (← c.is_misaligned.ensures, c.if-is_misaligned.false, ← c.is_unaligned.ensures, c.if-is_unaligned.true))
+    elim c.then-is_misaligned.branch [
+      | then-is_misaligned-via-then-is_misaligned w ↦
+          verdict_placed a.window a.reach a.len a.t a.address (rw (← c.from.ensures, ← c.from-2.ensures, ← c.is_misaligned.ensures, w.if-is_misaligned.true))
+      | then-is_misaligned-via-else-is_misaligned+then-is_unaligned w ↦
+          verdict_placed a.window a.reach a.len a.t a.address (rw (← c.from.ensures, ← c.from-2.ensures, ← c.is_misaligned.ensures, w.if-is_misaligned.false, ← w.is_unaligned.ensures, w.if-is_unaligned.true))
+    ]
 
 pub returns-then-is_outside : goal.returns-then-is_outside
 returns-then-is_outside c =
     let a = c.args in
-    answers_placed a.window a.reach a.len a.t a.address (rw (← c.is_misaligned.ensures, c.if-is_misaligned.false, ← c.is_unaligned.ensures, c.if-is_unaligned.false, ← c.is_outside.ensures, c.if-is_outside.true))
+    verdict_placed a.window a.reach a.len a.t a.address (rw (← c.from.ensures, ← c.from-2.ensures, ← c.is_misaligned.ensures, c.if-is_misaligned.false, ← c.is_unaligned.ensures, c.if-is_unaligned.false, ← c.is_outside.ensures, c.if-is_outside.true))
 
 pub reached-requires : goal.reached-requires
 reached-requires c =
@@ -26,5 +27,5 @@ reached-requires c =
 pub returns : goal.returns
 returns c =
     let a = c.args in
-    answers_placed a.window a.reach a.len a.t a.address
-    (rw (← c.is_misaligned.ensures, c.if-is_misaligned.false, ← c.is_unaligned.ensures, c.if-is_unaligned.false, ← c.is_outside.ensures, c.if-is_outside.false) c.reached.ensures)
+    verdict_placed a.window a.reach a.len a.t a.address
+    (rw (← c.from.ensures, ← c.from-2.ensures, ← c.is_misaligned.ensures, c.if-is_misaligned.false, ← c.is_unaligned.ensures, c.if-is_unaligned.false, ← c.is_outside.ensures, c.if-is_outside.false) c.reached.ensures)
