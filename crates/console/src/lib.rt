@@ -2,73 +2,85 @@
 // reason, and is never taken for an end.
 #![tactic(auto)]
 
-ghost use Rattle.std.specs.Prelude.{◌≤◌, ◌<◌, ◌≡◌, false, length};
+ghost use Rattle.std.specs.Prelude.{◌<◌, length};
+ghost use Rattle.std.specs.Result.{IsErr};
 ghost use Rattle.io.specs.Counts.{IsPrefixLen};
 ghost use Rattle.console.specs.Came.{Came};
+ghost use Rattle.console.specs.Handled.{Handled};
 
-use std::io::{Error, Read};
+use std::io::{Error, Input, Read};
 
-// What one read gives: bytes at the start of the buffer, the end of the input, or a failure, which is said.
-#[derive(Drop)]
-pub enum Input {
-    Bytes(usize),
-    End,
-    Failed,
-}
+// A read or a write that failed. Its reason has been said: who learns of it has only to stop.
+#[derive(Clone, Copy, PartialEq, Eq)]
+pub struct Failed;
 
-// One read, of whatever has come.
-pub fn read<R: std::io::Input + Eprint>(rt: &R, buf: &mut [u8]) -> Input
+// One read, of whatever has come: so many bytes at the start of the buffer, or none where the input has ended.
+pub fn read(rt: &(impl Input + Eprint), buf: &mut [u8]) -> Result<Option<usize>, Failed>
     ensures { Came result buf.new }
 {
     let mut reader = rt.reader();
     match reader.read(buf) {
-        Ok(0) => Input::End,
-        Ok(n) => Input::Bytes(n),
+        Ok(0) => Ok(None),
+        Ok(n) => Ok(Some(n)),
         Err(reason) => {
             say(rt, "read", reason);
-            Input::Failed
+            Err(Failed)
         }
     }
 }
 
 // Reads until a buffer is full, the input ends or a read fails, and says how many bytes came.
-pub fn fill<R: std::io::Input + Eprint>(rt: &R, buf: &mut [u8]) -> usize
+pub fn fill(rt: &(impl Input + Eprint), buf: &mut [u8]) -> usize
     ensures { IsPrefixLen result buf.new }
 {
     let mut done = 0;
     while done < buf.len() {
-        let n = more(rt, &mut buf[done..]);
-        if n == 0 {
-            return done;
+        match read(rt, &mut buf[done..]) {
+            Ok(Some(n)) => done += n,
+            Ok(None) | Err(Failed) => break,
         }
-        done += n;
     }
     done
 }
 
-fn more<R: std::io::Input + Eprint>(rt: &R, buf: &mut [u8]) -> usize
-    ensures { result ≤ length buf.new }
+// Hands the input on in blocks: each fills the buffer but for the last, which may be shorter, and none is empty. It goes on to
+// the end of the input, or until a block is refused.
+pub fn for_each_block<E, F: FnMut(&[u8]) -> Result<(), E>>(
+    rt: &(impl Input + Eprint),
+    buf: &mut [u8],
+    mut handle: F,
+) -> Result<(), E>
+    requires { F.IsAlwaysCallable handle }
+    ensures { (last : F) × Handled (length buf.old) (λ f x r g. F.step f x r g) handle result last }
 {
-    match read(rt, buf) {
-        Input::Bytes(n) => n,
-        Input::End => 0,
-        Input::Failed => 0,
-    }
-}
-
-// Writes the start of an output, and says whether all of it was written: not where the output ends before it.
-pub fn write<R: Print + Eprint>(rt: &R, output: &[u8], end: usize) -> bool
-    ensures { length output.now < end → result ≡ false }
-{
-    if end <= output.len() {
-        match rt.write_all(&output[0..end]) {
-            Ok(()) => {
-                return true;
-            }
-            Err(reason) => say(rt, "write", reason),
+    // A proved loop has to end, and nothing says that the input does: no run comes to so many blocks.
+    for _ in 0..u64::MAX {
+        let n = fill(rt, buf);
+        if n == 0 {
+            break;
+        }
+        handle(&buf[..n])?;
+        if n < buf.len() {
+            break;
         }
     }
-    false
+    Ok(())
+}
+
+// Writes the start of an output. It fails too, with no word, where the output ends before that.
+pub fn write(rt: &(impl Print + Eprint), output: &[u8], end: usize) -> Result<(), Failed>
+    ensures { length output.now < end → IsErr result }
+{
+    if end > output.len() {
+        return Err(Failed);
+    }
+    match rt.write_all(&output[..end]) {
+        Ok(()) => Ok(()),
+        Err(reason) => {
+            say(rt, "write", reason);
+            Err(Failed)
+        }
+    }
 }
 
 // A failure, as what failed and the system's reason. Where that can't be written either, there is no one to say it to.
@@ -78,7 +90,7 @@ fn say<R: Eprint>(rt: &R, what: &str, reason: Error) {
 
 #[cfg(test)]
 mod tests {
-    use super::{Input, fill, read, write};
+    use super::{Failed, fill, read, write};
     use std::alloc::Allocator;
     use std::cell::Cell;
     use std::fmt::Display;
@@ -174,12 +186,7 @@ mod tests {
         let came = fill(&&broken, &mut buf);
         assert_eq!(rt; came, 5);
         assert_eq!(rt; broken.said.get(), 1);
-        let failed = match read(&&broken, &mut buf) {
-            Input::Bytes(_) => false,
-            Input::End => false,
-            Input::Failed => true,
-        };
-        assert!(rt; failed);
+        assert!(rt; read(&&broken, &mut buf) == Err(Failed));
         assert_eq!(rt; broken.said.get(), 2);
     }
 
@@ -187,9 +194,9 @@ mod tests {
     fn a_failed_write_is_said(rt: HostRuntime) {
         let broken = made();
         let text = [0u8; 4];
-        assert!(rt; !write(&&broken, &text, 4));
+        assert!(rt; write(&&broken, &text, 4) == Err(Failed));
         assert_eq!(rt; broken.said.get(), 1);
-        assert!(rt; !write(&&broken, &text, 5));
+        assert!(rt; write(&&broken, &text, 5) == Err(Failed));
         assert_eq!(rt; broken.said.get(), 1);
     }
 }
