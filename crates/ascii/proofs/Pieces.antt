@@ -1,14 +1,18 @@
 -- Pieces of text put one behind the other. Assumes nothing.
-use Prim.Native.Nat.{ℕ, suc, ◌+◌, ◌≤◌, ◌<◌, min, max}
+use Prim.Native.Nat.{ℕ, suc, ◌+◌, ◌-◌, ◌≤◌, ◌<◌, min, max}
 use mathlib.Core.Path.{◌≡◌, refl, sym, ap, ◌∙◌}
 use mathlib.Core.Bool.{Bool, true, false}
-use mathlib.Core.List.{List, [], ◌∷◌, ◌++◌}
-use native.Mathlib.Numerals.{add-one}
+use mathlib.Core.List.{List, [], ◌∷◌, ◌++◌, append_assoc}
 use native.Mathlib.Omega.{arith}
 use borrow.Author.Tests.{leb-true, leb-false}
 use lib.Dec.{leb}
-use lib.ListN.{length, take, get_or, set, length-append}
-use lib.Seq.{sets, length-sets, set_out, take-suc}
+use lib.ListN.{length, take, drop, set, length-append}
+use lib.Seq.{sets, length-sets, sets-eq, set_out}
+use Rattle.std.proofs.lemmas.List.{length-take-le, take_all, drop-drop, take-append-drop}
+use borrow.Rule.Slice.PartMut.{put_mid}
+use Rattle.std.specs.Int.{w64, to_le_bytes}
+use native.Mathlib.Nat.{div-div-eq-div-mul}
+use Rattle.bits.specs.Bytes.{bytes_of}
 use Rattle.bits.proofs.Lists.{sets_append}
 use Rattle.ascii.specs.route.Puts.{Puts}
 
@@ -47,6 +51,9 @@ fits a h = omega (arith, a.place)
 pub nothing : (xs : List ℕ) (at : ℕ) → Puts xs at [] xs at
 nothing xs at = record { text = refl; place = omega arith }
 
+pub out_of_room : (xs p : List ℕ) (at : ℕ) → length xs ≤ at → Puts xs at p xs at
+out_of_room xs p at h = record { text = sym (sets_out xs p at h); place = omega arith }
+
 -- a byte that has room, and one that has none
 pub put_in : (xs : List ℕ) (at b : ℕ) → at < length xs → Puts xs at (b ∷ []) (set xs at b) (at + 1)
 put_in xs at b h = record { text = refl; place = omega arith }
@@ -54,19 +61,43 @@ put_in xs at b h = record { text = refl; place = omega arith }
 pub left_out : (xs : List ℕ) (at b : ℕ) → length xs ≤ at → Puts xs at (b ∷ []) xs at
 left_out xs at b h = record { text = sym (set_out xs at b h); place = omega arith }
 
--- one byte more of a piece
-pub one_more : {xs ys zs : List ℕ} {at m n : ℕ} (p : List ℕ) (i : ℕ) → i < length p → Puts xs at (take i p) ys m → Puts ys m (get_or p i 0 ∷ []) zs n
-    → Puts xs at (take (i + 1) p) zs n
-one_more {xs} {ys} {zs} {at} {m} {n} p i h a b = rw (add-one i, take-suc p i 0 h) (after a b)
+-- ---- a piece that is copied over a part of the line
 
--- the places of eight bytes, as the code counts them
-pub further : (at : ℕ) → (at + 1 ≡ suc at) × (at + 2 ≡ suc (suc at)) × (at + 3 ≡ suc (suc (suc at)))
-further at = (omega arith, omega arith, omega arith)
+laid : (xs ys : List ℕ) (at n : ℕ) → n ≡ length ys → at + length ys ≤ length xs → put_mid at n xs ys ≡ sets xs at ys
+laid xs ys at n e h =
+    let d : drop n (drop at xs) ≡ drop (at + length ys) xs = rw e (drop-drop (length ys) at xs) in
+    rw d (sym (append_assoc (take at xs) ys (drop (at + length ys) xs)) ∙ sym (sets-eq ys xs at h))
 
-pub farther : (at : ℕ)
-    → (at + 4 ≡ suc (suc (suc (suc at)))) × (at + 5 ≡ suc (suc (suc (suc (suc at))))) × (at + 6 ≡ suc (suc (suc (suc (suc (suc at)))))) × (at + 7 ≡ suc (suc (suc (suc (suc (suc (suc at)))))))
-farther at = (omega arith, omega arith, omega arith, omega arith)
+-- what the line has no room for
+cut : (xs p : List ℕ) (at n : ℕ) → length xs ≤ at + n → n ≤ length p → sets xs at (take n p) ≡ sets xs at p
+cut xs p at n h k =
+    let front = take n p in
+    let l : length front ≡ n = length-take-le n p k in
+    let s = length-sets xs at front in
+    sym (sets_out (sets xs at front) (drop n p) (at + length front) (omega arith)) ∙ sets_append xs front (drop n p) at ∙ ap (sets xs at) (take-append-drop n p)
 
--- a piece that has room, by what is set
-pub in_room : {xs p ys : List ℕ} {at n : ℕ} → ys ≡ sets xs at p → n ≡ at + length p → n ≤ length xs → Puts xs at p ys n
-in_room e f h = record { text = e; place = omega arith }
+all_or_cut : (xs p : List ℕ) (at n : ℕ) → n ≡ min (length p) (length xs - at) → at ≤ length xs → (b : Bool) → leb (length p) n ≡ b
+    → sets xs at (take n p) ≡ sets xs at p
+all_or_cut xs p at n e h true t = ap (sets xs at) (take_all n p (leb-true (length p) n t))
+all_or_cut xs p at n e h false t = cut xs p at n (omega (arith, leb-false (length p) n t)) (omega arith)
+
+-- all of a piece that has room
+pub copied_whole : {xs p ys : List ℕ} {at n k : ℕ} → ys ≡ p → n ≡ length p → k ≡ n → at + n ≤ length xs → Puts xs at p (put_mid at k xs ys) (at + n)
+copied_whole {xs} {p} {ys} {at} {n} {k} e l q h = record { text = rw e (laid xs p at k (q ∙ l) (omega arith)); place = omega arith }
+
+-- as much of it as has room
+pub copied_front : {xs p ys : List ℕ} {at n k : ℕ} → ys ≡ take n p → n ≡ min (length p) (length xs - at) → k ≡ n → at ≤ length xs
+    → Puts xs at p (put_mid at k xs ys) (at + n)
+copied_front {xs} {p} {ys} {at} {n} {k} e m q h =
+    let l : length (take n p) ≡ n = length-take-le n p (omega arith) in
+    let room : at + length (take n p) ≤ length xs = omega arith in
+    record {
+      text = rw e (laid xs (take n p) at k (q ∙ sym l) room) ∙ all_or_cut xs p at n m h (leb (length p) n) refl;
+      place = omega arith;
+    }
+
+-- ---- the bytes of a number, as the library has them
+
+pub number_bytes : (v : ℕ) → to_le_bytes w64 v ≡ bytes_of 8 v
+unfolding bytes_of
+number_bytes v = rw (div-div-eq-div-mul v 256 256, div-div-eq-div-mul v 65536 256, div-div-eq-div-mul v 16777216 256, div-div-eq-div-mul v 4294967296 256, div-div-eq-div-mul v 1099511627776 256, div-div-eq-div-mul v 281474976710656 256)

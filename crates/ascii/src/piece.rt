@@ -1,6 +1,6 @@
 // Pieces of text, each put into a line at a position. They return the position behind the piece. What the
 // line has no room for is left out.
-ghost use Rattle.std.specs.Prelude.{[], ◌∷◌};
+ghost use Rattle.std.specs.Prelude.{◌≡◌, ◌+◌, ◌%◌, [], ◌∷◌};
 ghost use Rattle.bits.specs.Bytes.{bytes_of};
 ghost use Rattle.ascii.specs.Ascii.{dec};
 ghost use Rattle.ascii.specs.route.Puts.{Puts};
@@ -15,147 +15,79 @@ pub fn put_byte(line: &mut [u8], at: usize, byte: u8) -> usize
     at
 }
 
-// Two bytes, or three or four, need one test where there is room for all of them.
+// So many bytes as the compiler knows: one test and one store where there is room for all of them.
+#[tactic(auto, using(crate::proofs::Pieces::copied_whole))]
+pub fn put_bytes<const N: usize>(line: &mut [u8], at: usize, bytes: [u8; N]) -> usize
+    ensures { Puts line.old at bytes.entry line.new result }
+{
+    if N <= line.len() && at <= line.len() - N {
+        line[at..at + N].copy_from_slice(&bytes);
+        return at + N;
+    }
+    put_text(line, at, &bytes)
+}
+
 pub fn put_two(line: &mut [u8], at: usize, a: u8, b: u8) -> usize
     ensures { Puts line.old at (a ∷ b ∷ []) line.new result }
 {
-    if line.len() >= 2 {
-        if at <= line.len() - 2 {
-            line[at] = a;
-            line[at + 1] = b;
-            return at + 2;
-        }
-    }
-    let next = put_byte(line, at, a);
-    put_byte(line, next, b)
+    put_bytes(line, at, [a, b])
 }
 
 pub fn put_three(line: &mut [u8], at: usize, a: u8, b: u8, c: u8) -> usize
     ensures { Puts line.old at (a ∷ b ∷ c ∷ []) line.new result }
 {
-    if line.len() >= 3 {
-        if at <= line.len() - 3 {
-            line[at] = a;
-            line[at + 1] = b;
-            line[at + 2] = c;
-            return at + 3;
-        }
-    }
-    let next = put_two(line, at, a, b);
-    put_byte(line, next, c)
+    put_bytes(line, at, [a, b, c])
 }
 
 pub fn put_four(line: &mut [u8], at: usize, a: u8, b: u8, c: u8, d: u8) -> usize
     ensures { Puts line.old at (a ∷ b ∷ c ∷ d ∷ []) line.new result }
 {
-    if line.len() >= 4 {
-        if at <= line.len() - 4 {
-            line[at] = a;
-            line[at + 1] = b;
-            line[at + 2] = c;
-            line[at + 3] = d;
-            return at + 4;
-        }
-    }
-    let next = put_two(line, at, a, b);
-    put_two(line, next, c, d)
+    put_bytes(line, at, [a, b, c, d])
 }
 
-// The eight bytes of a number, the lowest first: one test, and one store.
+// The eight bytes of a number, the lowest first.
+#[tactic(auto, using(crate::proofs::Pieces::number_bytes))]
 pub fn put_eight(line: &mut [u8], at: usize, number: u64) -> usize
     ensures { Puts line.old at (bytes_of 8 number) line.new result }
 {
-    let b = number / 256;
-    let c = b / 256;
-    let d = c / 256;
-    let high = d / 256;
-    if line.len() >= 8 {
-        if at <= line.len() - 8 {
-            let f = high / 256;
-            let g = f / 256;
-            let h = g / 256;
-            line[at] = (number % 256) as u8;
-            line[at + 1] = (b % 256) as u8;
-            line[at + 2] = (c % 256) as u8;
-            line[at + 3] = (d % 256) as u8;
-            line[at + 4] = (high % 256) as u8;
-            line[at + 5] = (f % 256) as u8;
-            line[at + 6] = (g % 256) as u8;
-            line[at + 7] = (h % 256) as u8;
-            return at + 8;
-        }
-    }
-    let next = put_half(line, at, number);
-    put_half(line, next, high)
+    put_bytes(line, at, number.to_le_bytes())
 }
 
-// The low four bytes of a number.
-fn put_half(line: &mut [u8], at: usize, number: u64) -> usize
-    ensures { Puts line.old at (bytes_of 4 number) line.new result }
-{
-    let b = number / 256;
-    let c = b / 256;
-    let d = c / 256;
-    put_four(
-        line,
-        at,
-        (number % 256) as u8,
-        (b % 256) as u8,
-        (c % 256) as u8,
-        (d % 256) as u8,
-    )
-}
-
+#[tactic(auto, using(crate::proofs::Pieces::copied_front, crate::proofs::Pieces::out_of_room))]
 pub fn put_text(line: &mut [u8], at: usize, piece: &[u8]) -> usize
     ensures { Puts line.old at piece.now line.new result }
 {
-    let mut next = at;
-    let mut i = 0;
-    while i < piece.len() {
-        next = put_byte(line, next, piece[i]);
-        i += 1;
+    if line.len() <= at {
+        return at;
     }
-    next
+    let count = std::cmp::min(piece.len(), line.len() - at);
+    line[at..at + count].copy_from_slice(&piece[..count]);
+    at + count
 }
 
+#[tactic(auto, using(crate::proofs::Decimals::dec_one, crate::proofs::Decimals::dec_two, crate::proofs::Decimals::dec_three, crate::proofs::Decimals::dec_four,))]
 pub fn put_decimal(line: &mut [u8], at: usize, n: u64) -> usize
     ensures { Puts line.old at (dec n) line.new result }
 {
-    if n < 10 {
-        return put_byte(line, at, (48 + n) as u8);
-    }
-    if n < 100 {
-        return put_two(line, at, (48 + n / 10) as u8, (48 + n % 10) as u8);
-    }
-    if n < 1000 {
-        return put_three(
+    match n {
+        0..=9 => put_byte(line, at, digit(n)),
+        10..=99 => put_bytes(line, at, [digit(n / 10), digit(n)]),
+        100..=999 => put_bytes(line, at, [digit(n / 100), digit(n / 10), digit(n)]),
+        1000..=9999 => put_bytes(
             line,
             at,
-            (48 + n / 100) as u8,
-            (48 + n / 10 % 10) as u8,
-            (48 + n % 10) as u8,
-        );
+            [digit(n / 1000), digit(n / 100), digit(n / 10), digit(n)],
+        ),
+        _ => {
+            let next = put_decimal(line, at, n / 10);
+            put_byte(line, next, digit(n))
+        }
     }
-    if n < 10000 {
-        return put_four(
-            line,
-            at,
-            (48 + n / 1000) as u8,
-            (48 + n / 100 % 10) as u8,
-            (48 + n / 10 % 10) as u8,
-            (48 + n % 10) as u8,
-        );
-    }
-    put_long(line, at, n)
 }
 
-// A number of any length.
-fn put_long(line: &mut [u8], at: usize, n: u64) -> usize
-    ensures { Puts line.old at (dec n) line.new result }
+// The last digit.
+fn digit(n: u64) -> u8
+    ensures { result ≡ 48 + n % 10 }
 {
-    if n < 10 {
-        return put_byte(line, at, (48 + n) as u8);
-    }
-    let next = put_long(line, at, n / 10);
-    put_byte(line, next, (48 + n % 10) as u8)
+    (48 + n % 10) as u8
 }
