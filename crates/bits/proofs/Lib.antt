@@ -1,7 +1,6 @@
 pub mod Choices
 pub mod Parts
 pub mod Offsets
-pub mod Signs
 pub mod Bytes
 pub mod Extensions
 pub mod Lists

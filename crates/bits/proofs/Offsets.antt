@@ -1,12 +1,11 @@
 -- The bits of an offset and the offset of bits: each is taken back by the other, at any width and scale. Assumes nothing.
 use Rattle.std.proofs.Common.{◌≡◌, ℕ, zero, suc, ◌+◌, ◌-◌, ◌*◌, ◌/◌, ◌%◌, ◌<◌, ◌≤◌, Bool, true, false, eqb, ltb, ℤ, pos, negsuc, neg_ℤ, nat_abs, refl, ap, le_refl, not-suc-le-zero, mul-le-mul, div-add-mod', zero-mul, mul-div_cancel, arith, ltb-false, ltb-true, le-ltb, lt-ltb, eqb-true}
 use native.Mathlib.Nat.{mul-mod_left}
-use Rattle.bits.specs.declared.Field.{Field}
-use Rattle.bits.specs.declared.Field.TheVariants.{Holds, Unfit}
+use Rattle.std.specs.Prelude.{Option, Some, None}
 use Rattle.bits.specs.Signed.{signed_of, quotient_of, complement, bits_of, plain_bits_of}
 use Rattle.bits.proofs.Choices.{picked, pick_by}
 
-pub unfit : {q : ℕ} → ¬ (Unfit ≡ Holds q)
+pub unfit : {q : ℕ} → ¬ (None ≡ Some q)
 unfit e = let z : ◌≡◌ {A = ℕ} 0 1 = cc in omega arith
 
 -- ---- quotients
@@ -15,7 +14,7 @@ record Quotient (m s l q : ℕ) : Type 0 where
   whole : q * s ≡ m
   below : q < l
 
-quotient : (m s l q : ℕ) → quotient_of m s l ≡ Holds q → Quotient m s l q
+quotient : (m s l q : ℕ) → quotient_of m s l ≡ Some q → Quotient m s l q
 unfolding quotient_of
 quotient m s l q h =
     let p = picked (eqb (m % s) 0) h unfit in
@@ -26,10 +25,10 @@ quotient m s l q h =
       below = omega (arith, ltb-true (m / s) l r.0);
     }
 
-pub quotient_below : (m s l q : ℕ) → quotient_of m s l ≡ Holds q → q < l
+pub quotient_below : (m s l q : ℕ) → quotient_of m s l ≡ Some q → q < l
 quotient_below m s l q h = (quotient m s l q h).below
 
-quotient_mul : (q l : ℕ) {s : ℕ} → 0 < s → q < l → quotient_of (q * s) s l ≡ Holds q
+quotient_mul : (q l : ℕ) {s : ℕ} → 0 < s → q < l → quotient_of (q * s) s l ≡ Some q
 unfolding quotient_of
 quotient_mul q l {s} h k = simp (mul-mod_left q s, mul-div_cancel q h, lt-ltb _ _ k)
 
@@ -48,11 +47,11 @@ negative_bits half scale zero h = absurd (not-suc-le-zero h)
 negative_bits half scale (suc m) h = refl
 
 module _ (half : ℕ) {scale : ℕ} (s : 0 < scale) (b : ℕ) where
-  low_back : b < half → bits_of half scale (signed_of half scale b) ≡ Holds b
+  low_back : b < half → bits_of half scale (signed_of half scale b) ≡ Some b
   unfolding bits_of signed_of
   low_back h = simp (lt-ltb b half h) (quotient_mul b half s h)
 
-  high_back : half ≤ b → b < 2 * half → bits_of half scale (signed_of half scale b) ≡ Holds b
+  high_back : half ≤ b → b < 2 * half → bits_of half scale (signed_of half scale b) ≡ Some b
   unfolding signed_of
   high_back h k =
       let p = negative_bits half scale ((2 * half - b) * scale) (mul_pos (2 * half - b) scale (omega arith) s) in
@@ -60,19 +59,19 @@ module _ (half : ℕ) {scale : ℕ} (s : 0 < scale) (b : ℕ) where
       simp (le-ltb b half h, p, quotient_mul (2 * half - b) (half + 1) s (omega arith), e)
 
   -- the bits of an offset that was read from bits
-  pub bits_back : b < 2 * half → bits_of half scale (signed_of half scale b) ≡ Holds b
+  pub bits_back : b < 2 * half → bits_of half scale (signed_of half scale b) ≡ Some b
   bits_back k = go (ltb b half) refl
     where
-      go : (t : Bool) → ltb b half ≡ t → bits_of half scale (signed_of half scale b) ≡ Holds b
+      go : (t : Bool) → ltb b half ≡ t → bits_of half scale (signed_of half scale b) ≡ Some b
       go true e = low_back (ltb-true b half e)
       go false e = high_back (ltb-false b half e) k
 
-complement_back : (half b : ℕ) (f : Field) → complement half f ≡ Holds b → (q : ℕ) × (f ≡ Holds q) × (b ≡ 2 * half - q)
-complement_back half b (Holds q) h = (q, refl, cc)
-complement_back half b Unfit h = absurd (unfit h)
+complement_back : (half b : ℕ) (f : Option ℕ) → complement half f ≡ Some b → (q : ℕ) × (f ≡ Some q) × (b ≡ 2 * half - q)
+complement_back half b (Some q) h = (q, refl, cc)
+complement_back half b None h = absurd (unfit h)
 
 -- the offset that is read from the bits of an offset
-pub signed_back : (half scale b : ℕ) (z : ℤ) → bits_of half scale z ≡ Holds b → (b < 2 * half) × (signed_of half scale b ≡ z)
+pub signed_back : (half scale b : ℕ) (z : ℤ) → bits_of half scale z ≡ Some b → (b < 2 * half) × (signed_of half scale b ≡ z)
 unfolding bits_of signed_of
 signed_back half scale b (pos n) h =
     let f = quotient n scale half b h in
@@ -99,11 +98,11 @@ signed_most half scale b h =
 
 -- ---- without a sign
 
-pub plain_back : (limit b : ℕ) {scale : ℕ} → 0 < scale → b < limit → plain_bits_of limit scale (pos (b * scale)) ≡ Holds b
+pub plain_back : (limit b : ℕ) {scale : ℕ} → 0 < scale → b < limit → plain_bits_of limit scale (pos (b * scale)) ≡ Some b
 unfolding plain_bits_of
 plain_back limit b h k = quotient_mul b limit h k
 
-pub plain_is : (limit scale b : ℕ) (z : ℤ) → plain_bits_of limit scale z ≡ Holds b → (b < limit) × (pos (b * scale) ≡ z)
+pub plain_is : (limit scale b : ℕ) (z : ℤ) → plain_bits_of limit scale z ≡ Some b → (b < limit) × (pos (b * scale) ≡ z)
 unfolding plain_bits_of
 plain_is limit scale b (pos n) h =
     let f = quotient n scale limit b h in

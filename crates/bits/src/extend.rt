@@ -8,9 +8,10 @@ pub fn extended(number: u64, n: u32, extent: u32) -> u64
 {
     let top = largest(n);
     if top / 2 < number {
-        return std::num::wrapping_add_u64(number, above(largest(extent), top));
+        number.wrapping_add(largest(extent).saturating_sub(top))
+    } else {
+        number
     }
-    number
 }
 
 // The largest number of n bytes, and of 8 where there would be more.
@@ -18,17 +19,8 @@ fn largest(n: u32) -> u64
     ensures { result ≡ largest (min n 8) }
 {
     if 7 < n {
-        return u64::MAX;
+        u64::MAX
+    } else {
+        (1u64 << (8 * n)) - 1
     }
-    (1u64 << (8 * n)) - 1
-}
-
-// By how much the first is above the second.
-fn above(first: u64, second: u64) -> u64
-    ensures { result ≡ first - second }
-{
-    if first < second {
-        return 0;
-    }
-    first - second
 }

@@ -34,10 +34,7 @@ pub fn four_at(bytes: &[u8], at: usize) -> u64
 pub fn byte_at(bytes: &[u8], at: usize) -> u8
     ensures { result ≡ slice_index bytes.now at }
 {
-    if at < bytes.len() {
-        return bytes[at];
-    }
-    0
+    bytes.get(at).copied().unwrap_or(0)
 }
 
 // Eight, four and two bytes that are all there.
@@ -81,5 +78,5 @@ fn last_four(bytes: &[u8], at: usize) -> u64
 pub fn wide(byte: u8) -> u64
     ensures { (result ≡ byte) × (result < 256) }
 {
-    byte as u64
+    u64::from(byte)
 }

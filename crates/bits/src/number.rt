@@ -6,18 +6,12 @@ ghost use Rattle.bits.specs.Signed.{twos_complement};
 pub fn magnitude(number: i64) -> u64
     ensures { result ≡ unsigned_abs number }
 {
-    if number < 0 {
-        return (-1 - number) as u64 + 1;
-    }
-    number as u64
+    number.unsigned_abs()
 }
 
 // The 64 bits of a value: what adding it modulo 2^64 adds.
 pub fn twos_complement(value: i64) -> u64
     ensures { result ≡ twos_complement value }
 {
-    if value < 0 {
-        return u64::MAX - (-1 - value) as u64;
-    }
-    value as u64
+    value.cast_unsigned()
 }

@@ -5,7 +5,6 @@ use mathlib.Core.List.{List, [], ◌∷◌}
 use native.Mathlib.Omega.{arith}
 use lib.Dec.{eqb}
 use borrow.Author.Tests.{eqb-true}
-use Rattle.bits.specs.declared.Field.{Field}
 use Rattle.bits.specs.Fields.{part, Bits, bits, fit, placed}
 use Rattle.bits.specs.Signed.{bits_of, plain_bits_of}
 use Rattle.bits.proofs.Choices.{picked}
@@ -34,11 +33,11 @@ use Rattle.instruction.proofs.Codes.{sized_at_lem, literal_at_lem, pair_at_lem, 
 
 -- ---- what a word that was found says
 
-with_back : (F : Field) (f : ℕ → Field) (w : ℕ) → with_bits F f ≡ Field.Holds w → (b : ℕ) × (F ≡ Field.Holds b) × (f b ≡ Field.Holds w)
-with_back (Field.Holds b) f w h = (b, refl, h)
-with_back Field.Unfit f w h = absurd (unfit h)
+with_back : (F : Option ℕ) (f : ℕ → Option ℕ) (w : ℕ) → with_bits F f ≡ Some w → (b : ℕ) × (F ≡ Some b) × (f b ≡ Some w)
+with_back (Some b) f w h = (b, refl, h)
+with_back None f w h = absurd (unfit h)
 
-word_back : (f : ℕ) (fs : List Bits) (w : ℕ) → word_with f fs ≡ Field.Holds w → Fit fs × (f + placed fs ≡ w)
+word_back : (f : ℕ) (fs : List Bits) (w : ℕ) → word_with f fs ≡ Some w → Fit fs × (f + placed fs ≡ w)
 unfolding word_with
 word_back f fs w h =
     let p = picked (fit fs) h unfit in
@@ -48,7 +47,7 @@ word_back f fs w h =
 abbrev Back : ℕ → Row → Family → Type 0
 Back w l F = (row_of w ≡ l) × ((columns_of l).family w ≡ F) × (w < 2 ^ 32)
 
-literal_back : (op : LiteralOp) (o : LiteralOperands) (w : ℕ) → literal_word op o ≡ Field.Holds w → Back w Row.LiteralRow (Family.Literal op o)
+literal_back : (op : LiteralOp) (o : LiteralOperands) (w : ℕ) → literal_word op o ≡ Some w → Back w Row.LiteralRow (Family.Literal op o)
 unfolding literal_word literal_in literal_op_in
 literal_back op o w h =
     let p = with_back (bits_of 262144 4 o.offset) (λ b. word_with (fixed Row.LiteralRow) (literal_fields op o.target b)) w h in
@@ -62,7 +61,7 @@ literal_back op o w h =
       omega (arith, q.1, r.0, r.1.0, r.1.1.0, r.1.1.1.0),
     )
 
-pair_back : (op : PairOp) (o : PairOperands) (w : ℕ) → pair_word op o ≡ Field.Holds w → Back w Row.PairRow (Family.Pair op o)
+pair_back : (op : PairOp) (o : PairOperands) (w : ℕ) → pair_word op o ≡ Some w → Back w Row.PairRow (Family.Pair op o)
 unfolding pair_word pair_in pair_op_in
 pair_back op o w h =
     let p = with_back (bits_of 64 (pair_bytes op) o.offset) (λ b. word_with (fixed Row.PairRow) (pair_fields op o b)) w h in
@@ -93,7 +92,7 @@ module _ (op : SizedOp) (o : OffsetOperands) (w a b d : ℕ) (ha : a < 8) (hb : 
     operands : signed_in w ≡ o
     word : w < 2 ^ 32
 
-  signed_back_from : {f : ℕ} → f ≡ a * 2 ^ 27 + b * 2 ^ 24 + d * 2 ^ 10 → signed_word f op o ≡ Field.Holds w → Signed
+  signed_back_from : {f : ℕ} → f ≡ a * 2 ^ 27 + b * 2 ^ 24 + d * 2 ^ 10 → signed_word f op o ≡ Some w → Signed
   unfolding signed_word signed_in
   signed_back_from {f} e h =
       let p = with_back (bits_of 256 1 o.offset) (λ b. word_with f (sized_fields op o.base o.target (bits 20 12 b ∷ []))) w h in
@@ -112,7 +111,7 @@ module _ (op : SizedOp) (o : OffsetOperands) (w a b d : ℕ) (ha : a < 8) (hb : 
         word = omega (arith, q.1, e, size, vector, opc, base, target, imm9);
       }
 
-  signed_family : (l : Row) (F : SizedOp → OffsetOperands → Family) {f : ℕ} → f ≡ a * 2 ^ 27 + b * 2 ^ 24 + d * 2 ^ 10 → signed_word f op o ≡ Field.Holds w
+  signed_family : (l : Row) (F : SizedOp → OffsetOperands → Family) {f : ℕ} → f ≡ a * 2 ^ 27 + b * 2 ^ 24 + d * 2 ^ 10 → signed_word f op o ≡ Some w
       → (Has w (bits 29 27 a ∷ bits 25 24 b ∷ bits 21 21 0 ∷ bits 11 10 d ∷ []) → row_of w ≡ l)
       → (columns_of l).family w ≡ F (sized_in w) (signed_in w) → Back w l (F op o)
   signed_family l F e h line q =
@@ -120,7 +119,7 @@ module _ (op : SizedOp) (o : OffsetOperands) (w a b d : ℕ) (ha : a < 8) (hb : 
       (line s.has, q ∙ ap (λ (x : SizedOp). F x (signed_in w)) s.op= ∙ ap (F op) s.operands, s.word)
 
 -- and bit 26 = 0
-ordered_back : (op : SizedOp) (o : OffsetOperands) (w : ℕ) → ordered_word op o ≡ Field.Holds w → Back w Row.OrderedRow (Family.Ordered op o)
+ordered_back : (op : SizedOp) (o : OffsetOperands) (w : ℕ) → ordered_word op o ≡ Some w → Back w Row.OrderedRow (Family.Ordered op o)
 unfolding ordered_word
 ordered_back op o w h =
     let p = picked (eqb (vector_of op) 0) h unfit in
@@ -128,7 +127,7 @@ ordered_back op o w h =
     signed_family op o w 3 1 0 (omega arith) (omega arith) (omega arith) Row.OrderedRow Family.Ordered refl p.1
     (λ g. row_is w Row.OrderedRow (g.0, (s.vector ∙ eqb-true _ _ p.0, g.1))) refl
 
-index_back : (op : SizedOp) (o : IndexOperands) (w : ℕ) → index_word op o ≡ Field.Holds w → Back w Row.RegisterRow (Family.Register op o)
+index_back : (op : SizedOp) (o : IndexOperands) (w : ℕ) → index_word op o ≡ Some w → Back w Row.RegisterRow (Family.Register op o)
 unfolding index_word index_in
 index_back op o w h =
     let q = word_back (fixed Row.RegisterRow) (sized_fields op o.base o.target (index_fields o)) w h in
@@ -143,7 +142,7 @@ index_back op o w h =
       omega (arith, q.1, size, vector, opc, base, target, index, option, scaled),
     )
 
-unsigned_back : (op : SizedOp) (o : OffsetOperands) (w : ℕ) → unsigned_word op o ≡ Field.Holds w → Back w Row.UnsignedRow (Family.Unsigned op o)
+unsigned_back : (op : SizedOp) (o : OffsetOperands) (w : ℕ) → unsigned_word op o ≡ Some w → Back w Row.UnsignedRow (Family.Unsigned op o)
 unfolding unsigned_word unsigned_in
 unsigned_back op o w h =
     let p = with_back (plain_bits_of 4096 (sized_bytes op) o.offset) (λ b. word_with (fixed Row.UnsignedRow) (sized_fields op o.base o.target (bits 21 10 b ∷ []))) w h in
@@ -175,7 +174,7 @@ module _ (code : ℕ) (size : AccessSize) (status target base w : ℕ) where
     base= : part 5 5 w ≡ base
     word : w < 2 ^ 32
 
-  exclusives : exclusive_word code size status target base ≡ Field.Holds w → Exclusives
+  exclusives : exclusive_word code size status target base ≡ Some w → Exclusives
   unfolding exclusive_word
   exclusives h =
       let q = word_back (fixed Row.StoreExclusiveRow) (exclusive_fields code size status target base) w h in
@@ -227,7 +226,7 @@ exclusive_family ExclusiveOp.LoadAcquire w = refl
 code_back : {a b d : ℕ} (code : ℕ) → a ≡ code / 4 → b ≡ code / 2 % 2 → d ≡ code % 2 → a * 4 + b * 2 + d ≡ code
 code_back code p q r = omega (arith, p, q, r)
 
-exclusive_back : (op : ExclusiveOp) (o : ExclusiveOperands) (w : ℕ) → word_of (Family.Exclusive op o) ≡ Field.Holds w
+exclusive_back : (op : ExclusiveOp) (o : ExclusiveOperands) (w : ℕ) → word_of (Family.Exclusive op o) ≡ Some w
     → Back w (exclusive_row op) (Family.Exclusive op o)
 unfolding exclusive_op_in exclusive_in
 exclusive_back op o w h =
@@ -241,7 +240,7 @@ store_exclusive_row op size status target base w x =
     let k = store_exclusive_below op in
     row_is w Row.StoreExclusiveRow (x.group, (x.b26, (x.b24, (omega (arith, x.b23), (omega (arith, x.b22), (x.b21, tt))))))
 
-store_exclusive_back : (op : StoreExclusiveOp) (o : StoreExclusiveOperands) (w : ℕ) → word_of (Family.StoreExclusive op o) ≡ Field.Holds w
+store_exclusive_back : (op : StoreExclusiveOp) (o : StoreExclusiveOperands) (w : ℕ) → word_of (Family.StoreExclusive op o) ≡ Some w
     → Back w Row.StoreExclusiveRow (Family.StoreExclusive op o)
 unfolding store_exclusive_op_in store_exclusive_in
 store_exclusive_back op o w h =
@@ -249,7 +248,7 @@ store_exclusive_back op o w h =
     let c = ap store_exclusive_at (code_back (store_exclusive_code op) x.b23 x.b22 x.b15) ∙ store_exclusive_at_lem op in
     (store_exclusive_row op o.size o.status o.target o.base w x, simp (c, x.size=, x.status=, x.target=, x.base=), x.word)
 
-pub back : (F : Family) (w : ℕ) → word_of F ≡ Field.Holds w → (r : Row) × Back w r F
+pub back : (F : Family) (w : ℕ) → word_of F ≡ Some w → (r : Row) × Back w r F
 back Family.Empty w h = absurd (unfit h)
 back (Family.Literal op o) w h = (Row.LiteralRow, literal_back op o w h)
 back (Family.Pair op o) w h = (Row.PairRow, pair_back op o w h)

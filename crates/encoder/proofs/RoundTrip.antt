@@ -7,7 +7,6 @@ use mathlib.Core.Logic.{◌⊎◌, inl, inr}
 use native.Mathlib.Omega.{arith}
 use borrow.Author.Tests.{not-true}
 use Rattle.bits.specs.Choice.{pick}
-use Rattle.bits.specs.declared.Field.{Field}
 use Rattle.bits.proofs.Choices.{both}
 use Rattle.instruction.specs.declared.answer.Answer.{Answer}
 use Rattle.instruction.specs.declared.answer.Encoded.{Encoded}
@@ -20,7 +19,7 @@ use Rattle.encoder.specs.Exact.{encoded, no_word, Word, Exact}
 use Rattle.encoder.proofs.There.{there}
 use Rattle.encoder.proofs.Back.{back}
 
-allocated_there : (w : ℕ) → w < 2 ^ 32 → allocated w ≡ true → word_of (instruction_of w).family ≡ Field.Holds w
+allocated_there : (w : ℕ) → w < 2 ^ 32 → allocated w ≡ true → word_of (instruction_of w).family ≡ Some w
 unfolding allocated undefined instruction_of
 allocated_there w h a =
     let p = both (in_set w) (not ((columns_of (row_of w)).undefined w)) a in
@@ -33,16 +32,16 @@ encode_decoded w h a = rw (allocated_there w h a, a)
 
 -- ---- what encoding can give
 
-abbrev Given : Field → Encoded → Type 0
-Given f e = ((w : ℕ) × (e ≡ encoded w) × (f ≡ Field.Holds w) × (allocated w ≡ true)) ⊎ (e ≡ no_word)
+abbrev Given : Option ℕ → Encoded → Type 0
+Given f e = ((w : ℕ) × (e ≡ encoded w) × (f ≡ Some w) × (allocated w ≡ true)) ⊎ (e ≡ no_word)
 
-given_word : (v : ℕ) (a : Bool) → allocated v ≡ a → Given (Field.Holds v) (record { answer = pick a Answer.Done Answer.NoSuchInstruction; word = pick a v 0 })
+given_word : (v : ℕ) (a : Bool) → allocated v ≡ a → Given (Some v) (record { answer = pick a Answer.Done Answer.NoSuchInstruction; word = pick a v 0 })
 given_word v true p = inl (v, refl, refl, p)
 given_word v false p = inr refl
 
-given : (f : Field) → Given f (encoded_as f)
-given (Field.Holds v) = given_word v (allocated v) refl
-given Field.Unfit = inr refl
+given : (f : Option ℕ) → Given f (encoded_as f)
+given (Some v) = given_word v (allocated v) refl
+given None = inr refl
 
 pub not_encoded : {w : ℕ} → ¬ (no_word ≡ encoded w)
 not_encoded e =
@@ -50,7 +49,7 @@ not_encoded e =
     let y : ◌≡◌ {A = ℕ} 0 1 = cc in
     omega arith
 
-word_of_lem : (i : Instruction) (w : ℕ) → word_of i.family ≡ Field.Holds w → allocated w ≡ true → Word i w
+word_of_lem : (i : Instruction) (w : ℕ) → word_of i.family ≡ Some w → allocated w ≡ true → Word i w
 word_of_lem i w h a =
     let (r, (row, family, below)) = back i.family w h in
     record {

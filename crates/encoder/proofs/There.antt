@@ -6,7 +6,6 @@ use mathlib.Core.List.{[], ◌∷◌}
 use native.Mathlib.Omega.{arith}
 use lib.Dec.{eqb}
 use borrow.Author.Tests.{lt-ltb, eq-eqb, eqb-true, eqb-false}
-use Rattle.bits.specs.declared.Field.{Field}
 use Rattle.bits.specs.Fields.{part, field, bits}
 use Rattle.bits.proofs.Choices.{neither}
 use Rattle.bits.proofs.Parts.{part_lt, top, split, Has}
@@ -84,7 +83,7 @@ pairs w u =
 -- ---- the word of each family
 
 module _ (w : ℕ) (h : w < 2 ^ 32) where
-  literal_there : Has w (columns_of Row.LiteralRow).fixed → undefined_literal w ≡ false → literal_word (literal_op_in w) (literal_in w) ≡ Field.Holds w
+  literal_there : Has w (columns_of Row.LiteralRow).fixed → undefined_literal w ≡ false → literal_word (literal_op_in w) (literal_in w) ≡ Some w
   unfolding literal_word literal_in
   literal_there g u =
       let p = literals w u in
@@ -92,7 +91,7 @@ module _ (w : ℕ) (h : w < 2 ^ 32) where
       (sym (word_is _ _ (simp (p.opc, p.vector, lt-ltb _ _ (part_lt 30 2 w), lt-ltb _ _ (part_lt 26 1 w), lt-ltb _ _ (part_lt 0 5 w), lt-ltb _ _ (part_lt 5 19 w)))
       (omega (arith, p.opc, p.vector, split (5 ∷ 19 ∷ 2 ∷ 1 ∷ 3 ∷ 2 ∷ []) w, top w 32 h))))
 
-  pair_there : Has w (columns_of Row.PairRow).fixed → undefined_pair w ≡ false → pair_word (pair_op_in w) (pair_in (pair_op_in w) w) ≡ Field.Holds w
+  pair_there : Has w (columns_of Row.PairRow).fixed → undefined_pair w ≡ false → pair_word (pair_op_in w) (pair_in (pair_op_in w) w) ≡ Some w
   unfolding pair_word pair_in
   pair_there g u =
       let p = pairs w u in
@@ -117,7 +116,7 @@ module _ (w : ℕ) (h : w < 2 ^ 32) where
 
   -- the four families with imm9, over what tells them apart: bits 29..27, 25..24 and 11..10
   signed_there : (a b d : ℕ) {f : ℕ} → Has w (bits 29 27 a ∷ bits 25 24 b ∷ bits 21 21 0 ∷ bits 11 10 d ∷ [])
-      → f ≡ a * 2 ^ 27 + b * 2 ^ 24 + d * 2 ^ 10 → undefined_size w ≡ false → signed_word f (sized_in w) (signed_in w) ≡ Field.Holds w
+      → f ≡ a * 2 ^ 27 + b * 2 ^ 24 + d * 2 ^ 10 → undefined_size w ≡ false → signed_word f (sized_in w) (signed_in w) ≡ Some w
   unfolding signed_word signed_in
   signed_there a b d g e u =
       let s = sizes w u in
@@ -137,13 +136,13 @@ module _ (w : ℕ) (h : w < 2 ^ 32) where
       (rw (s.size, s.vector, s.opc) (omega (arith, split (5 ∷ 5 ∷ 2 ∷ 9 ∷ 1 ∷ 2 ∷ 2 ∷ 1 ∷ 3 ∷ 2 ∷ []) w, top w 32 h)))))
 
   -- and bit 26 = 0
-  ordered_there : Has w (columns_of Row.OrderedRow).fixed → undefined_size w ≡ false → ordered_word (sized_in w) (signed_in w) ≡ Field.Holds w
+  ordered_there : Has w (columns_of Row.OrderedRow).fixed → undefined_size w ≡ false → ordered_word (sized_in w) (signed_in w) ≡ Some w
   unfolding ordered_word
   ordered_there g u =
       rw (eq-eqb (vector_of (sized_in w)) 0 ((sizes w u).vector ∙ g.1.0))
       (signed_there 3 1 0 (g.0, (g.1.1.0, (g.1.1.1.0, (g.1.1.1.1.0, tt)))) refl u)
 
-  index_there : Has w (columns_of Row.RegisterRow).fixed → undefined_size w ≡ false → index_word (sized_in w) (index_in w) ≡ Field.Holds w
+  index_there : Has w (columns_of Row.RegisterRow).fixed → undefined_size w ≡ false → index_word (sized_in w) (index_in w) ≡ Some w
   unfolding index_word index_in
   index_there g u =
       let s = sizes w u in
@@ -163,7 +162,7 @@ module _ (w : ℕ) (h : w < 2 ^ 32) where
       ))
       (omega (arith, split (5 ∷ 5 ∷ 2 ∷ 1 ∷ 3 ∷ 5 ∷ 1 ∷ 2 ∷ 2 ∷ 1 ∷ 3 ∷ 2 ∷ []) w, top w 32 h)))
 
-  unsigned_there : Has w (columns_of Row.UnsignedRow).fixed → undefined_size w ≡ false → unsigned_word (sized_in w) (unsigned_in (sized_in w) w) ≡ Field.Holds w
+  unsigned_there : Has w (columns_of Row.UnsignedRow).fixed → undefined_size w ≡ false → unsigned_word (sized_in w) (unsigned_in (sized_in w) w) ≡ Some w
   unfolding unsigned_word unsigned_in
   unsigned_there g u =
       let s = sizes w u in
@@ -184,7 +183,7 @@ module _ (w : ℕ) (h : w < 2 ^ 32) where
 
   -- what the three rows of the ninth family share, over their operation and status
   exclusive_there : Has w (bits 29 27 0b001 ∷ bits 26 26 0 ∷ bits 25 24 0b00 ∷ bits 21 21 0 ∷ bits 14 10 31 ∷ []) → (code status : ℕ)
-      → code ≡ exclusive_bits w → status ≡ field 20 16 w → exclusive_word code (size_at (field 31 30 w)) status (field 4 0 w) (field 9 5 w) ≡ Field.Holds w
+      → code ≡ exclusive_bits w → status ≡ field 20 16 w → exclusive_word code (size_at (field 31 30 w)) status (field 4 0 w) (field 9 5 w) ≡ Some w
   unfolding exclusive_word
   exclusive_there g code status c s =
       let b23 = part_lt 23 1 w in
@@ -212,7 +211,7 @@ module _ (w : ℕ) (h : w < 2 ^ 32) where
       (omega (arith, split (5 ∷ 5 ∷ 5 ∷ 1 ∷ 5 ∷ 1 ∷ 1 ∷ 1 ∷ 2 ∷ 1 ∷ 3 ∷ 2 ∷ []) w, top w 32 h, g))))
 
   load_exclusive_there : Has w (columns_of Row.LoadExclusiveRow).fixed → undefined_unused w ≡ false
-      → word_of (Family.Exclusive (exclusive_op_in w) (exclusive_in w)) ≡ Field.Holds w
+      → word_of (Family.Exclusive (exclusive_op_in w) (exclusive_in w)) ≡ Some w
   unfolding exclusive_op_in exclusive_in
   load_exclusive_there g u =
       let n = unused_no w u in
@@ -221,7 +220,7 @@ module _ (w : ℕ) (h : w < 2 ^ 32) where
       exclusive_there (g.0, (g.1.0, (g.1.1.0, (g.1.1.1.1.1.0, (n.0, tt))))) _ 31 c (sym n.1)
 
   store_exclusive_there : Has w (columns_of Row.StoreExclusiveRow).fixed → undefined_second w ≡ false
-      → word_of (Family.StoreExclusive (store_exclusive_op_in w) (store_exclusive_in w)) ≡ Field.Holds w
+      → word_of (Family.StoreExclusive (store_exclusive_op_in w) (store_exclusive_in w)) ≡ Some w
   unfolding store_exclusive_op_in store_exclusive_in
   store_exclusive_there g u =
       let b15 = part_lt 15 1 w in
@@ -229,7 +228,7 @@ module _ (w : ℕ) (h : w < 2 ^ 32) where
       exclusive_there (g.0, (g.1.0, (g.1.1.0, (g.1.1.1.1.1.0, (second_no w u, tt))))) _ (field 20 16 w) c refl
 
   acquire_release_there : Has w (columns_of Row.AcquireReleaseRow).fixed → undefined_unused w ≡ false
-      → word_of (Family.Exclusive (exclusive_op_in w) (exclusive_in w)) ≡ Field.Holds w
+      → word_of (Family.Exclusive (exclusive_op_in w) (exclusive_in w)) ≡ Some w
   unfolding exclusive_op_in exclusive_in
   acquire_release_there g u =
       let n = unused_no w u in
@@ -237,7 +236,7 @@ module _ (w : ℕ) (h : w < 2 ^ 32) where
       let c = exclusive_code_lem (exclusive_bits w) (omega arith) (omega arith) (λ e. omega arith) (λ e. omega arith) in
       exclusive_there (g.0, (g.1.0, (g.1.1.0, (g.1.1.1.1.0, (n.0, tt))))) _ 31 c (sym n.1)
 
-  pub there : (r : Row) → Has w (columns_of r).fixed → (columns_of r).undefined w ≡ false → word_of ((columns_of r).family w) ≡ Field.Holds w
+  pub there : (r : Row) → Has w (columns_of r).fixed → (columns_of r).undefined w ≡ false → word_of ((columns_of r).family w) ≡ Some w
   there Row.NoRow g u = absurd (omega arith)
   there Row.LiteralRow g u = literal_there g u
   there Row.PairRow g u = pair_there g u

@@ -7,7 +7,6 @@ mod word;
 ghost use Rattle.std.specs.Prelude.{◌≡◌};
 ghost use Rattle.encoder.specs.Encoding.{encode_of, encoded_as};
 
-use bits::Field;
 use instruction::{Answer, Encoded, Instruction};
 
 // The one word that decodes to an instruction, or answer 11 and word 0.
@@ -18,14 +17,14 @@ pub fn encode(instruction: Instruction) -> Encoded
     let family = instruction.family;
     let field = word::word_of(family);
     match field {
-        Field::Holds(word) => allocated_only(word),
-        Field::Unfit => refused(),
+        Some(word) => allocated_only(word),
+        None => refused(),
     }
 }
 
 // An undefined combination of fields has no instruction.
 fn allocated_only(word: u32) -> Encoded
-    ensures { result ≡ encoded_as (Field.Holds word) }
+    ensures { result ≡ encoded_as (Some word) }
 {
     if decoder::is_allocated(word) {
         return Encoded {
@@ -37,7 +36,7 @@ fn allocated_only(word: u32) -> Encoded
 }
 
 fn refused() -> Encoded
-    ensures { result ≡ encoded_as Field.Unfit }
+    ensures { result ≡ encoded_as None }
 {
     Encoded {
         answer: Answer::NoSuchInstruction,

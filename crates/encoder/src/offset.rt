@@ -3,30 +3,29 @@ ghost use Rattle.std.specs.Prelude.{◌≡◌, ◌<◌, ◌≤◌};
 ghost use Rattle.bits.specs.Signed.{quotient_of, bits_of, plain_bits_of};
 ghost use Rattle.instruction.specs.Operations.{sized_bytes, pair_bytes};
 
-use bits::Field;
 use instruction::{PairOp, SizedOp};
 
 #[tactic(auto, using(instruction::proofs::Codes::paired))]
-pub fn imm7(offset: i64, op: PairOp) -> Field
+pub fn imm7(offset: i64, op: PairOp) -> Option<u32>
     ensures { result ≡ bits_of 64 (pair_bytes op) offset }
 {
     signed_bits(offset, 64, instruction::pair_bytes(op))
 }
 
-pub fn imm9(offset: i64) -> Field
+pub fn imm9(offset: i64) -> Option<u32>
     ensures { result ≡ bits_of 256 1 offset }
 {
     signed_bits(offset, 256, 1)
 }
 
 #[tactic(auto, using(instruction::proofs::Codes::sized))]
-pub fn imm12(offset: i64, op: SizedOp) -> Field
+pub fn imm12(offset: i64, op: SizedOp) -> Option<u32>
     ensures { result ≡ plain_bits_of 4096 (sized_bytes op) offset }
 {
     plain_bits(offset, 4096, instruction::sized_bytes(op))
 }
 
-pub fn imm19(offset: i64) -> Field
+pub fn imm19(offset: i64) -> Option<u32>
     ensures { result ≡ bits_of 262144 4 offset }
 {
     signed_bits(offset, 262144, 4)
@@ -34,7 +33,7 @@ pub fn imm19(offset: i64) -> Field
 
 // In two's complement. Half is how many values each sign has.
 #[tactic(auto, using(bits::proofs::Offsets::quotient_below), unfolding(bits::specs::Signed::bits_of))]
-fn signed_bits(offset: i64, half: u32, scale: u32) -> Field
+fn signed_bits(offset: i64, half: u32, scale: u32) -> Option<u32>
     requires { (0 < scale) × (half ≤ 262144) }
     ensures { result ≡ bits_of half scale offset }
 {
@@ -42,8 +41,8 @@ fn signed_bits(offset: i64, half: u32, scale: u32) -> Field
     if offset < 0 {
         let field = quotient(far, scale, half + 1);
         match field {
-            Field::Holds(q) => Field::Holds(2 * half - q),
-            Field::Unfit => Field::Unfit,
+            Some(q) => Some(2 * half - q),
+            None => None,
         }
     } else {
         quotient(far, scale, half)
@@ -52,20 +51,20 @@ fn signed_bits(offset: i64, half: u32, scale: u32) -> Field
 
 // Without sign, one of limit values.
 #[tactic(auto, unfolding(bits::specs::Signed::plain_bits_of))]
-fn plain_bits(offset: i64, limit: u32, scale: u32) -> Field
+fn plain_bits(offset: i64, limit: u32, scale: u32) -> Option<u32>
     requires { 0 < scale }
     ensures { result ≡ plain_bits_of limit scale offset }
 {
     let far = bits::magnitude(offset);
     if offset < 0 {
-        return Field::Unfit;
+        return None;
     }
     quotient(far, scale, limit)
 }
 
 // The quotient, where it is whole and below the limit.
 #[tactic(auto, unfolding(bits::specs::Signed::quotient_of))]
-fn quotient(magnitude: u64, scale: u32, limit: u32) -> Field
+fn quotient(magnitude: u64, scale: u32, limit: u32) -> Option<u32>
     requires { 0 < scale }
     ensures { result ≡ quotient_of magnitude scale limit }
 {
@@ -73,8 +72,8 @@ fn quotient(magnitude: u64, scale: u32, limit: u32) -> Field
     let whole = magnitude / scale;
     if magnitude % scale == 0 {
         if whole < limit as u64 {
-            return Field::Holds(whole as u32);
+            return Some(whole as u32);
         }
     }
-    Field::Unfit
+    None
 }

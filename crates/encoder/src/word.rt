@@ -5,17 +5,16 @@ ghost use Rattle.encoder.specs.Encoding.{fixed, word_with, literal_fields, liter
 ghost use Rattle.encoder.specs.route.Sized.{sized_word};
 
 use crate::offset;
-use bits::Field;
 use instruction::{
     AccessSize, Family, IndexOperands, LiteralOp, LiteralOperands, OffsetOperands, PairOp,
     PairOperands, Row, SizedOp,
 };
 
-pub fn word_of(family: Family) -> Field
+pub fn word_of(family: Family) -> Option<u32>
     ensures { result ≡ word_of family }
 {
     match family {
-        Family::Empty => Field::Unfit,
+        Family::Empty => None,
         Family::Literal(op, o) => literal_word(op, o),
         Family::Pair(op, o) => pair_word(op, o),
         Family::Ordered(op, o) => ordered_word(op, o),
@@ -37,43 +36,43 @@ pub fn word_of(family: Family) -> Field
 }
 
 #[tactic(auto, using(crate::proofs::Words::signed_below), unfolding(crate::specs::Encoding::literal_word))]
-fn literal_word(op: LiteralOp, o: LiteralOperands) -> Field
+fn literal_word(op: LiteralOp, o: LiteralOperands) -> Option<u32>
     ensures { result ≡ literal_word op o }
 {
     let target = o.target;
     let field = offset::imm19(o.offset);
     match field {
-        Field::Holds(imm19) => literal_sum(op, target, imm19),
-        Field::Unfit => Field::Unfit,
+        Some(imm19) => literal_sum(op, target, imm19),
+        None => None,
     }
 }
 
 #[tactic(auto, using(instruction::proofs::Codes::lettered), unfolding(crate::specs::Encoding::word_with))]
-fn literal_sum(op: LiteralOp, target: u32, imm19: u32) -> Field
+fn literal_sum(op: LiteralOp, target: u32, imm19: u32) -> Option<u32>
     requires { imm19 < 524288 }
     ensures { result ≡ word_with (fixed Row.LiteralRow) (literal_fields op target imm19) }
 {
     if 32 <= target {
-        return Field::Unfit;
+        return None;
     }
     let code = instruction::literal_opc(op) * 0x4000_0000
         + instruction::literal_vector(op) * 0x400_0000;
-    Field::Holds(0x1800_0000 + code + target + imm19 * 32)
+    Some(0x1800_0000 + code + target + imm19 * 32)
 }
 
 #[tactic(auto, using(crate::proofs::Words::signed_below), unfolding(crate::specs::Encoding::pair_word))]
-fn pair_word(op: PairOp, o: PairOperands) -> Field
+fn pair_word(op: PairOp, o: PairOperands) -> Option<u32>
     ensures { result ≡ pair_word op o }
 {
     let field = offset::imm7(o.offset, op);
     match field {
-        Field::Holds(imm7) => pair_sum(op, o, imm7),
-        Field::Unfit => Field::Unfit,
+        Some(imm7) => pair_sum(op, o, imm7),
+        None => None,
     }
 }
 
 #[tactic(auto, using(instruction::proofs::Codes::paired, instruction::proofs::Codes::mode_below), unfolding(crate::specs::Encoding::word_with))]
-fn pair_sum(op: PairOp, o: PairOperands, imm7: u32) -> Field
+fn pair_sum(op: PairOp, o: PairOperands, imm7: u32) -> Option<u32>
     requires { imm7 < 128 }
     ensures { result ≡ word_with (fixed Row.PairRow) (pair_fields op o imm7) }
 {
@@ -82,54 +81,54 @@ fn pair_sum(op: PairOp, o: PairOperands, imm7: u32) -> Field
     let second = o.second;
     let mode = o.mode;
     if 32 <= base {
-        return Field::Unfit;
+        return None;
     }
     if 32 <= first {
-        return Field::Unfit;
+        return None;
     }
     if 32 <= second {
-        return Field::Unfit;
+        return None;
     }
     let registers = base * 32 + first + second * 0x400;
     let code = instruction::pair_opc(op) * 0x4000_0000
         + instruction::pair_vector(op) * 0x400_0000
         + instruction::mode_code(mode) * 0x80_0000
         + instruction::pair_load(op) * 0x40_0000;
-    Field::Holds(0x2800_0000 + code + registers + imm7 * 0x8000)
+    Some(0x2800_0000 + code + registers + imm7 * 0x8000)
 }
 
 // The fields that all families with a size have, beside their own, which are in place already.
 #[tactic(auto, unfolding(crate::specs::route::Sized::sized_word))]
-fn sized_word(op: SizedOp, base: u32, target: u32, own: u32) -> Field
+fn sized_word(op: SizedOp, base: u32, target: u32, own: u32) -> Option<u32>
     requires { own < 0x3a00_0000 }
     ensures { result ≡ sized_word op base target own }
 {
     if 32 <= base {
-        return Field::Unfit;
+        return None;
     }
     if 32 <= target {
-        return Field::Unfit;
+        return None;
     }
     let size = instruction::size_field(op);
     let vector = instruction::vector_field(op);
     let opc = instruction::opc_field(op);
     let code = size * 0x4000_0000 + vector * 0x400_0000 + opc * 0x40_0000;
-    Field::Holds(code + base * 32 + target + own)
+    Some(code + base * 32 + target + own)
 }
 
 // The ordered family has no vector forms.
 #[tactic(auto, unfolding(crate::specs::Encoding::ordered_word))]
-fn ordered_word(op: SizedOp, o: OffsetOperands) -> Field
+fn ordered_word(op: SizedOp, o: OffsetOperands) -> Option<u32>
     ensures { result ≡ ordered_word op o }
 {
     if instruction::vector_field(op) == 0 {
         return signed_word(0x1900_0000, op, o);
     }
-    Field::Unfit
+    None
 }
 
 #[tactic(auto, using(crate::proofs::Words::signed_below, crate::proofs::Words::signed_is), unfolding(crate::specs::Encoding::signed_word))]
-fn signed_word(row: u32, op: SizedOp, o: OffsetOperands) -> Field
+fn signed_word(row: u32, op: SizedOp, o: OffsetOperands) -> Option<u32>
     requires { row ≤ 0x3900_0000 }
     ensures { result ≡ signed_word row op o }
 {
@@ -137,62 +136,62 @@ fn signed_word(row: u32, op: SizedOp, o: OffsetOperands) -> Field
     let target = o.target;
     let field = offset::imm9(o.offset);
     match field {
-        Field::Holds(imm9) => sized_word(op, base, target, row + imm9 * 0x1000),
-        Field::Unfit => Field::Unfit,
+        Some(imm9) => sized_word(op, base, target, row + imm9 * 0x1000),
+        None => None,
     }
 }
 
 #[tactic(auto, using(instruction::proofs::Codes::sized), unfolding(crate::specs::Encoding::index_word, crate::specs::Encoding::word_with, crate::specs::route::Sized::sized_word))]
-fn index_word(op: SizedOp, o: IndexOperands) -> Field
+fn index_word(op: SizedOp, o: IndexOperands) -> Option<u32>
     ensures { result ≡ index_word op o }
 {
     let index = o.index;
     let option = o.option;
     let scaled = o.scaled;
     if 32 <= index {
-        return Field::Unfit;
+        return None;
     }
     if 8 <= option {
-        return Field::Unfit;
+        return None;
     }
     if 2 <= scaled {
-        return Field::Unfit;
+        return None;
     }
     let own = 0x3820_0800 + index * 0x1_0000 + option * 0x2000 + scaled * 0x1000;
     sized_word(op, o.base, o.target, own)
 }
 
 #[tactic(auto, using(crate::proofs::Words::plain_below, crate::proofs::Words::unsigned_is), unfolding(crate::specs::Encoding::unsigned_word))]
-fn unsigned_word(op: SizedOp, o: OffsetOperands) -> Field
+fn unsigned_word(op: SizedOp, o: OffsetOperands) -> Option<u32>
     ensures { result ≡ unsigned_word op o }
 {
     let base = o.base;
     let target = o.target;
     let field = offset::imm12(o.offset, op);
     match field {
-        Field::Holds(imm12) => sized_word(op, base, target, 0x3900_0000 + imm12 * 0x400),
-        Field::Unfit => Field::Unfit,
+        Some(imm12) => sized_word(op, base, target, 0x3900_0000 + imm12 * 0x400),
+        None => None,
     }
 }
 
 // A code has bit 23, L and bit 15.
 #[tactic(auto, using(instruction::proofs::Codes::scale_below), unfolding(crate::specs::Encoding::exclusive_word, crate::specs::Encoding::word_with))]
-fn exclusive_word(code: u32, size: AccessSize, status: u32, target: u32, base: u32) -> Field
+fn exclusive_word(code: u32, size: AccessSize, status: u32, target: u32, base: u32) -> Option<u32>
     requires { code < 8 }
     ensures { result ≡ exclusive_word code size status target base }
 {
     if 32 <= status {
-        return Field::Unfit;
+        return None;
     }
     if 32 <= base {
-        return Field::Unfit;
+        return None;
     }
     if 32 <= target {
-        return Field::Unfit;
+        return None;
     }
     let registers = status * 0x1_0000 + base * 32 + target;
     let operation = code / 4 * 0x80_0000 + code / 2 % 2 * 0x40_0000 + code % 2 * 0x8000;
-    Field::Holds(
+    Some(
         0x0800_7c00 + instruction::access_scale(size) * 0x4000_0000 + operation + registers,
     )
 }

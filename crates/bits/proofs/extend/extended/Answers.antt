@@ -5,8 +5,8 @@ use Rattle.bits.proofs.extend.extended.Goals as goal
 
 pub returns-then-top-number : goal.returns-then-top-number
 unfolding extended_of
-returns-then-top-number c = rw (← c.largest-top.ensures, ← c.largest.ensures, lt-ltb _ _ c.if-top-number.true, ← c.above.ensures) c.wrapping_add_u64.ensures.value
+returns-then-top-number c = rw (← c.largest-top.ensures, ← c.largest.ensures, lt-ltb _ _ c.if-top-number.true, ← c.saturating_sub.ensures)
 
-pub returns : goal.returns
+pub returns-else-top-number : goal.returns-else-top-number
 unfolding extended_of
-returns c = rw (← c.largest-top.ensures, le-ltb _ _ c.if-top-number.false) (omega arith)
+returns-else-top-number c = rw (← c.largest-top.ensures, le-ltb _ _ c.if-top-number.false) (omega arith)

@@ -16,9 +16,9 @@ overflow_sub-result c =
     let h : c.args.n < 8 = omega (arith, c.if-n-gt7.false) in
     shifted_positive h
 
-pub returns : goal.returns
+pub returns-else-n-gt7 : goal.returns-else-n-gt7
 unfolding largest
-returns c =
+returns-else-n-gt7 c =
     let h : c.args.n < 8 = omega (arith, c.if-n-gt7.false) in
     let e : min c.args.n 8 ≡ c.args.n = omega arith in
     rw (e, shifted h)
