@@ -1,3 +1,4 @@
+pub mod Encoded
 pub mod Types
 pub mod Answers
 pub mod Operations

@@ -1,7 +1,7 @@
 -- The declared types under one roof, for the definitions and proofs that speak of them.
 pub use Rattle.instruction.specs.declared.answer.Answer.{Answer}
 pub use Rattle.instruction.specs.declared.answer.Decoded.{Decoded}
-pub use Rattle.instruction.specs.declared.answer.Encoded.{Encoded}
+pub use Rattle.instruction.specs.Encoded.{Encoded}
 pub use Rattle.instruction.specs.declared.row.Row.{Row}
 pub use Rattle.instruction.specs.declared.operation.SizedOp.{SizedOp}
 pub use Rattle.instruction.specs.declared.operation.LiteralOp.{LiteralOp}

@@ -55,16 +55,18 @@ pub fn answer_number(answer: Answer) -> u32
     }
 }
 
+// An answer crosses to other languages as its number.
+impl From<Answer> for u64 {
+    ghost from_gives = { λ answer number. number ≡ answer_number answer };
+
+    fn from(answer: Answer) -> u64 {
+        u64::from(answer_number(answer))
+    }
+}
+
 // What decoding a word gives. The instruction is the empty one where the word is refused.
 #[derive(Drop)]
 pub struct Decoded {
     pub answer: Answer,
     pub instruction: Instruction,
-}
-
-// What encoding an instruction gives. The word is 0 where the instruction is refused.
-#[derive(Drop)]
-pub struct Encoded {
-    pub answer: Answer,
-    pub word: u32,
 }

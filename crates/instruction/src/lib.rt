@@ -8,7 +8,7 @@ mod family;
 mod operation;
 mod row;
 
-pub use answer::{Answer, Decoded, Encoded, answer_number};
+pub use answer::{Answer, Decoded, answer_number};
 pub use exclusive::{
     AccessSize, ExclusiveOp, StoreExclusiveOp, access_bytes, access_scale, exclusive_at,
     exclusive_code, size_at, store_exclusive_at, store_exclusive_code,

@@ -1,6 +1,6 @@
 -- What decoding a word to numbers and encoding numbers answer: 01, "What a word says" and answers 2, 3 and 11.
 use Rattle.std.specs.Prelude.{ℕ, ◌^◌, ◌<◌, ◌≡◌, true, ◌⊎◌}
-use Rattle.instruction.specs.declared.answer.Encoded.{Encoded}
+use Rattle.instruction.specs.Encoded.{Encoded}
 use Rattle.instruction.specs.Answers.{answer_number}
 use Rattle.instruction.specs.Table.{allocated, instruction_of}
 use Rattle.decoder.specs.Decoding.{decode_of}

@@ -11,7 +11,7 @@ use Rattle.bits.specs.Choice.{pick}
 use Rattle.bits.proofs.Choices.{tested}
 use Rattle.instruction.specs.declared.answer.Answer.{Answer}
 use Rattle.instruction.specs.declared.answer.Answer.TheVariants.{Done, NoSuchText}
-use Rattle.instruction.specs.declared.answer.Encoded.{Encoded}
+use Rattle.instruction.specs.Encoded.{Encoded}
 use Rattle.instruction.specs.declared.family.Instruction.{Instruction}
 use Rattle.instruction.specs.Answers.{answer_number}
 use Rattle.encoder.specs.Encoding.{encode_of}

@@ -15,7 +15,7 @@ use Rattle.bits.specs.Signed.{signed_of}
 use Rattle.bits.proofs.Choices.{pick_by}
 use Rattle.instruction.specs.declared.answer.Answer.{Answer}
 use Rattle.instruction.specs.declared.answer.Answer.TheVariants.{Done, BadWindow, NotInSet, Undefined, Unpredictable, TaintedAddress, NoRoom}
-use Rattle.instruction.specs.declared.answer.Encoded.{Encoded}
+use Rattle.instruction.specs.Encoded.{Encoded}
 use Rattle.instruction.specs.declared.family.Instruction.{Instruction}
 use Rattle.instruction.specs.Answers.{answer_number}
 use Rattle.instruction.specs.Operations.{sized_at}

@@ -7,7 +7,7 @@ use mathlib.Core.Logic.{◌↔◌, inl, inr}
 use native.Mathlib.Omega.{arith}
 use Rattle.bits.specs.Choice.{pick}
 use Rattle.instruction.specs.declared.answer.Answer.{Answer}
-use Rattle.instruction.specs.declared.answer.Encoded.{Encoded}
+use Rattle.instruction.specs.Encoded.{Encoded}
 use Rattle.instruction.specs.Answers.{answer_number}
 use Rattle.instruction.specs.Table.{in_set, undefined, allocated, instruction_of}
 use Rattle.decoder.specs.Decoding.{decode_of, empty}

@@ -8,7 +8,7 @@ use native.Mathlib.Omega.{arith}
 use lib.ListN.{length}
 use Rattle.instruction.specs.Table.{allocated}
 use Rattle.encoder.specs.Encoding.{encode_of}
-use Rattle.instruction.specs.declared.answer.Encoded.{Encoded}
+use Rattle.instruction.specs.Encoded.{Encoded}
 use Rattle.text.specs.Texts.{word_text, text_most}
 use Rattle.text.proofs.Lengths.{text_short}
 use Rattle.reader.specs.Types.{Done, NoSuchText, Scan, Instruction}

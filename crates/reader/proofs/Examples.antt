@@ -10,7 +10,7 @@ use lib.ListN.{length}
 use Rattle.instruction.specs.Answers.{answer_number}
 use Rattle.instruction.specs.Operations.{sized_at, pair_at}
 use Rattle.encoder.specs.Encoding.{encode_of}
-use Rattle.instruction.specs.declared.answer.Encoded.{Encoded}
+use Rattle.instruction.specs.Encoded.{Encoded}
 use Rattle.ascii.specs.Ascii.{asc}
 use Rattle.mnemonic.specs.route.Names.{stem_at, name_at}
 use Rattle.text.specs.Texts.{word_text}

@@ -12,7 +12,7 @@ use Rattle.instruction.specs.Table.{columns_of, in_set, row_of, undefined, alloc
 use Rattle.instruction.proofs.Answers.{number_once}
 use Rattle.instruction.proofs.Rows.{row_has}
 use Rattle.encoder.specs.Encoding.{encode_of}
-use Rattle.instruction.specs.declared.answer.Encoded.{Encoded}
+use Rattle.instruction.specs.Encoded.{Encoded}
 use Rattle.encoder.specs.Exact.{Exact}
 use Rattle.encoder.proofs.RoundTrip.{encode_decoded, encode_exact, not_encoded}
 use Rattle.text.specs.Texts.{text_of, word_text}

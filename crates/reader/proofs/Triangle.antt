@@ -8,7 +8,7 @@ use native.Mathlib.Omega.{arith}
 use Rattle.instruction.specs.Answers.{answer_number}
 use Rattle.instruction.specs.Table.{instruction_of}
 use Rattle.encoder.specs.Encoding.{encode_of}
-use Rattle.instruction.specs.declared.answer.Encoded.{Encoded}
+use Rattle.instruction.specs.Encoded.{Encoded}
 use Rattle.encoder.specs.Exact.{Exact}
 use Rattle.encoder.proofs.RoundTrip.{encode_decoded, encode_exact}
 use Rattle.text.specs.Texts.{text_of, word_text}

@@ -2,7 +2,7 @@
 use Prim.Native.Nat.{ℕ}
 use mathlib.Core.Path.{◌≡◌, ◌∙◌}
 use mathlib.Core.Logic.{inl, inr}
-use Rattle.instruction.specs.declared.answer.Encoded.{Encoded}
+use Rattle.instruction.specs.Encoded.{Encoded}
 use Rattle.instruction.specs.Answers.{answer_number}
 use Rattle.plain.specs.declared.record.Plain.{Plain}
 use Rattle.plain.specs.Coding.{EncodedFrom}
