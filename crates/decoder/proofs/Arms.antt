@@ -1,14 +1,17 @@
 -- What a word's row says of its answer and its instruction, and what the answer of examining a word says. Assumes nothing.
 use Prim.Native.Nat.{ℕ}
-use mathlib.Core.Path.{◌≡◌, refl}
+use mathlib.Core.Path.{◌≡◌, refl, ap, ◌∙◌}
+use mathlib.Core.Logic.{◌⊎◌, inl, inr}
 use mathlib.Core.Bool.{Bool, true, false, ◌&&◌, ◌||◌, not}
 use lib.Dec.{eqb}
+use Rattle.std.specs.Prelude.{Result, Ok, Err}
 use Rattle.bits.specs.Choice.{pick}
 use Rattle.instruction.specs.declared.answer.Answer.{Answer}
 use Rattle.instruction.specs.declared.answer.Decoded.{Decoded}
+use Rattle.instruction.specs.declared.family.Instruction.{Instruction}
 use Rattle.instruction.specs.Answers.{answer_number}
 use Rattle.instruction.specs.Table.{Columns, columns_of, instruction_of, in_set, row_of, undefined, allocated, unpredictable}
-use Rattle.decoder.specs.Decoding.{decode_of, decoded_from, class_of, empty}
+use Rattle.decoder.specs.Decoding.{decode_of, decoded_from, as_decoded, class_of, empty}
 use Rattle.instruction.proofs.Rows.{is_row, set_is}
 
 -- ---- by the row
@@ -45,17 +48,47 @@ decoding true true v = refl
 decoding true false true = refl
 decoding true false false = refl
 
-allocation : (s u v : Bool) → (eqb (answer_number (class s u v)) 0 || eqb (answer_number (class s u v)) 4) ≡ (s && not u)
-allocation false u v = refl
-allocation true true v = refl
-allocation true false true = refl
-allocation true false false = refl
+marked : (s u v : Bool) → class s u v ≡ Answer.Done ⊎ class s u v ≡ Answer.Unpredictable → true ≡ (s && not u)
+marked false u v (inl e) = cc
+marked false u v (inr e) = cc
+marked true true v (inl e) = cc
+marked true true v (inr e) = cc
+marked true false v e = refl
+
+unmarked : (s u v : Bool) → ¬ (class s u v ≡ Answer.Done) → ¬ (class s u v ≡ Answer.Unpredictable) → false ≡ (s && not u)
+unmarked false u v n m = refl
+unmarked true true v n m = refl
+unmarked true false true n m = absurd (m refl)
+unmarked true false false n m = absurd (n refl)
+
+refused : (s u : Bool) (i : Instruction) → ¬ (pick s (pick u Answer.Undefined Answer.Done) Answer.NotInSet ≡ Answer.Done) → pick (s && not u) i empty ≡ empty
+refused false u i n = refl
+refused true true i n = refl
+refused true false i n = absurd (n refl)
 
 -- decoding answers no 4
 pub decoded_is : (w : ℕ) {r : Decoded} → Examined w r → decoded_from r ≡ decode_of w
 unfolding class_of decode_of
 decoded_is w p = rw (p.0, p.1, decoding (in_set w) (undefined w) (unpredictable w))
 
-pub allocated_is : (w : ℕ) {a : Answer} {n : ℕ} → a ≡ class_of w → n ≡ answer_number a → (eqb n 0 || eqb n 4) ≡ allocated w
+-- the instruction of an allocated word, or an answer
+found_as : (a : Answer) (i : Instruction) {r : Result Instruction Answer} → (¬ (a ≡ Answer.Done) → i ≡ empty)
+    → (a ≡ Answer.Done → r ≡ Ok i) → (¬ (a ≡ Answer.Done) → r ≡ Err a) → as_decoded r ≡ record { answer = a; instruction = i }
+found_as Answer.Done i n d e = rw (d refl)
+found_as a i n d e = let o : ¬ (a ≡ Answer.Done) = λ q. cc in rw (e o, n o)
+
+pub found_is : {d : Decoded} {r : Result Instruction Answer} (w : ℕ) → d ≡ decode_of w
+    → (d.answer ≡ Answer.Done → r ≡ Ok d.instruction) → (¬ (d.answer ≡ Answer.Done) → r ≡ Err d.answer) → as_decoded r ≡ decode_of w
+unfolding decode_of allocated
+found_is {d} w h done refusal =
+    let a = ap (λ (x : Decoded). x.answer) h in
+    let i = ap (λ (x : Decoded). x.instruction) h in
+    found_as d.answer d.instruction (λ n. i ∙ refused (in_set w) (undefined w) (instruction_of w) (λ q. n (a ∙ q))) done refusal ∙ h
+
+pub allocated_when : (w : ℕ) {a : Answer} → a ≡ class_of w → a ≡ Answer.Done ⊎ a ≡ Answer.Unpredictable → true ≡ allocated w
 unfolding class_of allocated
-allocated_is w e g = rw (g, e) (allocation (in_set w) (undefined w) (unpredictable w))
+allocated_when w e h = marked (in_set w) (undefined w) (unpredictable w) (rw e at h)
+
+pub allocated_else : (w : ℕ) {a : Answer} → a ≡ class_of w → ¬ (a ≡ Answer.Done) → ¬ (a ≡ Answer.Unpredictable) → false ≡ allocated w
+unfolding class_of allocated
+allocated_else w e n m = unmarked (in_set w) (undefined w) (unpredictable w) (rw e at n) (rw e at m)

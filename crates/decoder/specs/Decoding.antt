@@ -1,5 +1,5 @@
 -- What decoding and classifying a word answer: 01, "Answer numbers", 2, 3 and 4, the lowest first.
-use Rattle.std.specs.Prelude.{ℕ, eqb}
+use Rattle.std.specs.Prelude.{ℕ, Result, Ok, Err, eqb}
 use Rattle.bits.specs.Choice.{pick}
 use Rattle.instruction.specs.declared.answer.Answer.{Answer}
 use Rattle.instruction.specs.declared.answer.Decoded.{Decoded}
@@ -11,6 +11,11 @@ use Rattle.instruction.specs.Table.{in_set, undefined, allocated, unpredictable,
 -- 01's empty record
 abbrev pub empty : Instruction
 empty = record { family = Family.Empty }
+
+-- what a result says of a word
+abbrev pub as_decoded : Result Instruction Answer → Decoded
+as_decoded (Ok i) = record { answer = Answer.Done; instruction = i }
+as_decoded (Err a) = record { answer = a; instruction = empty }
 
 unfoldable pub decode_of : ℕ → Decoded
 decode_of w =

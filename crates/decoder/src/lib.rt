@@ -7,37 +7,43 @@ pub mod undefined;
 pub mod unpredictable;
 pub mod view;
 
-ghost use Rattle.std.specs.Prelude.{◌≡◌};
+ghost use Rattle.std.specs.Prelude.{◌≡◌, Ok, Err};
 ghost use Rattle.instruction.specs.Table.{allocated};
-ghost use Rattle.decoder.specs.Decoding.{decode_of, decoded_from, class_of};
+ghost use Rattle.decoder.specs.Decoding.{decode_of, decoded_from, as_decoded, class_of};
 
-use instruction::{Answer, Decoded};
+use instruction::{Answer, Decoded, Instruction};
 pub use view::examine;
 
-// The instruction of a word, or answer 2 or 3 and the empty instruction.
-#[tactic(auto, using(crate::proofs::Arms::decoded_is))]
-pub fn decode(word: u32) -> Decoded
-    ensures { result ≡ decode_of word }
+// The instruction of a word, or answer 2 or 3.
+pub fn decode(word: u32) -> Result<Instruction, Answer>
+    ensures { as_decoded result ≡ decode_of word }
 {
     let examined = examine(word);
-    decoded(examined)
+    found(decoded(examined))
+}
+
+// The instruction that decoding gave, or the answer of a word that has none.
+pub fn found(decoded: Decoded) -> Result<Instruction, Answer>
+    ensures done { decoded.answer ≡ Answer.Done → result ≡ Ok decoded.instruction }
+    ensures refused { ¬ (decoded.answer ≡ Answer.Done) → result ≡ Err decoded.answer }
+{
+    match decoded.answer {
+        Answer::Done => Ok(decoded.instruction),
+        answer => Err(answer),
+    }
 }
 
 // What decoding says of a word that was examined: it gives no answer 4.
 pub fn decoded(examined: Decoded) -> Decoded
     ensures { result ≡ decoded_from examined }
 {
-    let answer = examined.answer;
-    let instruction = examined.instruction;
-    if instruction::answer_number(answer) == 4 {
-        return Decoded {
-            answer: Answer::Done,
-            instruction,
-        };
-    }
+    let answer = match examined.answer {
+        Answer::Unpredictable => Answer::Done,
+        answer => answer,
+    };
     Decoded {
         answer,
-        instruction,
+        instruction: examined.instruction,
     }
 }
 
@@ -45,16 +51,13 @@ pub fn decoded(examined: Decoded) -> Decoded
 pub fn classify(word: u32) -> Answer
     ensures { result ≡ class_of word }
 {
-    let seen = examine(word);
-    let answer = seen.answer;
-    answer
+    examine(word).answer
 }
 
 // Whether a word is of the set and not undefined.
-#[tactic(auto, using(crate::proofs::Arms::allocated_is))]
+#[tactic(auto, using(crate::proofs::Arms::allocated_when, crate::proofs::Arms::allocated_else))]
 pub fn is_allocated(word: u32) -> bool
     ensures { result ≡ allocated word }
 {
-    let number = instruction::answer_number(classify(word));
-    (number == 0) | (number == 4)
+    matches!(classify(word), Answer::Done | Answer::Unpredictable)
 }
