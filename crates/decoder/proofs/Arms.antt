@@ -71,19 +71,22 @@ pub decoded_is : (w : ℕ) {r : Decoded} → Examined w r → decoded_from r ≡
 unfolding class_of decode_of
 decoded_is w p = rw (p.0, p.1, decoding (in_set w) (undefined w) (unpredictable w))
 
--- the instruction of an allocated word, or an answer
+-- what is found in a decoding, of which a refusal has the empty instruction
 found_as : (a : Answer) (i : Instruction) {r : Result Instruction Answer} → (¬ (a ≡ Answer.Done) → i ≡ empty)
     → (a ≡ Answer.Done → r ≡ Ok i) → (¬ (a ≡ Answer.Done) → r ≡ Err a) → as_decoded r ≡ record { answer = a; instruction = i }
 found_as Answer.Done i n d e = rw (d refl)
 found_as a i n d e = let o : ¬ (a ≡ Answer.Done) = λ q. cc in rw (e o, n o)
 
-pub found_is : {d : Decoded} {r : Result Instruction Answer} (w : ℕ) → d ≡ decode_of w
-    → (d.answer ≡ Answer.Done → r ≡ Ok d.instruction) → (¬ (d.answer ≡ Answer.Done) → r ≡ Err d.answer) → as_decoded r ≡ decode_of w
+pub found_is : {d x : Decoded} {r : Result Instruction Answer} → d ≡ x → (¬ (x.answer ≡ Answer.Done) → x.instruction ≡ empty)
+    → (d.answer ≡ Answer.Done → r ≡ Ok d.instruction) → (¬ (d.answer ≡ Answer.Done) → r ≡ Err d.answer) → as_decoded r ≡ x
+found_is {d} h none done refusal =
+    let a = ap (λ (y : Decoded). y.answer) h in
+    let i = ap (λ (y : Decoded). y.instruction) h in
+    found_as d.answer d.instruction (λ n. i ∙ none (λ q. n (a ∙ q))) done refusal ∙ h
+
+pub refused_empty : (w : ℕ) → ¬ ((decode_of w).answer ≡ Answer.Done) → (decode_of w).instruction ≡ empty
 unfolding decode_of allocated
-found_is {d} w h done refusal =
-    let a = ap (λ (x : Decoded). x.answer) h in
-    let i = ap (λ (x : Decoded). x.instruction) h in
-    found_as d.answer d.instruction (λ n. i ∙ refused (in_set w) (undefined w) (instruction_of w) (λ q. n (a ∙ q))) done refusal ∙ h
+refused_empty w n = refused (in_set w) (undefined w) (instruction_of w) n
 
 pub allocated_when : (w : ℕ) {a : Answer} → a ≡ class_of w → a ≡ Answer.Done ⊎ a ≡ Answer.Unpredictable → true ≡ allocated w
 unfolding class_of allocated

@@ -5,6 +5,7 @@ use mathlib.Core.List.{List, [], ◌∷◌}
 use native.Mathlib.Omega.{arith}
 use lib.Dec.{eqb}
 use borrow.Author.Tests.{eqb-true}
+use Rattle.std.specs.Prelude.{Option, Some, None}
 use Rattle.bits.specs.Fields.{part, Bits, bits, fit, placed}
 use Rattle.bits.specs.Signed.{bits_of, plain_bits_of}
 use Rattle.bits.proofs.Choices.{picked}

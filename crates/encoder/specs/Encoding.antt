@@ -1,5 +1,5 @@
 -- The word of an instruction, and what encoding answers: 01, "What a word says", answer 11; 02, CR 3 and CR 12.
-use Rattle.std.specs.Prelude.{ℕ, ◌+◌, ◌/◌, ◌%◌, List, [], ◌∷◌, eqb}
+use Rattle.std.specs.Prelude.{ℕ, Option, Some, None, Result, Ok, Err, ◌+◌, ◌/◌, ◌%◌, List, [], ◌∷◌, eqb}
 use Rattle.bits.specs.Choice.{pick}
 use Rattle.bits.specs.Fields.{Bits, bits, fit, placed}
 use Rattle.bits.specs.Signed.{bits_of, plain_bits_of}
@@ -98,6 +98,11 @@ word_of (Family.Register op o) = index_word op o
 word_of (Family.Unsigned op o) = unsigned_word op o
 word_of (Family.Exclusive op o) = exclusive_word (exclusive_code op) o.size 31 o.target o.base
 word_of (Family.StoreExclusive op o) = exclusive_word (store_exclusive_code op) o.size o.status o.target o.base
+
+-- what a result says of an instruction
+abbrev pub as_encoded : Result ℕ Answer → Encoded
+as_encoded (Ok w) = record { answer = Answer.Done; word = w }
+as_encoded (Err a) = record { answer = a; word = 0 }
 
 -- an undefined combination has no word
 abbrev pub encoded_as : Option ℕ → Encoded

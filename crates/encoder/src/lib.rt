@@ -5,41 +5,17 @@ mod offset;
 mod word;
 
 ghost use Rattle.std.specs.Prelude.{◌≡◌};
-ghost use Rattle.encoder.specs.Encoding.{encode_of, encoded_as};
+ghost use Rattle.encoder.specs.Encoding.{encode_of, as_encoded};
 
-use instruction::{Answer, Encoded, Instruction};
+use instruction::{Answer, Instruction};
 
-// The one word that decodes to an instruction, or answer 11 and word 0.
+// The one word that decodes to an instruction, or answer 11. An undefined combination of fields has no instruction.
 #[tactic(auto, unfolding(crate::specs::Encoding::encode_of))]
-pub fn encode(instruction: Instruction) -> Encoded
-    ensures { result ≡ encode_of instruction }
+pub fn encode(instruction: Instruction) -> Result<u32, Answer>
+    ensures { as_encoded result ≡ encode_of instruction }
 {
-    let family = instruction.family;
-    let field = word::word_of(family);
-    match field {
-        Some(word) => allocated_only(word),
-        None => refused(),
-    }
-}
-
-// An undefined combination of fields has no instruction.
-fn allocated_only(word: u32) -> Encoded
-    ensures { result ≡ encoded_as (Some word) }
-{
-    if decoder::is_allocated(word) {
-        return Encoded {
-            answer: Answer::Done,
-            word,
-        };
-    }
-    refused()
-}
-
-fn refused() -> Encoded
-    ensures { result ≡ encoded_as None }
-{
-    Encoded {
-        answer: Answer::NoSuchInstruction,
-        word: 0,
+    match word::word_of(instruction.family) {
+        Some(word) if decoder::is_allocated(word) => Ok(word),
+        _ => Err(Answer::NoSuchInstruction),
     }
 }

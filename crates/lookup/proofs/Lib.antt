@@ -1,3 +1,4 @@
 pub mod Rule
 pub mod Same
 pub mod Exact
+pub mod Refused

@@ -6,11 +6,11 @@ mod constant;
 mod finish;
 
 ghost use Rattle.std.specs.Prelude.{◌≡◌};
-ghost use Rattle.decoder.specs.Decoding.{decode_of};
+ghost use Rattle.decoder.specs.Decoding.{decode_of, as_decoded};
 ghost use Rattle.lookup.specs.Lookup.{examine_in, decode_in};
 
 pub use constant::table;
-use instruction::Decoded;
+use instruction::{Answer, Decoded, Instruction};
 
 // What the entry of a word in a lent table gives, with answer 4.
 #[tactic(auto, unfolding(crate::specs::Lookup::examine_in, bits::specs::Fields::part))]
@@ -21,17 +21,18 @@ pub fn examine_in(lent: &[u16; 1024], word: u32) -> Decoded
     finish::finish(wide(lent[at]), word)
 }
 
-// What the entry of a word in a lent table gives: an instruction, or answer 2 or 3 and the empty instruction.
-pub fn decode_in(lent: &[u16; 1024], word: u32) -> Decoded
-    ensures { result ≡ decode_in lent.now word }
+// What the entry of a word in a lent table gives: an instruction, or answer 2 or 3.
+pub fn decode_in(lent: &[u16; 1024], word: u32) -> Result<Instruction, Answer>
+    ensures { as_decoded result ≡ decode_in lent.now word }
 {
-    decoder::decoded(examine_in(lent, word))
+    let examined = examine_in(lent, word);
+    decoder::found(decoder::decoded(examined))
 }
 
 // The same as decoding without a table.
 #[tactic(auto, using(crate::proofs::Same::decode_same))]
-pub fn decode_by_table(word: u32) -> Decoded
-    ensures { result ≡ decode_of word }
+pub fn decode_by_table(word: u32) -> Result<Instruction, Answer>
+    ensures { as_decoded result ≡ decode_of word }
 {
     decode_in(&table(), word)
 }

@@ -1,5 +1,5 @@
 -- The word of a family with a size, from the fields that they share and own, all other bits in place.
-use Rattle.std.specs.Prelude.{ℕ, ◌+◌, ◌*◌, ◌&&◌, ltb}
+use Rattle.std.specs.Prelude.{ℕ, Option, Some, None, ◌+◌, ◌*◌, ◌&&◌, ltb}
 use Rattle.bits.specs.Choice.{pick}
 use Rattle.instruction.specs.declared.operation.SizedOp.{SizedOp}
 use Rattle.instruction.specs.Operations.{vector_of, size_of, opc_of}
