@@ -2,11 +2,8 @@
 use Prim.Native.Nat.{ℕ, ◌^◌, ◌<◌}
 use mathlib.Core.Path.{◌≡◌, refl, sym, ap, ◌∙◌}
 use mathlib.Core.Bool.{Bool, true, false}
-use mathlib.Core.Logic.{◌↔◌, inl, inr}
+use mathlib.Core.Logic.{inl, inr}
 use native.Mathlib.Omega.{arith}
-use lib.Dec.{eqb}
-use lib.IntN.{ℤ, pos, negsuc}
-use borrow.Author.Tests.{eqb-true, eq-eqb}
 use Rattle.bits.specs.Choice.{pick}
 use Rattle.instruction.specs.declared.answer.Answer.{Answer}
 use Rattle.instruction.specs.Encoded.{Encoded}
@@ -44,40 +41,24 @@ module _ (p : Plain) where
       rw (e ∙ q) (inr (refl, refl, λ w n. never w (record { below = n.below; defined = n.defined; instruction = named_word w p n })))
 
   -- where the instruction that the numbers name has these numbers, its word
-  pub encoded_from : {i : Instruction} {q : Plain} {b : Bool} {r : Encoded} → i ≡ instruction_named p → q ≡ plain_of i → ((b ≡ true) ↔ (q ≡ p)) → b ≡ true
+  pub encoded_from : {i : Instruction} {q : Plain} {b : Bool} {r : Encoded} → i ≡ instruction_named p → q ≡ plain_of i → b ≡ same q p → b ≡ true
       → r ≡ encode_of i → EncodedFrom p r
-  encoded_from named numbers same t e =
-      exact_from (ap plain_of (sym named) ∙ sym numbers ∙ same.0 t) (e ∙ ap encode_of named) (encode_exact (instruction_named p))
+  encoded_from {q = q} named numbers test t e =
+      exact_from (ap plain_of (sym named) ∙ sym numbers ∙ (same_numbers q p).0 (sym test ∙ t)) (e ∙ ap encode_of named) (encode_exact (instruction_named p))
 
   -- and else none
-  pub refused_from : {i : Instruction} {q : Plain} {b : Bool} → i ≡ instruction_named p → q ≡ plain_of i → ((b ≡ true) ↔ (q ≡ p)) → b ≡ false
-      → EncodedFrom p no_word
-  refused_from named numbers same t =
-      inr (refl, refl, λ w n. apart t (same.1 (numbers ∙ ap plain_of (named ∙ sym (named_word w p n)) ∙ n.numbers)))
+  pub refused_from : {i : Instruction} {q : Plain} {b : Bool} → i ≡ instruction_named p → q ≡ plain_of i → b ≡ same q p → b ≡ false → EncodedFrom p no_word
+  refused_from {q = q} named numbers test t =
+      inr (refl, refl, λ w n. apart t (test ∙ (same_numbers q p).1 (numbers ∙ ap plain_of (named ∙ sym (named_word w p n)) ∙ n.numbers)))
 
 -- ---- numbers are encoded in just one way
 
-sameℤ : ℤ → ℤ → Bool
-sameℤ (pos n) (pos m) = eqb n m
-sameℤ (negsuc n) (negsuc m) = eqb n m
-sameℤ (pos n) (negsuc m) = false
-sameℤ (negsuc n) (pos m) = false
-
-same_whole : (y z : ℤ) → (sameℤ y z ≡ true) ↔ (y ≡ z)
-unfolding sameℤ
-same_whole (pos n) (pos m) = ((λ t. ap pos (eqb-true n m t)), λ e. eq-eqb n m cc)
-same_whole (negsuc n) (negsuc m) = ((λ t. ap negsuc (eqb-true n m t)), λ e. eq-eqb n m cc)
-same_whole (pos n) (negsuc m) = ((λ t. cc), λ e. cc)
-same_whole (negsuc n) (pos m) = ((λ t. cc), λ e. cc)
-
-some_by : (p : Plain) (b : Bool) → ((b ≡ true) ↔ (plain_of (instruction_named p) ≡ p)) → (r : Encoded) × EncodedFrom p r
-some_by p true same = (encode_of (instruction_named p), encoded_from p refl refl same refl refl)
-some_by p false same = (no_word, refused_from p refl refl same refl)
+some_by : (p : Plain) (b : Bool) → b ≡ same (plain_of (instruction_named p)) p → (r : Encoded) × EncodedFrom p r
+some_by p true test = (encode_of (instruction_named p), encoded_from p refl refl test refl refl)
+some_by p false test = (no_word, refused_from p refl refl test refl)
 
 pub encoded_some : (p : Plain) → (r : Encoded) × EncodedFrom p r
-encoded_some p =
-    let q = plain_of (instruction_named p) in
-    some_by p (same q p (sameℤ q.offset p.offset)) (same_numbers q p (same_whole q.offset p.offset))
+encoded_some p = some_by p (same (plain_of (instruction_named p)) p) refl
 
 numbers_once : (w v : ℕ) (p : Plain) → NumbersOf w p → NumbersOf v p → w ≡ v
 numbers_once w v p n m =

@@ -1,12 +1,22 @@
 -- What decoding a word to numbers and encoding numbers answer: 01, "What a word says" and answers 2, 3 and 11.
-use Rattle.std.specs.Prelude.{ℕ, ◌^◌, ◌<◌, ◌≡◌, true, ◌⊎◌}
+use Rattle.std.specs.Prelude.{ℕ, Result, Ok, Err, ◌^◌, ◌<◌, ◌≡◌, true, ◌⊎◌}
+use Rattle.instruction.specs.declared.answer.Answer.{Answer}
 use Rattle.instruction.specs.Encoded.{Encoded}
 use Rattle.instruction.specs.Answers.{answer_number}
 use Rattle.instruction.specs.Table.{allocated, instruction_of}
 use Rattle.decoder.specs.Decoding.{decode_of}
 use Rattle.plain.specs.declared.record.Plain.{Plain}
-use Rattle.plain.specs.declared.record.DecodedPlain.{DecodedPlain}
-use Rattle.plain.specs.Plains.{plain_of}
+use Rattle.plain.specs.Plains.{empty_plain, plain_of}
+
+-- what decoding a word gives; the numbers are zeros where the word is refused
+pub record DecodedPlain : Type 0 where
+  pub answer : Answer
+  pub plain : Plain
+
+-- what a result says of a word
+abbrev pub as_decoded_plain : Result Plain Answer → DecodedPlain
+as_decoded_plain (Ok p) = record { answer = Answer.Done; plain = p }
+as_decoded_plain (Err a) = record { answer = a; plain = empty_plain }
 
 -- the empty instruction's are zeros
 unfoldable pub decode_plain : ℕ → DecodedPlain

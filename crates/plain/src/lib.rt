@@ -6,34 +6,30 @@ mod numbers;
 mod record;
 
 ghost use Rattle.std.specs.Prelude.{◌≡◌};
-ghost use Rattle.plain.specs.Coding.{decode_plain, EncodedFrom};
+ghost use Rattle.encoder.specs.Encoding.{as_encoded};
+ghost use Rattle.plain.specs.Coding.{as_decoded_plain, decode_plain, EncodedFrom};
 
-use instruction::{Answer, Encoded};
+use instruction::Answer;
 pub use numbers::plain_of;
-pub use record::{DecodedPlain, Plain};
+pub use record::Plain;
 
-// The numbers of a word's instruction, or answer 2 or 3 and zeros.
-pub fn decode(word: u32) -> DecodedPlain
-    ensures { result ≡ decode_plain word }
+// The numbers of a word's instruction, or answer 2 or 3.
+pub fn decode(word: u32) -> Result<Plain, Answer>
+    ensures { as_decoded_plain result ≡ decode_plain word }
 {
-    let decoded = decoder::decode(word);
-    let answer = decoded.answer;
-    let instruction = decoded.instruction;
-    let plain = plain_of(instruction);
-    DecodedPlain { answer, plain }
+    let instruction = decoder::decode(word)?;
+    Ok(plain_of(instruction))
 }
 
-// The one word whose instruction has these numbers, or answer 11 and word 0. The numbers are read as if they were those of
-// an instruction, and compared with that instruction's numbers.
-pub fn encode(plain: Plain) -> Encoded
-    ensures { EncodedFrom plain result }
+// The one word whose instruction has these numbers, or answer 11. The numbers are read as if they were those of an
+// instruction, and compared with that instruction's numbers.
+pub fn encode(plain: Plain) -> Result<u32, Answer>
+    ensures { EncodedFrom plain (as_encoded result) }
 {
     let instruction = named::instruction_of(plain);
-    if record::is_same(plain_of(instruction), plain) {
-        return encoder::encode(instruction);
-    }
-    Encoded {
-        answer: Answer::NoSuchInstruction,
-        word: 0,
+    if plain_of(instruction) == plain {
+        encoder::encode(instruction)
+    } else {
+        Err(Answer::NoSuchInstruction)
     }
 }

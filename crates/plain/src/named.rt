@@ -8,18 +8,19 @@ use instruction::{
     PairOperands, StoreExclusiveOperands,
 };
 
+#[tactic(auto, unfolding(crate::specs::route::Named::instruction_named))]
 pub fn instruction_of(p: Plain) -> Instruction
     ensures { result ≡ instruction_named p }
 {
-    let family = family_of(p);
-    Instruction { family }
+    Instruction {
+        family: family_of(p),
+    }
 }
 
 fn family_of(p: Plain) -> Family
     ensures { result ≡ family_named p }
 {
-    let family = p.family;
-    match family {
+    match p.family {
         1 => literal(p),
         2 => pair(p),
         3 => Family::Ordered(instruction::sized_at(p.operation), offset(p)),

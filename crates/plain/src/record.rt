@@ -1,11 +1,8 @@
-// The numbers of an instruction, and whether two instructions have the same.
-ghost use Rattle.std.specs.Prelude.{◌≡◌, true, ◌↔◌};
-
-use instruction::Answer;
+// The numbers of an instruction.
 
 // A field that the family hasn't got is 0.
 #[repr(C)]
-#[derive(Clone, Copy)]
+#[derive(Clone, Copy, Default, PartialEq, Eq)]
 pub struct Plain {
     // 1 to 9 in the order of 01's table, and 0 for the empty instruction.
     pub family: u32,
@@ -30,29 +27,4 @@ pub struct Plain {
     // Rs of a store-exclusive.
     pub status: u32,
     pub offset: i64,
-}
-
-// What decoding a word gives. The numbers are zeros where the word is refused.
-#[derive(Drop)]
-pub struct DecodedPlain {
-    pub answer: Answer,
-    pub plain: Plain,
-}
-
-// The numbers of both, one for one.
-pub fn is_same(a: Plain, b: Plain) -> bool
-    ensures { (result ≡ true) ↔ (a ≡ b) }
-{
-    let what = (a.family == b.family) & (a.operation == b.operation);
-    let moved = (a.direction == b.direction) & (a.bytes == b.bytes);
-    let registers = (a.target == b.target) & (a.second == b.second) & (a.base == b.base);
-    let index = (a.index == b.index) & (a.option == b.option) & (a.scaled == b.scaled);
-    let rest = (a.mode == b.mode) & (a.status == b.status) & is_same_offset(a, b);
-    what & moved & registers & index & rest
-}
-
-fn is_same_offset(a: Plain, b: Plain) -> bool
-    ensures { (result ≡ true) ↔ (a.offset ≡ b.offset) }
-{
-    a.offset == b.offset
 }

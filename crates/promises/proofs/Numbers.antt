@@ -13,7 +13,7 @@ use Rattle.instruction.specs.Table.{in_set, undefined, allocated, instruction_of
 use Rattle.decoder.specs.Decoding.{decode_of, empty}
 use Rattle.encoder.specs.Exact.{encoded, no_word}
 use Rattle.plain.specs.declared.record.Plain.{Plain}
-use Rattle.plain.specs.declared.record.DecodedPlain.{DecodedPlain}
+use Rattle.plain.specs.Coding.{DecodedPlain}
 use Rattle.plain.specs.Plains.{plain_of, empty_plain}
 use Rattle.plain.specs.Coding.{decode_plain, NumbersOf, EncodedFrom}
 use Rattle.plain.proofs.RoundTrip.{encoded_some, encoded_once, encode_numbers, decode_numbers}

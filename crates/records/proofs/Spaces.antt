@@ -19,21 +19,9 @@ two_tests true true = refl
 two_tests true false = refl
 two_tests false b = refl
 
-pub or_assoc : (a b c : Bool) → ((a || b) || c) ≡ (a || (b || c))
-or_assoc true b c = refl
-or_assoc false b c = refl
-
-pub or_false : (a : Bool) → (a || false) ≡ a
-or_false true = refl
-or_false false = refl
-
 pub load_or_store_lem : (w : ℕ) → (eqb (w / 2 ^ 27 % 2) 1 && eqb (w / 2 ^ 25 % 2) 0) ≡ load_or_store w
 unfolding load_or_store part
 load_or_store_lem w = two_tests (eqb (w / 2 ^ 27 % 2) 1) (eqb (w / 2 ^ 25 % 2) 0)
-
-pub touches : {a b z : Bool} (w : ℕ) → (a || b) ≡ z → a ≡ load_or_store w → b ≡ sets_block w → touches_memory w ≡ z
-unfolding touches_memory
-touches w e p q = rw (← p, ← q) e
 
 -- ---- words of the set
 

@@ -4,7 +4,7 @@ use Rattle.bits.specs.Choice.{pick}
 use Rattle.instruction.specs.Answers.{answer_number}
 use Rattle.decoder.specs.Decoding.{class_of}
 use Rattle.plain.specs.declared.record.Plain.{Plain}
-use Rattle.plain.specs.declared.record.DecodedPlain.{DecodedPlain}
+use Rattle.plain.specs.Coding.{DecodedPlain}
 use Rattle.plain.specs.Coding.{NumbersOf}
 use Rattle.records.specs.Space.{touches_memory}
 use Rattle.records.specs.declared.PlainReply.{PlainReply}

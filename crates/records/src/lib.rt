@@ -3,12 +3,10 @@
 #![tactic(auto)]
 
 ghost use Rattle.std.specs.Prelude.{◌≡◌};
-ghost use Rattle.instruction.specs.Answers.{answer_number};
 ghost use Rattle.plain.specs.Coding.{decode_plain};
 ghost use Rattle.records.specs.Replies.{class_number, touches_number, decode_numbered, EncodedAs};
 ghost use Rattle.records.specs.Space.{load_or_store, sets_block};
 
-use instruction::Answer;
 use plain::Plain;
 
 // The numbers are zeros where the answer is not 0.
@@ -31,19 +29,18 @@ pub struct EncodedReply {
 pub fn milestarling_classify(word: u32) -> u64
     ensures { result ≡ class_number word }
 {
-    answer_number(decoder::classify(word))
+    decoder::classify(word).into()
 }
 
 // Whether a word touches memory, of the set or not: 1, or 0. One that doesn't is no load or store, and never needs a step.
+#[tactic(auto, unfolding(crate::specs::Space::touches_memory))]
 pub fn milestarling_touches_memory(word: u32) -> u64
     ensures { result ≡ touches_number word }
 {
-    if is_load_or_store(word) | sets_block(word) {
-        return 1;
-    }
-    0
+    u64::from(is_load_or_store(word) | sets_block(word))
 }
 
+#[tactic(auto, using(crate::proofs::Spaces::load_or_store_lem))]
 fn is_load_or_store(word: u32) -> bool
     ensures { result ≡ load_or_store word }
 {
@@ -51,23 +48,24 @@ fn is_load_or_store(word: u32) -> bool
 }
 
 // The data cache operations that set a block of memory or its tags.
+#[tactic(auto, unfolding(crate::specs::Space::sets_block, bits::specs::Fields::part))]
 fn sets_block(word: u32) -> bool
     ensures { result ≡ sets_block word }
 {
     let op2 = word / 0x20 % 8;
-    (word / 0x100 % 0x100_0000 == 0xd5_0b74) & ((op2 == 1) | (op2 == 3) | (op2 == 4))
+    (word / 0x100 % 0x100_0000 == 0xd5_0b74) & matches!(op2, 1 | 3 | 4)
 }
 
 // The numbers of a word's instruction.
 pub fn milestarling_decode(word: u32) -> PlainReply
     ensures { result ≡ decode_numbered (decode_plain word) }
 {
-    let decoded = plain::decode(word);
-    let answer = decoded.answer;
-    let numbers = decoded.plain;
-    PlainReply {
-        plain: numbers,
-        answer: answer_number(answer),
+    match plain::decode(word) {
+        Ok(plain) => PlainReply { plain, answer: 0 },
+        Err(answer) => PlainReply {
+            plain: Plain::default(),
+            answer: answer.into(),
+        },
     }
 }
 
@@ -75,16 +73,14 @@ pub fn milestarling_decode(word: u32) -> PlainReply
 pub fn milestarling_encode(numbers: Plain) -> EncodedReply
     ensures { EncodedAs numbers result }
 {
-    let encoded = plain::encode(numbers);
-    let answer = encoded.answer;
-    EncodedReply {
-        answer: answer_number(answer),
-        word: encoded.word as u64,
+    match plain::encode(numbers) {
+        Ok(word) => EncodedReply {
+            answer: 0,
+            word: word.into(),
+        },
+        Err(answer) => EncodedReply {
+            answer: answer.into(),
+            word: 0,
+        },
     }
-}
-
-fn answer_number(answer: Answer) -> u64
-    ensures { result ≡ answer_number answer }
-{
-    instruction::answer_number(answer) as u64
 }
