@@ -1,14 +1,15 @@
 -- The listing of a run of bytes: 01, "Lines of text". Fields are parted by tabs, byte 9, and lines end in a newline, byte 10.
-use Rattle.std.specs.Prelude.{ℕ, ◌+◌, ◌*◌, ◌/◌, ◌%◌, ◌≤◌, ◌≡◌, List, [], ◌∷◌, ◌++◌, eqb}
+use Rattle.std.specs.Prelude.{ℕ, ◌+◌, ◌*◌, ◌/◌, ◌%◌, ◌≤◌, ◌≡◌, List, [], ◌∷◌, ◌++◌, eqb, Result, Ok, Err}
 use Rattle.std.proofs.Math.ListN
 use Rattle.bits.specs.Choice.{pick}
 use Rattle.instruction.specs.Answers.{answer_number}
+use Rattle.instruction.specs.declared.answer.Answer.{Answer}
+use Rattle.instruction.specs.declared.answer.Answer.TheVariants.{Done}
 use Rattle.instruction.specs.Table.{allocated}
 use Rattle.decoder.specs.Decoding.{class_of}
 use Rattle.ascii.specs.Ascii.{asc}
 use Rattle.text.specs.Texts.{word_text, text_most}
 use Rattle.printer.specs.Writing.{Outcome, copied}
-use Rattle.listing.specs.declared.Listed.{Listed}
 
 -- a digit in lower case
 unfoldable pub hex_digit : ℕ → ℕ
@@ -57,8 +58,10 @@ listing_of (a ∷ b ∷ []) = short_text 2
 listing_of (a ∷ b ∷ c ∷ []) = short_text 3
 listing_of (a ∷ b ∷ c ∷ d ∷ rest) = line_text (word_of a b c d) ++ listing_of rest
 
-abbrev pub outcome : Listed → List ℕ → Outcome
-outcome r output = record { answer = r.answer; length = r.length; buffer = output }
+-- what is returned, and what the output holds after it: the length is 0 where it is refused
+abbrev pub outcome : Result ℕ Answer → List ℕ → Outcome
+outcome (Ok n) output = record { answer = Done; length = n; buffer = output }
+outcome (Err answer) output = record { answer = answer; length = 0; buffer = output }
 
 -- the listing at the start of an output, or answer 10 where the output is shorter
 unfoldable pub list_of : List ℕ → List ℕ → Outcome

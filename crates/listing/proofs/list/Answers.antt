@@ -11,4 +11,4 @@ returns-then-not-fits c = copied_not _ _ (leb-false _ _ (sym c.fits.ensures ∙ 
 
 pub returns : goal.returns
 unfolding list_of
-returns c = copied_is _ _ (leb-true _ _ (sym c.fits.ensures ∙ c.if-not-fits.false)) c.put_listing-end.ensures
+returns c = copied_is _ _ (leb-true _ _ (sym c.fits.ensures ∙ c.if-not-fits.false)) c.put_listing.ensures

@@ -4,14 +4,12 @@ use Rattle.listing.proofs.Steps.{listed_none, listed_word, listed_end}
 use Rattle.ascii.proofs.Pieces.{same}
 use Rattle.listing.proofs.put_listing.Goals as goal
 
-pub loop-at-init : goal.loop-at-init
-loop-at-init c = (omega arith, listed_none _ _)
-
-pub loop-at-preserved : goal.loop-at-preserved
-loop-at-preserved c = (omega arith, listed_word _ c.loop-at.invariant.1 (omega arith) (rw c.word_at.ensures at c.put_line-next.ensures))
-
-pub shape_of-output : goal.shape_of-output
-shape_of-output c = same (listed_end _ c.loop-at.invariant.1 (omega arith) c.put_short.ensures)
+pub loop-word-preserved : goal.loop-word-preserved
+loop-word-preserved c =
+    let words = c.as_chunks.ensures in
+    listed_word _ words.front words.front_len c.loop-word.invariant c.loop-word-test.true c.from_le_bytes.ensures c.put_line-next.ensures
 
 pub returns : goal.returns
-returns c = listed_end _ c.loop-at.invariant.1 (omega arith) c.put_short.ensures
+returns c =
+    let words = c.as_chunks.ensures in
+    listed_end _ words.front words.front_len c.loop-word.invariant (omega (arith, c.loop-word-test.false)) words.back c.put_short.ensures

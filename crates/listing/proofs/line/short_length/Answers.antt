@@ -7,6 +7,6 @@ pub returns-then-count-eq0 : goal.returns-then-count-eq0
 unfolding short_text
 returns-then-count-eq0 c = simp (eq-eqb _ _ c.if-count-eq0.true)
 
-pub returns : goal.returns
+pub returns-else-count-eq0 : goal.returns-else-count-eq0
 unfolding short_text
-returns c = simp (ne_eqb _ _ c.if-count-eq0.false)
+returns-else-count-eq0 c = simp (ne_eqb _ _ c.if-count-eq0.false)
