@@ -1,5 +1,4 @@
 -- `listing::measured` meets its contract. Assumes nothing.
-use mathlib.Core.Path.{ap, ◌∙◌}
 use native.Mathlib.Omega.{arith}
 use Rattle.listing.proofs.Steps.{measured_word, measured_over, measured_end}
 use Rattle.listing.proofs.measured.Goals as goal

@@ -1,7 +1,6 @@
 -- `listing::put_listing` meets its contract. Assumes nothing.
 use native.Mathlib.Omega.{arith}
-use Rattle.listing.proofs.Steps.{listed_none, listed_word, listed_end}
-use Rattle.ascii.proofs.Pieces.{same}
+use Rattle.listing.proofs.Steps.{listed_word, listed_end}
 use Rattle.listing.proofs.put_listing.Goals as goal
 
 pub loop-word-preserved : goal.loop-word-preserved
