@@ -2,7 +2,7 @@
 use Prim.Native.Nat.{ℕ, zero, suc, ◌+◌, ◌-◌, ◌*◌, ◌/◌, ◌%◌, ◌≤◌, ◌<◌}
 use mathlib.Core.Path.{◌≡◌, refl, sym, ap, ◌∙◌}
 use mathlib.Core.Bool.{Bool, true, false, ◌&&◌, not}
-use mathlib.Core.List.{List, [], ◌∷◌, ◌++◌, append_assoc}
+use mathlib.Core.List.{List, [], ◌∷◌, ◌++◌, append_assoc, append-nil}
 use native.Mathlib.Omega.{arith}
 use borrow.Author.Tests.{ne_eqb, le-leb, lt-leb, leb-true, leb-false}
 use lib.Dec.{eqb, leb}
@@ -50,6 +50,16 @@ next_in (suc k) (suc n) (a ∷ b ∷ c ∷ d ∷ rest) h l =
 pub next_word : (bs : List ℕ) (k : ℕ) → k < length bs / 4
     → listing_of (drop (k * 4) bs) ≡ line_text (from_le_bytes w32 (get_or (words_in bs) k [])) ++ listing_of (drop ((k + 1) * 4) bs)
 next_word bs k h = next_in k (length bs / 4) bs h (omega arith)
+
+-- a word by itself
+pub word_line : (bs : List ℕ) → length bs ≡ 4 → listing_of bs ≡ line_text (from_le_bytes w32 bs)
+unfolding short_text
+word_line (a ∷ b ∷ c ∷ d ∷ []) h = rw four (append-nil (line_text (word_of a b c d)))
+word_line [] h = absurd (omega (arith, h))
+word_line (a ∷ []) h = absurd (omega (arith, h))
+word_line (a ∷ b ∷ []) h = absurd (omega (arith, h))
+word_line (a ∷ b ∷ c ∷ []) h = absurd (omega (arith, h))
+word_line (a ∷ b ∷ c ∷ d ∷ e ∷ r) h = absurd (omega (arith, h))
 
 -- ---- what is left over
 

@@ -3,7 +3,7 @@
 
 mod line;
 
-ghost use Rattle.std.specs.Prelude.{◌≡◌, leb, length};
+ghost use Rattle.std.specs.Prelude.{◌≡◌, leb, length, IsOkUnless};
 ghost use Rattle.ascii.specs.route.Puts.{Puts};
 ghost use Rattle.listing.specs.Listing.{listing_of, outcome, list_of};
 
@@ -20,7 +20,8 @@ const SHORT_MAX: usize = 10;
 // Puts the listing of the bytes at the start of an output, and returns its length. An output that is too short is
 // refused, and is unchanged.
 pub fn list(bytes: &[u8], output: &mut [u8]) -> Result<usize, Answer>
-    ensures { outcome result output.new ≡ list_of bytes.now output.old }
+    ensures value { outcome result output.new ≡ list_of bytes.now output.old }
+    ensures refused { IsOkUnless result Answer.NoRoom }
 {
     if !fits(bytes, output.len()) {
         return Err(Answer::NoRoom);

@@ -1,13 +1,15 @@
 -- Lines handed out: what each return of the code shows, over plain values. Assumes nothing.
-use Prim.Native.Nat.{ℕ, ◌+◌, ◌-◌, ◌%◌, ◌≤◌, ◌<◌}
+use Prim.Native.Nat.{min, ℕ, ◌+◌, ◌-◌, ◌%◌, ◌≤◌, ◌<◌}
 use mathlib.Core.Path.{◌≡◌, refl, sym, ap, ◌∙◌}
+use Rattle.std.proofs.Common.{Ok, Err}
 use mathlib.Core.Bool.{Bool, true, false, not, ◌||◌, false≢true}
 use mathlib.Core.List.{List, [], ◌∷◌, ◌++◌, append_assoc, append-nil}
 use native.Mathlib.Omega.{arith}
 use borrow.Author.Tests.{lt-ltb, le-ltb, ltb-true, ltb-false}
 use lib.Dec.{eqb, ltb}
 use lib.ListN.{length, take, drop, get_or, length-append, length-drop, take-append-drop, drop_of_length-le}
-use lib.Seq.{sets, sets-eq, length-take-le, drop-drop, drop_at, drop-append-add, take_all}
+use Rattle.std.proofs.lemmas.List.{take-append-le}
+use lib.Seq.{take_at, sets, sets-eq, length-take-le, drop-drop, drop_at, drop-append-add, take_all}
 use Rattle.bits.specs.Choice.{pick}
 use Rattle.bits.proofs.Lists.{sets_front}
 use Rattle.instruction.specs.declared.answer.Answer.TheVariants.{Done, NoRoom, Closed}
@@ -15,10 +17,16 @@ use Rattle.instruction.specs.Answers.{answer_number}
 use Rattle.printer.specs.Writing.{copied}
 use Rattle.printer.specs.Writing as text
 use Rattle.listing.specs.Listing.{short_text, line_most, listing_of}
+use Rattle.listing.specs.Listing.{outcome as listed, list_of}
 use Rattle.stream.specs.declared.Lister.{Lister}
-use Rattle.stream.specs.Streams.{Outcome, over_in, holding, shut_of, refuses, whole_of, rest_of, refused, handed, push, close, call_of}
-use Rattle.stream.specs.route.Words.{first_of, words_handed}
-use Rattle.stream.proofs.Splits.{listing_append, one_short, whole_is, rest_is}
+use Rattle.stream.specs.Streams.{Outcome, over_in, holding, shut_of, refuses, whole_of, rest_of, refused, handed, outcome, push, close, next_of, lines_of, call_of}
+use Rattle.std.specs.Int.{w32, from_le_bytes}
+use Rattle.ascii.specs.route.Puts.{Puts}
+use Rattle.ascii.proofs.Pieces.{fits}
+use Rattle.printer.proofs.Writes.{copied_not}
+use Rattle.listing.specs.Listing.{line_text}
+use Rattle.listing.proofs.Steps.{word_line, line_short}
+use Rattle.stream.proofs.Splits.{listing_append, whole_is, rest_is}
 
 -- ---- answer 16
 
@@ -34,7 +42,7 @@ module _ (l : Lister) where
   unfolding call_of
   push_refused f o h = rw h
 
-  pub push_open : (f o : List ℕ) {r : Outcome} → refuses l ≡ false → r ≡ words_handed l (over_in l ++ f) o → r ≡ call_of l (push f o)
+  pub push_open : (f o : List ℕ) {r : Outcome} → refuses l ≡ false → r ≡ handed l (next_of l (push f o)) (lines_of l (push f o)) o → r ≡ call_of l (push f o)
   unfolding call_of
   push_open f o h e = rw h e
 
@@ -57,90 +65,34 @@ module _ (l next : Lister) (lines o : List ℕ) where
   unfolding handed
   handed_is h = rw (le-ltb (length o) (length lines) h)
 
--- what the listing of some bytes in an output shows, by the number of its answer
-module _ (t b : List ℕ) {r : text.Outcome} (e : r ≡ copied t b) where
-  pub copied_fits : length t ≤ length b → (r.length ≡ length t) × (r.buffer ≡ sets b 0 t)
+-- what fits is put at the start
+pub copied_done : (t b : List ℕ) {n : ℕ} → length t ≤ length b → n ≡ length t → listed (Ok n) (sets b 0 t) ≡ copied t b
+unfolding copied
+copied_done t b h e = rw (le-ltb (length b) (length t) h, e)
+
+-- what the listing of some bytes in an output shows
+module _ (t b : List ℕ) {after : List ℕ} where
+  done_by : {n : ℕ} (s : Bool) → ltb (length b) (length t) ≡ s → listed (Ok n) after ≡ copied t b → (length t ≤ length b) × (n ≡ length t) × (after ≡ sets b 0 t)
   unfolding copied
-  copied_fits h = rw (e, le-ltb (length b) (length t) h) (refl, refl)
+  done_by true h e = let k : Done ≡ NoRoom = ap (λ (o : text.Outcome). o.answer) (rw h at e) in absurd (cc)
+  done_by false h e =
+      let k = rw h at e in
+      (ltb-false (length b) (length t) h, ap (λ (o : text.Outcome). o.length) k, ap (λ (o : text.Outcome). o.buffer) k)
 
-  copied_number : (s : Bool) → ltb (length b) (length t) ≡ s → answer_number r.answer ≡ pick s 10 0
+  pub done : {n : ℕ} → listed (Ok n) after ≡ copied t b → (length t ≤ length b) × (n ≡ length t) × (after ≡ sets b 0 t)
+  done e = done_by (ltb (length b) (length t)) refl e
+
+  none_by : (s : Bool) → ltb (length b) (length t) ≡ s → listed (Err NoRoom) after ≡ copied t b → (length b < length t) × (after ≡ b)
   unfolding copied
-  copied_number true h = rw (e, h) refl
-  copied_number false h = rw (e, h) refl
+  none_by true h e = (ltb-true (length b) (length t) h, ap (λ (o : text.Outcome). o.buffer) (rw h at e))
+  none_by false h e = let k : NoRoom ≡ Done = ap (λ (o : text.Outcome). o.answer) (rw h at e) in absurd (cc)
 
-  copied_same : length b < length t → r.buffer ≡ b
-  unfolding copied
-  copied_same h = rw (e, lt-ltb (length b) (length t) h) refl
+  pub none : listed (Err NoRoom) after ≡ copied t b → (length b < length t) × (after ≡ b)
+  none e = none_by (ltb (length b) (length t)) refl e
 
-  done_by : (s : Bool) → ltb (length b) (length t) ≡ s → answer_number r.answer ≡ 0 → length t ≤ length b
-  done_by true h z = absurd (omega (arith, copied_number true h, z))
-  done_by false h z = ltb-false (length b) (length t) h
-
-  pub copied_done : {n : ℕ} → n ≡ answer_number r.answer → n ≡ 0 → (length t ≤ length b) × (r.length ≡ length t) × (r.buffer ≡ sets b 0 t)
-  copied_done q z =
-      let fits = done_by (ltb (length b) (length t)) refl (sym q ∙ z) in
-      (fits, (copied_fits fits).0, (copied_fits fits).1)
-
-  over_by : (s : Bool) → ltb (length b) (length t) ≡ s → ¬ (answer_number r.answer ≡ 0) → length b < length t
-  over_by true h z = ltb-true (length b) (length t) h
-  over_by false h z = absurd (z (copied_number false h))
-
-  pub copied_none : {n : ℕ} → n ≡ answer_number r.answer → ¬ (n ≡ 0) → (length b < length t) × (r.buffer ≡ b)
-  copied_none q z =
-      let over = over_by (ltb (length b) (length t)) refl (λ k. z (q ∙ k)) in
-      (over, copied_same over)
-
--- the `short` line, by what its listing shows
-module _ (l : Lister) (o : List ℕ) (h : refuses l ≡ false) {r : text.Outcome} (e : r ≡ copied (listing_of (over_in l)) o) {n : ℕ} (q : n ≡ answer_number r.answer) where
-  pub close_not : ¬ (n ≡ 0) → refused NoRoom l r.buffer ≡ call_of l (close o)
-  close_not z =
-      let none = copied_none (listing_of (over_in l)) o e q z in
-      rw none.1 (close_open l o h (handed_not l (shut_of l) (listing_of (over_in l)) o none.0))
-
-  pub close_is : n ≡ 0 → record { lister = shut_of l; answer = Done; length = r.length; buffer = r.buffer } ≡ call_of l (close o)
-  close_is z =
-      let done = copied_done (listing_of (over_in l)) o e q z in
-      rw (done.1, done.2) (close_open l o h (handed_is l (shut_of l) (listing_of (over_in l)) o done.0))
-
--- ---- words
-
--- the line of the first one, in a place that has room for it
-pub first_listed : (bs line : List ℕ) {r : text.Outcome} → r ≡ copied (listing_of (first_of bs)) line → line_most + 1 ≤ length line
-    → (r.length ≤ line_most + 1) × (r.length ≡ length (listing_of (first_of bs))) × (take r.length r.buffer ≡ listing_of (first_of bs))
-first_listed bs line e h =
-    let short : length (listing_of (first_of bs)) ≤ line_most + 1 = one_short (get_or bs 0 0) (get_or bs 1 0) (get_or bs 2 0) (get_or bs 3 0) in
-    let fits : length (listing_of (first_of bs)) ≤ length line = omega (arith, h, short) in
-    let is = copied_fits (listing_of (first_of bs)) line e fits in
-    rw (is.0, is.1) (short, refl, sets_front (listing_of (first_of bs)) line fits)
-
--- too few bytes for one
-pub no_word : (l : Lister) (bs o : List ℕ) → length bs < 4 → record { lister = holding bs; answer = Done; length = 0; buffer = o } ≡ words_handed l bs o
-unfolding short_text
-no_word l bs o h =
-    let whole : whole_of bs ≡ [] = whole_is [] bs refl h in
-    let rest : rest_of bs ≡ bs = rest_is [] bs refl h in
-    rw (whole, rest) (handed_is l (holding bs) [] o (omega arith))
-
--- the first four bytes
-four : (bs : List ℕ) → 4 ≤ length bs → bs ≡ first_of bs ++ drop 4 bs
-four [] h = absurd (omega (arith, h))
-four (a ∷ []) h = absurd (omega (arith, h))
-four (a ∷ b ∷ []) h = absurd (omega (arith, h))
-four (a ∷ b ∷ c ∷ []) h = absurd (omega (arith, h))
-four (a ∷ b ∷ c ∷ d ∷ r) h = refl
-
--- a fragment behind the bytes over: the first word, further words up to an end, and the rest
-pub cut : (over f : List ℕ) (used end : ℕ) → length over + used ≡ 4 → used ≤ end → end ≤ length f
-    → over ++ f ≡ (first_of (over ++ f) ++ take (end - used) (drop used f)) ++ drop end f
-cut over f used end s h k =
-    let first = first_of (over ++ f) in
-    let behind : drop 4 (over ++ f) ≡ drop used f = ap (λ (n : ℕ). drop n (over ++ f)) (sym s) ∙ drop-append-add over f used in
-    let place : used + (end - used) ≡ end = omega (arith, h) in
-    let ends : drop (end - used) (drop used f) ≡ drop end f = drop-drop (end - used) used f ∙ ap (λ (n : ℕ). drop n f) place in
-    let parts : drop used f ≡ take (end - used) (drop used f) ++ drop end f =
-    sym (take-append-drop (end - used) (drop used f)) ∙ ap (λ (r : List ℕ). take (end - used) (drop used f) ++ r) ends in
-    four (over ++ f) (omega (arith, s, h, k, length-append over f)) ∙ ap (λ (r : List ℕ). first ++ r) (behind ∙ parts)
-    ∙ sym (append_assoc first (take (end - used) (drop used f)) (drop end f))
+-- all that is behind a place
+pub to_end : (xs : List ℕ) (n : ℕ) → take (length xs - n) (drop n xs) ≡ drop n xs
+to_end xs n = take_all (length xs - n) (drop n xs) (omega (arith, length-drop n xs))
 
 -- a text at the start of a list
 at_front : (a o : List ℕ) → length a ≤ length o → sets o 0 a ≡ a ++ drop (length a) o
@@ -149,93 +101,176 @@ at_front a o h =
     sets-eq a o 0 (omega (arith, h)) ∙ ap (λ (n : ℕ). a ++ drop n o) place
 
 -- lines at the start of an output, where those behind the first ones were put before them
-pub in_two : (a b o : List ℕ) (n k : ℕ) → n ≡ length a → length a + length b ≤ length o → length o - n ≤ k
-    → sets (take n o ++ (sets (drop n o) 0 b ++ drop k (drop n o))) 0 a ≡ sets o 0 (a ++ b)
-in_two a b o n k q h e =
+pub in_two : (a b o : List ℕ) (n : ℕ) → n ≡ length a → length a + length b ≤ length o
+    → a ++ drop n (take n o ++ (sets (drop n o) 0 b ++ drop (length o - n) (drop n o))) ≡ sets o 0 (a ++ b)
+in_two a b o n q h =
     let left = length-drop n o in
-    let none : drop k (drop n o) ≡ [] = drop_of_length-le (drop n o) {i = k} (omega (arith, e, left)) in
+    let none : drop (length o - n) (drop n o) ≡ [] = drop_of_length-le (drop n o) {i = length o - n} (omega (arith, left)) in
     let behind = sets (drop n o) 0 b in
-    let front : length (take n o) ≡ length a = length-take-le n o (omega (arith, h, q)) ∙ q in
-    let room : length a ≤ length (take n o ++ behind) = omega (arith, front, length-append (take n o) behind) in
     let further : n + length b ≡ length (a ++ b) = omega (arith, q, length-append a b) in
     rw (none, append-nil behind)
-    (at_front a (take n o ++ behind) room
-    ∙ ap (λ (r : List ℕ). a ++ r) (drop_at (take n o) behind (length a) front ∙ at_front b (drop n o) (omega (arith, h, left, q)) ∙ ap (λ (r : List ℕ). b ++ r) (drop-drop (length b) n o))
+    (ap (λ (r : List ℕ). a ++ r)
+    (drop_at (take n o) behind n (length-take-le n o (omega (arith, h, q))) ∙ at_front b (drop n o) (omega (arith, h, left, q)) ∙ ap (λ (r : List ℕ). b ++ r) (drop-drop (length b) n o))
     ∙ sym (append_assoc a b (drop (n + length b) o))
     ∙ ap (λ (i : ℕ). (a ++ b) ++ drop i o) further
     ∙ sym (at_front (a ++ b) o (omega (arith, h, length-append a b))))
 
-module _ (l : Lister) (bs f m t o : List ℕ) (whole : bs ≡ (f ++ m) ++ t) (words : length f % 4 ≡ 0) (more : length m % 4 ≡ 0) (few : length t < 4) where
-  all_words : length (f ++ m) % 4 ≡ 0
-  all_words = omega (arith, words, more, length-append f m)
+-- ---- a word, and bytes behind it
 
-  handed_words : words_handed l bs o ≡ handed l (holding t) (listing_of f ++ listing_of m) o
-  handed_words = rw (whole, whole_is (f ++ m) t all_words few, rest_is (f ++ m) t all_words few, listing_append f m words)
+-- the word's line, by what is put in a place with room for any
+module _ (w : List ℕ) (four : length w ≡ 4) {x : ℕ} (read : x ≡ from_le_bytes w32 w) {place line : List ℕ} {n : ℕ} (put : Puts place 0 (line_text x) line n) (room : line_most + 1 ≤ length place) where
+  word_is : listing_of w ≡ line_text x
+  word_is = rw read (word_line w four)
 
-  -- the first word's line doesn't fit, or those behind it don't
-  pub words_not : length o < length (listing_of f) + length (listing_of m) → refused NoRoom l o ≡ words_handed l bs o
-  words_not h = handed_not l (holding t) (listing_of f ++ listing_of m) o (omega (arith, h, length-append (listing_of f) (listing_of m))) ∙ sym handed_words
+  pub first_length : n ≡ length (listing_of w)
+  first_length = rw word_is (omega (arith, fits put (omega (arith, line_short x, room))))
 
-  pub words_are : {after : List ℕ} {n : ℕ} → length (listing_of f) + length (listing_of m) ≤ length o → after ≡ sets o 0 (listing_of f ++ listing_of m) → n ≡ length (listing_of f) + length (listing_of m)
-      → record { lister = holding t; answer = Done; length = n; buffer = after } ≡ words_handed l bs o
-  words_are h e q =
-      rw (e, q, ← (length-append (listing_of f) (listing_of m)))
-      (handed_is l (holding t) (listing_of f ++ listing_of m) o (omega (arith, h, length-append (listing_of f) (listing_of m))) ∙ sym handed_words)
+  pub first_text : take n line ≡ listing_of w
+  first_text = rw (first_length, word_is, put.text) (sets_front (line_text x) place (omega (arith, line_short x, room)))
 
--- what a fragment and the bytes over come to, as the code cuts them
-module _ (l : Lister) (f o : List ℕ) (most : l.count ≤ 3) (enough : 4 ≤ l.count + length f) where
-  abbrev bytes : List ℕ
-  bytes = over_in l ++ f
+module _ (w m o : List ℕ) (four : length w ≡ 4) {n : ℕ} (first : n ≡ length (listing_of w)) where
+  all : listing_of (w ++ m) ≡ listing_of w ++ listing_of m
+  all = listing_append w m (omega (arith, four))
 
-  abbrev used : ℕ
-  used = 4 - l.count
+  all_length : length (listing_of (w ++ m)) ≡ n + length (listing_of m)
+  all_length = omega (arith, ap length all, length-append (listing_of w) (listing_of m), first)
 
-  abbrev end : ℕ
-  end = length f - (length f - used) % 4
+  -- its line doesn't fit
+  pub behind_short : length o < n → listed (Err NoRoom) o ≡ list_of (w ++ m) o
+  unfolding list_of
+  behind_short h = copied_not _ _ (omega (arith, all_length, h))
 
-  abbrev further : List ℕ
-  further = take (end - used) (drop used f)
+  module _ (may : n ≤ length o) where
+    left : take (length o - n) (drop n o) ≡ drop n o
+    left = to_end o n
+
+    nothing_over : drop (length o - n) (drop n o) ≡ []
+    nothing_over = drop_of_length-le (drop n o) {i = length o - n} (omega (arith, length-drop n o))
+
+    -- the lines behind it don't fit
+    pub behind_not : {after : List ℕ} → listed (Err NoRoom) after ≡ list_of m (take (length o - n) (drop n o))
+        → listed (Err NoRoom) (take n o ++ (after ++ drop (length o - n) (drop n o))) ≡ list_of (w ++ m) o
+    unfolding list_of
+    behind_not e =
+        let r = none (listing_of m) (drop n o) (rw left at e) in
+        rw (r.1, nothing_over, append-nil, take-append-drop n o)
+        (copied_not _ _ (omega (arith, all_length, r.0, length-drop n o, may)))
+
+    module _ {after : List ℕ} {k : ℕ} (e : listed (Ok k) after ≡ list_of m (take (length o - n) (drop n o))) where
+      fits_all : (length (listing_of m) ≤ length (drop n o)) × (k ≡ length (listing_of m)) × (after ≡ sets (drop n o) 0 (listing_of m))
+      unfolding list_of
+      fits_all = done (listing_of m) (drop n o) (rw left at e)
+
+      pub behind_room : n + k ≤ length o
+      behind_room = omega (arith, fits_all.0, fits_all.1, length-drop n o, may)
+
+      pub behind_is : {t : List ℕ} → t ≡ listing_of w → listed (Ok (n + k)) (t ++ drop n (take n o ++ (after ++ drop (length o - n) (drop n o)))) ≡ list_of (w ++ m) o
+      unfolding list_of
+      behind_is h =
+          let room : length (listing_of w) + length (listing_of m) ≤ length o = omega (arith, first, fits_all.1, behind_room) in
+          rw (h, fits_all.2, in_two (listing_of w) (listing_of m) o n first room, ← all)
+          (copied_done (listing_of (w ++ m)) o (omega (arith, all_length, fits_all.1, behind_room)) (omega (arith, all_length, fits_all.1)))
+
+-- ---- what the calls hand on
+
+-- the `short` line
+module _ (l : Lister) (o : List ℕ) (h : refuses l ≡ false) {after : List ℕ} where
+  pub close_not : listed (Err NoRoom) after ≡ list_of (over_in l) o → outcome l (Err NoRoom) after ≡ call_of l (close o)
+  unfolding list_of
+  close_not e =
+      let r = none (listing_of (over_in l)) o e in
+      rw r.1 (close_open l o h (handed_not l (shut_of l) (listing_of (over_in l)) o r.0))
+
+  pub close_is : {n : ℕ} → listed (Ok n) after ≡ list_of (over_in l) o → outcome (shut_of l) (Ok n) after ≡ call_of l (close o)
+  unfolding list_of
+  close_is e =
+      let r = done (listing_of (over_in l)) o e in
+      rw (r.1, r.2) (close_open l o h (handed_is l (shut_of l) (listing_of (over_in l)) o r.0))
+
+-- the bytes over and a fragment, as the code joins them: the first that a word has room for
+module _ (l : Lister) (f : List ℕ) (h : refuses l ≡ false) {n : ℕ} (all : n ≡ min (length f) (4 - l.count)) where
+  abbrev held : List ℕ
+  held = l.first ∷ l.second ∷ l.third ∷ 0 ∷ []
+
+  front : take l.count held ≡ over_in l
+  front = take-append-le l.count (l.first ∷ l.second ∷ l.third ∷ []) (0 ∷ []) (open_few l h)
 
   over_length : length (over_in l) ≡ l.count
-  over_length = length-take-le l.count (l.first ∷ l.second ∷ l.third ∷ []) most
+  over_length = length-take-le l.count (l.first ∷ l.second ∷ l.third ∷ []) (open_few l h)
 
-  cut_there : bytes ≡ (first_of bytes ++ further) ++ drop end f
-  cut_there = cut (over_in l) f used end (omega (arith, over_length, most)) (omega (arith, enough, most)) (omega arith)
+  taken : length (take n f) ≡ n
+  taken = length-take-le n f (omega (arith, all))
 
-  further_words : length further % 4 ≡ 0
-  further_words =
-      let n : length further ≡ end - used = length-take-le (end - used) (drop used f) (omega (arith, length-drop used f)) in
-      omega (arith, n, enough, most)
+  -- too few for one
+  module _ (few : l.count + n < 4) where
+    whole : take n f ≡ f
+    whole = take_all n f (omega (arith, all, few, open_few l h))
 
-  rest_short : length (drop end f) < 4
-  rest_short = omega (arith, length-drop end f, enough, most)
+    pub few_held : (tail : List ℕ) → take (l.count + n) (take l.count held ++ (take n f ++ tail)) ≡ over_in l ++ f
+    few_held tail =
+        let e : length (over_in l ++ take n f) ≡ l.count + n = omega (arith, length-append (over_in l) (take n f), over_length, taken) in
+        rw (front, ← (append_assoc (over_in l) (take n f) tail))
+        (take_at (over_in l ++ take n f) tail (l.count + n) e ∙ ap (λ (x : List ℕ). over_in l ++ x) whole)
 
-  module _ {n : ℕ} (e : n ≡ length (listing_of (first_of bytes))) where
-    not_all : length o < n + length (listing_of further) → refused NoRoom l o ≡ words_handed l bytes o
-    not_all h = words_not l bytes (first_of bytes) further (drop end f) o cut_there refl further_words rest_short (omega (arith, e, h))
+    pub no_word : (o : List ℕ) → outcome (holding (over_in l ++ f)) (Ok 0) o ≡ call_of l (push f o)
+    unfolding short_text
+    no_word o =
+        let bs = over_in l ++ f in
+        let short : length bs < 4 = omega (arith, length-append (over_in l) f, over_length, ap length whole, taken, few) in
+        let none : whole_of bs ≡ [] = whole_is [] bs refl short in
+        let rest : rest_of bs ≡ bs = rest_is [] bs refl short in
+        push_open l f o h (rw (none, rest) (handed_is l (holding bs) [] o (omega arith)))
 
-    -- the first word's line doesn't fit
-    pub push_short : length o < n → refused NoRoom l o ≡ words_handed l bytes o
-    push_short h = not_all (omega (arith, h))
+  -- one, and those behind it
+  pub word_held : {k : ℕ} → k ≡ n → ¬ (l.count + n < 4) → over_in l ++ f ≡ (take l.count held ++ (take n f ++ drop k (drop l.count held))) ++ drop n f
+  word_held {k} e many =
+      let none : drop k (drop l.count held) ≡ [] = drop_of_length-le (drop l.count held) {i = k} (omega (arith, length-drop l.count held, e, many)) in
+      rw (none, front, append-nil (take n f), append_assoc (over_in l) (take n f) (drop n f), take-append-drop n f)
 
-    -- those behind it are listed in what is left of the output
-    module _ (room : n ≤ length o) {r : text.Outcome} (c : r ≡ copied (listing_of further) (take (length o - n) (drop n o))) {m : ℕ} (q : m ≡ answer_number r.answer) where
-      left : length (take (length o - n) (drop n o)) ≡ length o - n
-      left = length-take-le (length o - n) (drop n o) (omega (arith, length-drop n o))
+  pub word_full : {k : ℕ} → k ≡ n → ¬ (l.count + n < 4) → length (take l.count held ++ (take n f ++ drop k (drop l.count held))) ≡ 4
+  word_full {k} e many =
+      let tail = drop k (drop l.count held) in
+      omega (
+        arith,
+        length-append (take l.count held) (take n f ++ tail),
+        length-append (take n f) tail,
+        ap length front,
+        over_length,
+        taken,
+        length-drop k (drop l.count held),
+        length-drop l.count held,
+        e,
+        all,
+        many,
+        open_few l h,
+      )
 
-      pub push_not : ¬ (m ≡ 0) → refused NoRoom l (take n o ++ (r.buffer ++ drop (length o - n) (drop n o))) ≡ words_handed l bytes o
-      push_not z =
-          let none = copied_none (listing_of further) (take (length o - n) (drop n o)) c q z in
-          rw (none.1, take-append-drop (length o - n) (drop n o), take-append-drop n o) (not_all (omega (arith, none.0, left, room)))
+module _ (l : Lister) (f o : List ℕ) (h : refuses l ≡ false) (w behind : List ℕ) (four : length w ≡ 4) (cut : over_in l ++ f ≡ w ++ behind) {m : ℕ} (end : m ≡ length behind - length behind % 4) where
+  parted : over_in l ++ f ≡ (w ++ take m behind) ++ drop m behind
+  parted = cut ∙ ap (λ (x : List ℕ). w ++ x) (sym (take-append-drop m behind)) ∙ sym (append_assoc w (take m behind) (drop m behind))
 
-      pub push_is : {line : List ℕ} → line ≡ listing_of (first_of bytes) → m ≡ 0
-          → record { lister = holding (take (length f - end) (drop end f)); answer = Done; length = n + r.length; buffer = sets (take n o ++ (r.buffer ++ drop (length o - n) (drop n o))) 0 line } ≡ words_handed l bytes o
-      push_is g z =
-          let done = copied_done (listing_of further) (take (length o - n) (drop n o)) c q z in
-          let rest = take_all (length f - end) (drop end f) (omega (arith, length-drop end f)) in
-          let all = take_all (length o - n) (drop n o) (omega (arith, length-drop n o)) in
-          let fits : length (listing_of (first_of bytes)) + length (listing_of further) ≤ length o = omega (arith, done.0, left, room, e) in
-          rw (rest, done.1, done.2, g, all)
-          (words_are l bytes (first_of bytes) further (drop end f) o cut_there refl further_words rest_short fits
-          (in_two (listing_of (first_of bytes)) (listing_of further) o n (length o - n) e fits (omega arith))
-          (omega (arith, e)))
+  words : length (w ++ take m behind) % 4 ≡ 0
+  words = omega (arith, length-append w (take m behind), length-take-le m behind (omega (arith, end)), four, end)
+
+  few : length (drop m behind) < 4
+  few = omega (arith, length-drop m behind, end)
+
+  whole_words : whole_of (over_in l ++ f) ≡ w ++ take m behind
+  whole_words = rw parted (whole_is (w ++ take m behind) (drop m behind) words few)
+
+  over_then : rest_of (over_in l ++ f) ≡ drop m behind
+  over_then = rw parted (rest_is (w ++ take m behind) (drop m behind) words few)
+
+  pub push_not : {after : List ℕ} → listed (Err NoRoom) after ≡ list_of (w ++ take m behind) o → outcome l (Err NoRoom) after ≡ call_of l (push f o)
+  unfolding list_of
+  push_not e =
+      let lines = listing_of (w ++ take m behind) in
+      let r = none lines o e in
+      rw r.1 (push_open l f o h (rw (whole_words, over_then) (handed_not l (holding (drop m behind)) lines o r.0)))
+
+  pub push_is : {after : List ℕ} {k : ℕ} → listed (Ok k) after ≡ list_of (w ++ take m behind) o → outcome (holding (drop m behind)) (Ok k) after ≡ call_of l (push f o)
+  unfolding list_of
+  push_is e =
+      let lines = listing_of (w ++ take m behind) in
+      let r = done lines o e in
+      rw (r.1, r.2) (push_open l f o h (rw (whole_words, over_then) (handed_is l (holding (drop m behind)) lines o r.0)))

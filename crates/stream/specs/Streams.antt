@@ -1,12 +1,11 @@
 -- Listings from a stream: 02, CR 5. A call hands out the lines of the words that are whole, or is refused and changes nothing.
-use Rattle.std.specs.Prelude.{ℕ, ◌*◌, ◌/◌, Bool, ◌||◌, not, List, [], ◌∷◌, ◌++◌, eqb, ltb, length, take, drop, get_or}
+use Rattle.std.specs.Prelude.{ℕ, ◌*◌, ◌/◌, Bool, ◌||◌, not, List, [], ◌∷◌, ◌++◌, eqb, ltb, length, take, drop, get_or, Result, Ok, Err}
 use Rattle.std.proofs.lemmas.List.Edits.{sets}
 use Rattle.bits.specs.Choice.{pick}
 use Rattle.instruction.specs.declared.answer.Answer.{Answer}
 use Rattle.instruction.specs.declared.answer.Answer.TheVariants.{Done, NoRoom, Closed}
 use Rattle.listing.specs.Listing.{listing_of}
 use Rattle.stream.specs.declared.Lister.{Lister}
-use Rattle.stream.specs.declared.Pushed.{Pushed}
 
 -- 02's bytes over
 abbrev pub over_in : Lister → List ℕ
@@ -31,15 +30,16 @@ whole_of bs = take (length bs / 4 * 4) bs
 abbrev pub rest_of : List ℕ → List ℕ
 rest_of bs = drop (length bs / 4 * 4) bs
 
--- all that a call returns and leaves
+-- all that a call returns and leaves: the length is 0 where it is refused
 pub record Outcome : Type 0 where
   pub lister : Lister
   pub answer : Answer
   pub length : ℕ
   pub buffer : List ℕ
 
-abbrev pub outcome : Pushed → List ℕ → Outcome
-outcome r output = record { lister = r.lister; answer = r.answer; length = r.length; buffer = output }
+abbrev pub outcome : Lister → Result ℕ Answer → List ℕ → Outcome
+outcome l (Ok n) output = record { lister = l; answer = Done; length = n; buffer = output }
+outcome l (Err answer) output = record { lister = l; answer = answer; length = 0; buffer = output }
 
 abbrev pub refused : Answer → Lister → List ℕ → Outcome
 refused answer l output = record { lister = l; answer = answer; length = 0; buffer = output }

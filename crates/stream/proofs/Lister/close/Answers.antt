@@ -1,33 +1,18 @@
 -- `stream::Lister::close` meets its contract: the listing of the bytes over is 01's, and what it shows is handed on
 -- (`close_not`, `close_is`). Assumes nothing.
 use mathlib.Core.Path.{sym, ◌∙◌}
-use native.Mathlib.Nat.{sub-zero}
-use native.Mathlib.Omega.{arith}
-use Rattle.listing.specs.Listing.{list_of}
-use Rattle.stream.proofs.Returns.{open_few, close_refused, close_not, close_is}
+use Rattle.std.proofs.lemmas.Result.{err_from_is_err_and}
+use Rattle.stream.proofs.Returns.{close_refused, close_not, close_is}
 use Rattle.stream.proofs.Lister.close.Goals as goal
 
-pub returns-then-is_refused : goal.returns-then-is_refused
-unfolding list_of
-returns-then-is_refused c = rw c.refuse.ensures (close_refused _ _ (sym c.is_refused.ensures ∙ c.if-is_refused.true))
+pub returns-then-refuses-clause-value : goal.returns-then-refuses-clause-value
+returns-then-refuses-clause-value c = close_refused _ _ (sym c.refuses.ensures ∙ c.if-refuses.true)
 
-pub slice_bounds-list-end : goal.slice_bounds-list-end
-unfolding list_of
-slice_bounds-list-end c =
-    let l = c.args.self in
-    let may = sym c.is_refused.ensures ∙ c.if-is_refused.false in
-    omega (arith, open_few l may)
+pub returns-in_err-length-clause-value : goal.returns-in_err-length-clause-value
+returns-in_err-length-clause-value c =
+    let p = err_from_is_err_and c.from_residual.result c.from_residual.ensures.1 in
+    let over = c.in_err-length.ensures.refused in
+    rw (p.1, p.2, over) (close_not _ _ (sym c.refuses.ensures ∙ c.if-refuses.false) (rw (over, c.from.ensures) at c.in_err-length.ensures.value))
 
-pub returns-then-answer_number-ne0 : goal.returns-then-answer_number-ne0
-unfolding list_of
-returns-then-answer_number-ne0 c =
-    let may = sym c.is_refused.ensures ∙ c.if-is_refused.false in
-    let listed = rw sub-zero at c.list-listed.ensures in
-    rw c.refuse-then-answer_number-ne0.ensures (close_not c.args.self c.args.output.now may listed c.answer_number.ensures.0 c.if-answer_number-ne0.true)
-
-pub returns : goal.returns
-unfolding list_of
-returns c =
-    let may = sym c.is_refused.ensures ∙ c.if-is_refused.false in
-    let listed = rw sub-zero at c.list-listed.ensures in
-    rw c.shut.ensures (close_is c.args.self c.args.output.now may listed c.answer_number.ensures.0 c.if-answer_number-ne0.false)
+pub returns-clause-value : goal.returns-clause-value
+returns-clause-value c = close_is _ _ (sym c.refuses.ensures ∙ c.if-refuses.false) (rw c.from.ensures at c.in_ok-length.ensures.value)

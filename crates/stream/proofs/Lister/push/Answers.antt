@@ -1,32 +1,44 @@
--- `stream::Lister::push` meets its contract: too few bytes for a word (`no_word`), or `push_words`. Assumes nothing.
-use Prim.Native.Nat.{◌<◌}
-use mathlib.Core.Path.{sym, ◌∙◌}
-use mathlib.Core.List.{[], ◌∷◌, ◌++◌}
+-- `stream::Lister::push` meets its contract. Assumes nothing.
+use mathlib.Core.Path.{refl, sym, ◌∙◌}
+use Prim.Native.Nat.{◌+◌, ◌-◌, ◌%◌}
+use lib.ListN.{length, drop}
 use native.Mathlib.Omega.{arith}
-use lib.ListN.{length, length-append, length-take}
-use Rattle.stream.specs.Streams.{over_in}
-use Rattle.stream.proofs.Returns.{open_few, push_refused, push_open, no_word}
+use Rattle.std.proofs.lemmas.Result.{err_from_is_err_and}
+use Rattle.stream.proofs.Returns.{push_refused, few_held, no_word, word_held, word_full, to_end, push_not, push_is}
 use Rattle.stream.proofs.Lister.push.Goals as goal
 
-pub returns-then-is_refused : goal.returns-then-is_refused
-returns-then-is_refused c = rw c.refuse.ensures (push_refused _ _ _ (sym c.is_refused.ensures ∙ c.if-is_refused.true))
+pub returns-then-refuses-clause-value : goal.returns-then-refuses-clause-value
+returns-then-refuses-clause-value c = push_refused _ _ _ (sym c.refuses.ensures ∙ c.if-refuses.true)
 
-pub overflow_sub-self : goal.overflow_sub-self
-overflow_sub-self c = omega (arith, open_few c.args.self (sym c.is_refused.ensures ∙ c.if-is_refused.false))
+pub returns-then-count-used-lt4-clause-value : goal.returns-then-count-used-lt4-clause-value
+returns-then-count-used-lt4-clause-value c =
+    let may = sym c.refuses.ensures ∙ c.if-refuses.false in
+    let all = rw c.from-count.ensures at c.min-used.ensures in
+    let few = rw c.from-count.ensures at c.if-count-used-lt4.true in
+    let is = rw (c.copy_from_slice.ensures.after, c.from-count.ensures, few_held c.args.self.now c.args.fragment.now may all few _) at c.holding.ensures in
+    rw is (no_word c.args.self.now c.args.fragment.now may all few c.args.output.now)
 
-pub more-requires : goal.more-requires
-more-requires c = omega (arith, open_few c.args.self (sym c.is_refused.ensures ∙ c.if-is_refused.false), c.if-fragment-self.true)
-
-pub returns-then-fragment-self : goal.returns-then-fragment-self
-returns-then-fragment-self c =
-    let l = c.args.self in
+pub returns-in_err-length-clause-value : goal.returns-in_err-length-clause-value
+returns-in_err-length-clause-value c =
+    let may = sym c.refuses.ensures ∙ c.if-refuses.false in
+    let all = rw c.from-count.ensures at c.min-used.ensures in
+    let many = rw c.from-count.ensures at c.if-count-used-lt4.false in
+    let p = err_from_is_err_and c.from_residual.result c.from_residual.ensures.1 in
+    let over = c.in_err-length.ensures.refused in
+    let l = c.args.self.now in
     let f = c.args.fragment.now in
-    let may = sym c.is_refused.ensures ∙ c.if-is_refused.false in
-    let few : length (over_in l ++ f) < 4 = omega (arith, length-append (over_in l) f, length-take l.count (l.first ∷ l.second ∷ l.third ∷ []), c.if-fragment-self.true) in
-    rw c.more.ensures (push_open l f c.args.output.now may (no_word l (over_in l ++ f) c.args.output.now few))
+    let cut = word_held l f may all {k = l.count + c.min-used.result - l.count} (omega arith) (omega (arith, many)) in
+    let full = word_full l f may all {k = l.count + c.min-used.result - l.count} (omega arith) (omega (arith, many)) in
+    rw (p.1, p.2, over) (push_not l f c.args.output.now may _ _ full cut refl (rw (over, c.copy_from_slice.ensures.after, c.from-count.ensures, to_end f c.min-used.result) at c.in_err-length.ensures.value))
 
-pub push_words-requires : goal.push_words-requires
-push_words-requires c = (open_few c.args.self (sym c.is_refused.ensures ∙ c.if-is_refused.false), omega (arith, c.if-fragment-self.false))
-
-pub returns : goal.returns
-returns c = push_open c.args.self c.args.fragment.now c.args.output.now (sym c.is_refused.ensures ∙ c.if-is_refused.false) c.push_words.ensures
+pub returns-clause-value : goal.returns-clause-value
+returns-clause-value c =
+    let may = sym c.refuses.ensures ∙ c.if-refuses.false in
+    let all = rw c.from-count.ensures at c.min-used.ensures in
+    let many = rw c.from-count.ensures at c.if-count-used-lt4.false in
+    let l = c.args.self.now in
+    let f = c.args.fragment.now in
+    let cut = word_held l f may all {k = l.count + c.min-used.result - l.count} (omega arith) (omega (arith, many)) in
+    let full = word_full l f may all {k = l.count + c.min-used.result - l.count} (omega arith) (omega (arith, many)) in
+    let b = drop c.min-used.result f in
+    rw (c.holding-2.ensures, to_end f c.min-used.result, to_end b (length b - length b % 4)) (push_is l f c.args.output.now may _ _ full cut refl (rw (c.copy_from_slice.ensures.after, c.from-count.ensures, to_end f c.min-used.result) at c.in_ok-length.ensures.value))
