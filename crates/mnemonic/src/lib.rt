@@ -27,13 +27,14 @@ pub struct Mnemonic {
 }
 
 // The stems of the mnemonics with a size: str and ldr, stur and ldur, stlur and ldapur.
-#[derive(Drop)]
+#[derive(Clone, Copy)]
 pub enum Stem {
     Plain,
     Unscale,
     Order,
 }
 
+#[tactic(auto, using(crate::proofs::Told::sized_by))]
 pub fn sized_name(stem: Stem, op: SizedOp) -> Mnemonic
     ensures { known result ≡ told (sized_name stem op) (sized_operand op) }
 {
@@ -44,11 +45,7 @@ fn sized_at(stem: Stem, code: u32) -> Mnemonic
     ensures { known result ≡ told (sized_name stem (sized_at code)) (sized_operand (sized_at code)) }
 {
     let entry = table::sized_entry(code);
-    stems::behind_stem(
-        stems::sized_stem(stem, entry.kind),
-        entry.letters,
-        entry.shape,
-    )
+    entry.behind(stems::sized_stem(stem, entry.kind))
 }
 
 pub fn literal_name(op: LiteralOp) -> Mnemonic
@@ -71,6 +68,7 @@ fn literal_sized(op: LiteralOp) -> SizedOp
     }
 }
 
+#[tactic(auto, using(crate::proofs::Told::pair_by))]
 pub fn pair_name(mode: PairMode, op: PairOp) -> Mnemonic
     ensures { known result ≡ told (pair_name mode op) (pair_operand op) }
 {
@@ -81,13 +79,10 @@ fn pair_at(mode: PairMode, code: u32) -> Mnemonic
     ensures { known result ≡ told (pair_name mode (pair_at code)) (pair_operand (pair_at code)) }
 {
     let entry = table::pair_entry(code);
-    stems::behind_stem(
-        stems::pair_stem(mode, entry.kind),
-        entry.letters,
-        entry.shape,
-    )
+    entry.behind(stems::pair_stem(mode, entry.kind))
 }
 
+#[tactic(auto, using(crate::proofs::Told::exclusive_by))]
 pub fn exclusive_name(op: ExclusiveOp, size: AccessSize) -> Mnemonic
     ensures { known result ≡ told (exclusive_name (exclusive_code op) size) (access_operand size) }
 {
@@ -96,15 +91,17 @@ pub fn exclusive_name(op: ExclusiveOp, size: AccessSize) -> Mnemonic
 }
 
 // What stands behind the stem, and the letter of the data, is as in a store of the size.
+#[tactic(auto, using(crate::proofs::Told::exclusive_is))]
 fn exclusive_at(code: u32, scale: u32) -> Mnemonic
     requires { (code < 8) × (scale < 4) }
     ensures { known result ≡ told (exclusive_name code (size_at scale)) (access_operand (size_at scale)) }
 {
     let entry = table::sized_entry(scale * 4);
-    stems::behind_stem(stems::exclusive_stem(code), entry.letters, entry.shape)
+    entry.behind(stems::exclusive_stem(code))
 }
 
 // The first operand is the status, a w whatever the data are.
+#[tactic(auto, using(crate::proofs::Told::exclusive_by, crate::proofs::Told::with_status))]
 pub fn store_exclusive_name(op: StoreExclusiveOp, size: AccessSize) -> Mnemonic
     ensures { known result ≡ told (exclusive_name (store_exclusive_code op) size) Narrow }
 {
@@ -117,22 +114,21 @@ pub fn store_exclusive_name(op: StoreExclusiveOp, size: AccessSize) -> Mnemonic
 }
 
 // The mnemonic of a name, by its number.
+#[tactic(auto, using(std::proofs::lemmas::Bool::Decides::nat_tests), unfolding(crate::specs::route::Names::name_at))]
 pub fn mnemonic_at(number: u32) -> Mnemonic
     ensures { known result ≡ told (name_text (name_at number)) (name_operand (name_at number)) }
 {
-    if number < 8 {
-        let op = instruction::store_exclusive_at(number / 4);
-        return store_exclusive_name(op, instruction::size_at(number % 4));
+    match number {
+        0..=7 => {
+            let op = instruction::store_exclusive_at(number / 4);
+            store_exclusive_name(op, instruction::size_at(number % 4))
+        }
+        8..=31 => {
+            let op = instruction::exclusive_at(number / 4);
+            exclusive_name(op, instruction::size_at(number % 4))
+        }
+        32..=127 => sized_at(names::stem_at(number / 32), number % 32),
+        128..=143 => pair_at(PairMode::NoAllocate, number % 16),
+        _ => pair_at(PairMode::Offset, number % 16),
     }
-    if number < 32 {
-        let op = instruction::exclusive_at(number / 4);
-        return exclusive_name(op, instruction::size_at(number % 4));
-    }
-    if number < 128 {
-        return sized_at(names::stem_at(number / 32), number % 32);
-    }
-    if number < 144 {
-        return pair_at(PairMode::NoAllocate, number % 16);
-    }
-    pair_at(PairMode::Offset, number % 16)
 }

@@ -18,33 +18,28 @@ pub enum Name {
 // How many numbers there are (`name_count`).
 pub const NAMES: u32 = 160;
 
+#[tactic(auto, using(std::proofs::lemmas::Bool::Decides::nat_tests), unfolding(crate::specs::route::Names::name_at))]
 pub fn name_at(number: u32) -> Name
     ensures { result ≡ name_at number }
 {
-    if number < 8 {
-        return Name::StoreExclusive(
+    match number {
+        0..=7 => Name::StoreExclusive(
             instruction::store_exclusive_at(number / 4),
             instruction::size_at(number % 4),
-        );
-    }
-    if number < 32 {
-        return Name::Exclusive(
+        ),
+        8..=31 => Name::Exclusive(
             instruction::exclusive_at(number / 4),
             instruction::size_at(number % 4),
-        );
+        ),
+        32..=127 => Name::Sized(stem_at(number / 32), instruction::sized_at(number % 32)),
+        128..=143 => Name::NoAllocatePair(instruction::pair_at(number % 16)),
+        _ => Name::AllocatePair(instruction::pair_at(number % 16)),
     }
-    if number < 128 {
-        return Name::Sized(stem_at(number / 32), instruction::sized_at(number % 32));
-    }
-    let op = instruction::pair_at(number % 16);
-    if number < 144 {
-        return Name::NoAllocatePair(op);
-    }
-    Name::AllocatePair(op)
 }
 
 // An ordered prefetch, which there is not, would have the name of an unscaled one. The ordered names come first, so that
 // a search from the end finds the other.
+#[tactic(auto, unfolding(crate::specs::route::Names::stem_at))]
 pub fn stem_at(number: u32) -> Stem
     ensures { result ≡ stem_at number }
 {

@@ -1,20 +1,20 @@
-// The stems of mnemonics, and the letters behind them.
+// The stems of mnemonics.
 ghost use Rattle.std.specs.Prelude.{◌≡◌};
-ghost use Rattle.bits.specs.Choice.{lookup};
-ghost use Rattle.mnemonic.specs.route.Parts.{kinds, sized_stem, allocate_stem, pair_stem, exclusive_stem, behind_stem};
+ghost use Rattle.mnemonic.specs.route.Parts.{by_kind, sized_stem, allocate_stem, pair_stem, exclusive_stem};
 
-use crate::{Mnemonic, Stem};
+use crate::Stem;
 use instruction::PairMode;
 
-// The kinds of operations.
-pub const STORE: u32 = 0;
-
-pub const LOAD: u32 = 1;
-
-pub const HINT: u32 = 2;
+// What kinds of operations there are by their names.
+#[derive(Clone, Copy)]
+pub enum Kind {
+    Store,
+    Load,
+    Hint,
+}
 
 // A stem's highest byte says how many letters it has.
-pub fn sized_stem(stem: Stem, kind: u32) -> u64
+pub fn sized_stem(stem: Stem, kind: Kind) -> u64
     ensures { result ≡ sized_stem stem kind }
 {
     match stem {
@@ -39,7 +39,7 @@ pub fn sized_stem(stem: Stem, kind: u32) -> u64
     }
 }
 
-pub fn pair_stem(mode: PairMode, kind: u32) -> u64
+pub fn pair_stem(mode: PairMode, kind: Kind) -> u64
     ensures { result ≡ pair_stem mode kind }
 {
     match mode {
@@ -49,13 +49,11 @@ pub fn pair_stem(mode: PairMode, kind: u32) -> u64
             0x300_0000_006e_646c, // ldn
             0x300_0000_006e_646c, // ldn
         ),
-        PairMode::Post => allocate_stem(kind),
-        PairMode::Offset => allocate_stem(kind),
-        PairMode::Pre => allocate_stem(kind),
+        PairMode::Post | PairMode::Offset | PairMode::Pre => allocate_stem(kind),
     }
 }
 
-fn allocate_stem(kind: u32) -> u64
+fn allocate_stem(kind: Kind) -> u64
     ensures { result ≡ allocate_stem kind }
 {
     by_kind(
@@ -66,14 +64,13 @@ fn allocate_stem(kind: u32) -> u64
     )
 }
 
-fn by_kind(kind: u32, store: u64, load: u64, hint: u64) -> u64
-    ensures { result ≡ lookup 0 (kinds store load hint) kind }
+fn by_kind(kind: Kind, store: u64, load: u64, hint: u64) -> u64
+    ensures { result ≡ by_kind kind store load hint }
 {
     match kind {
-        0 => store,
-        1 => load,
-        2 => hint,
-        _ => 0,
+        Kind::Store => store,
+        Kind::Load => load,
+        Kind::Hint => hint,
     }
 }
 
@@ -89,18 +86,5 @@ pub fn exclusive_stem(code: u32) -> u64
         0b101 => 0x400_0000_726c_7473, // stlr
         0b111 => 0x400_0000_7261_646c, // ldar
         _ => 0,
-    }
-}
-
-pub fn behind_stem(stem: u64, letters: u64, shape: u16) -> Mnemonic
-    ensures { result ≡ behind_stem stem letters shape }
-{
-    let count = stem / 0x100_0000_0000_0000;
-    Mnemonic {
-        letters: std::num::wrapping_add_u64(
-            stem % 0x100_0000_0000_0000,
-            letters << (8 * (count % 8)),
-        ),
-        shape: std::num::wrapping_add_u16(shape, count as u16),
     }
 }

@@ -5,4 +5,4 @@ use Rattle.mnemonic.proofs.pair_at.Goals as goal
 
 pub returns : goal.returns
 returns c =
-    pair_is c.args.mode (pair_at c.args.code) c.pair_entry-entry.ensures c.pair_stem.ensures c.behind_stem.ensures
+    pair_is c.args.mode (pair_at c.args.code) c.pair_entry-entry.ensures c.pair_stem.ensures c.behind.ensures

@@ -5,4 +5,4 @@ use Rattle.mnemonic.proofs.sized_at.Goals as goal
 
 pub returns : goal.returns
 returns c =
-    sized_is c.args.stem (sized_at c.args.code) c.sized_entry-entry.ensures c.sized_stem.ensures c.behind_stem.ensures
+    sized_is c.args.stem (sized_at c.args.code) c.sized_entry-entry.ensures c.sized_stem.ensures c.behind.ensures
