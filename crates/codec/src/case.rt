@@ -1,4 +1,4 @@
-// A case of the input: eight numbers of 64 bits each, little-endian.
+// A case of the input: eight numbers of eight bytes each, little-endian.
 
 pub const BYTES: usize = 64;
 
@@ -17,29 +17,22 @@ pub struct Case {
     // The mode of a pair, or the option of an index.
     pub mode: u64,
     pub scaled: u64,
-    // In two's complement.
-    pub offset: u64,
+    pub offset: i64,
 }
 
-// The case that starts at an index of a block.
-pub fn case_at(block: &[u8], at: usize) -> Case {
-    Case {
-        what: number(block, at, 0),
-        operation: number(block, at, 8),
-        target: number(block, at, 16),
-        base: number(block, at, 24),
-        second: number(block, at, 32),
-        mode: number(block, at, 40),
-        scaled: number(block, at, 48),
-        offset: number(block, at, 56),
+impl Case {
+    // Bytes past the end are 0.
+    pub fn from_bytes(bytes: &[u8]) -> Case {
+        let number = |at: usize| bits::eight_at(bytes, at);
+        Case {
+            what: number(0),
+            operation: number(8),
+            target: number(16),
+            base: number(24),
+            second: number(32),
+            mode: number(40),
+            scaled: number(48),
+            offset: number(56).cast_signed(),
+        }
     }
-}
-
-// The number whose first byte lies so far behind the start of a case; bytes past the end of the block are 0.
-fn number(block: &[u8], at: usize, behind: usize) -> u64 {
-    if at > block.len() {
-        return 0;
-    }
-    let rest = &block[at..];
-    bits::eight_at(rest, behind)
 }

@@ -1,60 +1,68 @@
 // The answer to a case, as a line: what decoding gives, and what encoding that gives.
-use crate::case::Case;
-use crate::{case, record, text};
-use instruction::{Answer, Instruction};
+use crate::case::{Case, WORD};
+use crate::record;
+use arrayvec::ArrayString;
+use console::Failed;
+use instruction::{Answer, Family, Instruction};
+use std::fmt::{self, Write};
 
-// Says whether the line was written.
-pub fn write_answer(rt: &(impl Print + Eprint), c: Case) -> bool {
-    // More bytes than any line has.
-    let mut line = [0u8; 256];
-    let end = put_answer(&mut line, c);
-    console::write(rt, &line, end)
+// More room than any line needs.
+type Line = ArrayString<256>;
+
+pub fn write_answer(rt: &(impl Print + Eprint), case: Case) -> Result<(), Failed> {
+    let mut line = Line::new();
+    let _ = put_answer(&mut line, case);
+    let text = line.as_str().as_bytes();
+    console::write(rt, text, text.len())
 }
 
-fn put_answer(line: &mut [u8], c: Case) -> usize {
-    if c.what == case::WORD {
-        return put_decoded(line, (c.operation % 0x1_0000_0000) as u32);
+fn put_answer(line: &mut Line, case: Case) -> fmt::Result {
+    if case.what == WORD {
+        put_decoded(line, record::low_half(case.operation))
+    } else {
+        put_encoded(line, record::instruction_of(case))
     }
-    put_encoded(line, 0, record::instruction_of(c))
 }
 
-fn put_decoded(line: &mut [u8], word: u32) -> usize {
-    let class = decoder::classify(word);
-    let decoded = decoder::decode(word);
-    let answer = decoded.answer;
-    let instruction = decoded.instruction;
-    let name_end = text::put_text(line, 0, b"word");
-    let word_end = text::put_word(line, name_end, word);
-    let class_end = put_answered(line, word_end, b" class", class);
-    let decode_end = put_answered(line, class_end, b" decode", answer);
-    let space_end = text::put_text(line, decode_end, b" ");
-    put_encoded(line, space_end, instruction)
+fn put_decoded(line: &mut Line, word: u32) -> fmt::Result {
+    let class = u64::from(decoder::classify(word));
+    let (decode, instruction) = match decoder::decode(word) {
+        Ok(instruction) => (Answer::Done, instruction),
+        Err(answer) => (
+            answer,
+            Instruction {
+                family: Family::Empty,
+            },
+        ),
+    };
+    let decode = u64::from(decode);
+    write!(line, "word {word:08x} class {class} decode {decode} ")?;
+    put_encoded(line, instruction)
 }
 
-fn put_encoded(line: &mut [u8], at: usize, instruction: Instruction) -> usize {
-    let encoded = encoder::encode(instruction);
-    let answer = encoded.answer;
-    let record_end = put_record(line, at, record::case_of(instruction));
-    let answer_end = put_answered(line, record_end, b" encode", answer);
-    let word_end = text::put_word(line, answer_end, encoded.word);
-    text::put_text(line, word_end, b"\n")
+fn put_encoded(line: &mut Line, instruction: Instruction) -> fmt::Result {
+    let (encode, word) = match encoder::encode(instruction) {
+        Ok(word) => (Answer::Done, word),
+        Err(answer) => (answer, 0),
+    };
+    let encode = u64::from(encode);
+    put_record(line, record::case_of(instruction))?;
+    writeln!(line, " encode {encode} {word:08x}")
 }
 
-fn put_answered(line: &mut [u8], at: usize, name: &[u8], answer: Answer) -> usize {
-    let name_end = text::put_text(line, at, name);
-    text::put_number(line, name_end, instruction::answer_number(answer) as u64)
-}
-
-fn put_record(line: &mut [u8], at: usize, c: Case) -> usize {
-    let name_end = text::put_text(line, at, b"record");
-    let operation_end = put_two(line, name_end, c.what, c.operation);
-    let base_end = put_two(line, operation_end, c.target, c.base);
-    let mode_end = put_two(line, base_end, c.second, c.mode);
-    let scaled_end = text::put_number(line, mode_end, c.scaled);
-    text::put_signed(line, scaled_end, c.offset)
-}
-
-fn put_two(line: &mut [u8], at: usize, first: u64, second: u64) -> usize {
-    let first_end = text::put_number(line, at, first);
-    text::put_number(line, first_end, second)
+fn put_record(line: &mut Line, case: Case) -> fmt::Result {
+    let Case {
+        what,
+        operation,
+        target,
+        base,
+        second,
+        mode,
+        scaled,
+        offset,
+    } = case;
+    write!(
+        line,
+        "record {what} {operation} {target} {base} {second} {mode} {scaled} {offset}"
+    )
 }

@@ -2,127 +2,84 @@
 // and the operation as the fields of a word that name it.
 use crate::case::Case;
 use instruction::{
-    AccessSize, ExclusiveOperands, Family, IndexOperands, Instruction, LiteralOperands,
-    OffsetOperands, PairOperands, StoreExclusiveOperands,
+    ExclusiveOperands, Family, IndexOperands, Instruction, LiteralOperands, OffsetOperands,
+    PairOperands, SizedOp, StoreExclusiveOperands,
 };
-use plain::Plain;
 
 // Numbers of no family, operation or mode give the empty instruction.
 pub fn instruction_of(c: Case) -> Instruction {
-    let family = family_of(c);
-    Instruction { family }
-}
-
-fn family_of(c: Case) -> Family {
-    let what = c.what;
-    match what {
+    let family = match c.what {
         1 => literal_of(c),
         2 => pair_of(c),
-        3..=8 => sized_of(c),
+        3 => sized_of(c).map(|op| Family::Ordered(op, offset_operands(c))),
+        4 => sized_of(c).map(|op| Family::Unscaled(op, offset_operands(c))),
+        5 => sized_of(c).map(|op| Family::PostIndex(op, offset_operands(c))),
+        6 => sized_of(c).map(|op| Family::PreIndex(op, offset_operands(c))),
+        7 => sized_of(c).map(|op| Family::Register(op, index_operands(c))),
+        8 => sized_of(c).map(|op| Family::Unsigned(op, offset_operands(c))),
         9 => exclusive_of(c),
-        _ => Family::Empty,
+        _ => None,
+    };
+    Instruction {
+        family: family.unwrap_or(Family::Empty),
     }
 }
 
-fn literal_of(c: Case) -> Family {
+fn literal_of(c: Case) -> Option<Family> {
+    if c.operation > 6 {
+        return None;
+    }
     let operands = LiteralOperands {
         target: low_half(c.target),
-        offset: signed(c.offset),
+        offset: c.offset,
     };
-    if c.operation > 6 {
-        return Family::Empty;
-    }
-    Family::Literal(instruction::literal_at(low_half(c.operation)), operands)
+    Some(Family::Literal(instruction::literal_at(low_half(c.operation)), operands))
 }
 
-fn pair_of(c: Case) -> Family {
-    if c.mode > 3 {
-        return Family::Empty;
+fn pair_of(c: Case) -> Option<Family> {
+    if c.mode > 3 || !matches!(c.operation, 0..=1 | 3..=5 | 8..=13) {
+        return None;
     }
-    let mode = instruction::mode_at(low_half(c.mode));
     let operands = PairOperands {
         first: low_half(c.target),
         second: low_half(c.second),
         base: low_half(c.base),
-        mode,
-        offset: signed(c.offset),
+        mode: instruction::mode_at(low_half(c.mode)),
+        offset: c.offset,
     };
-    if !is_pair(c.operation) {
-        return Family::Empty;
-    }
-    Family::Pair(instruction::pair_at(low_half(c.operation)), operands)
+    Some(Family::Pair(instruction::pair_at(low_half(c.operation)), operands))
 }
 
-fn is_pair(operation: u64) -> bool {
-    match operation {
-        0..=1 => true,
-        3..=5 => true,
-        8..=13 => true,
-        _ => false,
-    }
-}
-
-fn sized_of(c: Case) -> Family {
-    if !is_sized(c.operation) {
-        return Family::Empty;
-    }
-    let op = instruction::sized_at(low_half(c.operation));
-    let what = c.what;
-    match what {
-        3 => Family::Ordered(op, offset_operands(c)),
-        4 => Family::Unscaled(op, offset_operands(c)),
-        5 => Family::PostIndex(op, offset_operands(c)),
-        6 => Family::PreIndex(op, offset_operands(c)),
-        7 => Family::Register(op, index_operands(c)),
-        _ => Family::Unsigned(op, offset_operands(c)),
-    }
-}
-
-fn is_sized(operation: u64) -> bool {
-    match operation {
-        0..=10 => true,
-        12..=14 => true,
-        16..=21 => true,
-        24..=25 => true,
-        28..=29 => true,
-        _ => false,
+fn sized_of(c: Case) -> Option<SizedOp> {
+    match c.operation {
+        0..=10 | 12..=14 | 16..=21 | 24..=25 | 28..=29 => {
+            Some(instruction::sized_at(low_half(c.operation)))
+        }
+        _ => None,
     }
 }
 
 // Bit 23, L and bit 15, and above them the size.
-fn exclusive_of(c: Case) -> Family {
+fn exclusive_of(c: Case) -> Option<Family> {
     let code = low_half(c.operation % 8);
-    let size = instruction::size_at(low_half(c.operation / 8 % 4));
-    if !is_exclusive(c.operation) {
-        return Family::Empty;
+    if c.operation > 31 || matches!(code, 0b100 | 0b110) {
+        return None;
     }
+    let size = instruction::size_at(low_half(c.operation / 8));
+    let target = low_half(c.target);
+    let base = low_half(c.base);
     if code < 0b010 {
-        return Family::StoreExclusive(
-            instruction::store_exclusive_at(code),
-            status_operands(size, c),
-        );
-    }
-    Family::Exclusive(instruction::exclusive_at(code), exclusive_operands(size, c))
-}
-
-fn is_exclusive(operation: u64) -> bool {
-    operation < 32 && operation % 8 != 0b100 && operation % 8 != 0b110
-}
-
-fn exclusive_operands(size: AccessSize, c: Case) -> ExclusiveOperands {
-    ExclusiveOperands {
-        size,
-        target: low_half(c.target),
-        base: low_half(c.base),
-    }
-}
-
-fn status_operands(size: AccessSize, c: Case) -> StoreExclusiveOperands {
-    StoreExclusiveOperands {
-        size,
-        status: low_half(c.second),
-        target: low_half(c.target),
-        base: low_half(c.base),
+        let status = low_half(c.second);
+        let operands = StoreExclusiveOperands {
+            size,
+            status,
+            target,
+            base,
+        };
+        Some(Family::StoreExclusive(instruction::store_exclusive_at(code), operands))
+    } else {
+        let operands = ExclusiveOperands { size, target, base };
+        Some(Family::Exclusive(instruction::exclusive_at(code), operands))
     }
 }
 
@@ -130,7 +87,7 @@ fn offset_operands(c: Case) -> OffsetOperands {
     OffsetOperands {
         target: low_half(c.target),
         base: low_half(c.base),
-        offset: signed(c.offset),
+        offset: c.offset,
     }
 }
 
@@ -144,45 +101,26 @@ fn index_operands(c: Case) -> IndexOperands {
     }
 }
 
-fn low_half(n: u64) -> u32 {
+pub fn low_half(n: u64) -> u32 {
     (n % 0x1_0000_0000) as u32
 }
 
-fn signed(n: u64) -> i64 {
-    if n < 0x8000_0000_0000_0000 {
-        return n as i64;
-    }
-    -1 - ((u64::MAX - n) as i64)
-}
-
-// The case that gives this instruction.
+// The case that gives this instruction. Beside target and base a family has at most one register.
 pub fn case_of(i: Instruction) -> Case {
     let p = plain::plain_of(i);
+    let (second, mode) = match p.family {
+        2 => (p.second, p.mode),
+        7 => (p.index, p.option),
+        _ => (p.status, p.mode),
+    };
     Case {
-        what: p.family as u64,
-        operation: p.operation as u64,
-        target: p.target as u64,
-        base: p.base as u64,
-        second: third_register(p),
-        mode: mode_or_option(p),
-        scaled: p.scaled as u64,
-        offset: bits::twos_complement(p.offset),
+        what: p.family.into(),
+        operation: p.operation.into(),
+        target: p.target.into(),
+        base: p.base.into(),
+        second: second.into(),
+        mode: mode.into(),
+        scaled: p.scaled.into(),
+        offset: p.offset,
     }
-}
-
-// Beside target and base a family has at most one register.
-fn third_register(p: Plain) -> u64 {
-    let family = p.family;
-    match family {
-        2 => p.second as u64,
-        7 => p.index as u64,
-        _ => p.status as u64,
-    }
-}
-
-fn mode_or_option(p: Plain) -> u64 {
-    if p.family == 7 {
-        return p.option as u64;
-    }
-    p.mode as u64
 }
