@@ -13,6 +13,7 @@ use borrow.Rule.Slice.PartMut.{put_mid}
 use Rattle.std.specs.Int.{w64, to_le_bytes}
 use native.Mathlib.Nat.{div-div-eq-div-mul}
 use Rattle.bits.specs.Bytes.{bytes_of}
+use Rattle.bits.proofs.Bytes.{length_bytes}
 use Rattle.bits.proofs.Lists.{sets_append}
 use Rattle.ascii.specs.route.Puts.{Puts}
 
@@ -101,3 +102,10 @@ copied_front {xs} {p} {ys} {at} {n} {k} e m q h =
 pub number_bytes : (v : ℕ) → to_le_bytes w64 v ≡ bytes_of 8 v
 unfolding bytes_of
 number_bytes v = rw (div-div-eq-div-mul v 256 256, div-div-eq-div-mul v 65536 256, div-div-eq-div-mul v 16777216 256, div-div-eq-div-mul v 4294967296 256, div-div-eq-div-mul v 1099511627776 256, div-div-eq-div-mul v 281474976710656 256)
+
+-- a number that is copied over eight bytes of a line
+pub number_put : (xs ys : List ℕ) (v at k : ℕ) → ys ≡ to_le_bytes w64 v → k ≡ 8 → at + 8 ≤ length xs → put_mid at k xs ys ≡ sets xs at (bytes_of 8 v)
+number_put xs ys v at k e q h =
+    let w : ys ≡ bytes_of 8 v = e ∙ number_bytes v in
+    let l = length_bytes 8 v in
+    rw w (laid xs (bytes_of 8 v) at k (omega arith) (omega arith))

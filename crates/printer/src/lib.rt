@@ -3,7 +3,7 @@
 
 mod store;
 
-ghost use Rattle.std.specs.Prelude.{◌≡◌};
+ghost use Rattle.std.specs.Prelude.{◌≡◌, IfErr};
 ghost use Rattle.decoder.specs.Decoding.{class_of, decode_of};
 ghost use Rattle.ascii.specs.route.Puts.{Puts};
 ghost use Rattle.text.specs.Texts.{text_of};
@@ -46,7 +46,8 @@ fn has_no_text(answer: Answer) -> bool
 // Puts the text of a word at the start of a buffer, and returns its length. A word that has none, and a buffer that is
 // too short, are refused, and the buffer is unchanged.
 pub fn write(word: u32, buffer: &mut [u8]) -> Result<usize, Answer>
-    ensures { outcome result buffer.new ≡ write_of word buffer.old }
+    ensures exact { outcome result buffer.new ≡ write_of word buffer.old }
+    ensures refusal { IfErr result (λ answer. ¬ (answer ≡ Answer.Done)) }
 {
     let spelling = text::spell(word);
     let answer = spelling.answer;
@@ -58,7 +59,8 @@ pub fn write(word: u32, buffer: &mut [u8]) -> Result<usize, Answer>
 
 fn write_pieces(pieces: Pieces, buffer: &mut [u8]) -> Result<usize, Answer>
     requires { Sound pieces }
-    ensures { outcome result buffer.new ≡ copied (whole pieces) buffer.old }
+    ensures exact { outcome result buffer.new ≡ copied (whole pieces) buffer.old }
+    ensures refusal { IfErr result (λ answer. ¬ (answer ≡ Answer.Done)) }
 {
     if buffer.len() < store::total(pieces) {
         return Err(Answer::NoRoom);

@@ -70,25 +70,12 @@ fn spill(line: &mut [u8], at: usize, piece: Piece) -> usize
 }
 
 // The eight bytes of a number, the lowest first.
+#[tactic(auto, using(ascii::proofs::Pieces::number_put))]
 fn put_number(line: &mut [u8], at: usize, number: u64)
     requires { at + 8 ≤ length line.old }
     ensures { line.new ≡ sets line.old at (bytes_of 8 number) }
 {
-    let b = number / 256;
-    let c = b / 256;
-    let d = c / 256;
-    let e = d / 256;
-    let f = e / 256;
-    let g = f / 256;
-    let h = g / 256;
-    line[at] = (number % 256) as u8;
-    line[at + 1] = (b % 256) as u8;
-    line[at + 2] = (c % 256) as u8;
-    line[at + 3] = (d % 256) as u8;
-    line[at + 4] = (e % 256) as u8;
-    line[at + 5] = (f % 256) as u8;
-    line[at + 6] = (g % 256) as u8;
-    line[at + 7] = (h % 256) as u8;
+    line[at..at + 8].copy_from_slice(&number.to_le_bytes());
 }
 
 // Where a line has less room.
