@@ -24,20 +24,20 @@ Going f ws m₀ l₀ i m l last =
 module _ (f : ℕ → Machine → Step Machine) (ws : List ℕ) (m₀ : Machine) (l₀ : Log) (i : ℕ) (m : Machine) (l : Log) (last : Shown) (below : i < length ws)
     (inv : Going f ws m₀ l₀ i m l last) where
   -- a step that is done, and noted, leads on to the next
-  pub goes_on : {n : Machine} {v : Shown} {j : ℕ} {trace statuses : List ℕ} → length n.memory ≡ length m.memory → length n.taints.bytes ≡ length m.taints.bytes
-      → (j ≡ i + 1) × (trace ≡ (noted i l v).trace) × (statuses ≡ (noted i l v).statuses)
-      → record { step = moved n v; machine = n } ≡ ended m (f (get_or ws i 0) m) → Going f ws m₀ l₀ j n (log trace statuses) v
-  goes_on {n} {v} {j} {trace} {statuses} memory taint (e, d, g) told =
+  pub goes_on : {n : Machine} {v : Shown} {trace statuses : List ℕ} → length n.memory ≡ length m.memory → length n.taints.bytes ≡ length m.taints.bytes
+      → (trace ≡ (noted i l v).trace) × (statuses ≡ (noted i l v).statuses)
+      → record { step = moved n v; machine = n } ≡ ended m (f (get_or ws i 0) m) → Going f ws m₀ l₀ (i + 1) n (log trace statuses) v
+  goes_on {n} {v} {trace} {statuses} memory taint (d, g) told =
       let t : length trace ≡ length l.trace = ap length d ∙ length-set (set l.trace (i * 2) v.code) (i * 2 + 1) v.address ∙ length-set l.trace (i * 2) v.code in
       let s : length statuses ≡ length l.statuses = ap length g ∙ length-set l.statuses i v.status in (
-        omega (arith, e, below),
+        omega (arith, below),
         memory ∙ inv.1,
         taint ∙ inv.2,
         t ∙ inv.3,
         s ∙ inv.4,
         omega (arith, t, inv.5),
         omega (arith, s, inv.6),
-        rw (e, d, g) (sym (walk_more f ws i m l last below (sym (steps m (f (get_or ws i 0) m) told))) ∙ inv.7),
+        rw (d, g) (sym (walk_more f ws i m l last below (sym (steps m (f (get_or ws i 0) m) told))) ∙ inv.7),
       )
 
   -- a step that is refused ends the run, and leaves the machine as it was

@@ -2,13 +2,23 @@
 use Rattle.std.specs.Prelude.{ℕ, Bool, ◌||◌, List, length}
 use Rattle.plan.specs.declared.window.Window.{Window}
 use Rattle.plan.specs.declared.ranges.Ranges.{Ranges}
-use Rattle.plan.specs.declared.ranges.Reach.TheVariants.{Ranged}
+use Rattle.plan.specs.declared.ranges.Reach.{Reach}
+use Rattle.plan.specs.declared.ranges.Reach.TheVariants.{Alone, Ranged}
+use Rattle.plan.specs.Window.{bad_window}
 use Rattle.plan.specs.Ranges.{bad_ranges}
 use Rattle.machine.specs.Machine.{Machine, machine_of}
 use Rattle.machine.specs.Refusals.{bad}
 use Rattle.machine.specs.Step.{Step, step_in, step_of}
 use Rattle.execution.specs.Walk.{Log, log, Result, run_of}
 use Rattle.execution.specs.declared.Ran.{Ran}
+
+-- 1, of the window or of the ranges in it, by the lengths of memory and of its taints
+abbrev pub bad_by : Window → Reach → ℕ → ℕ → ℕ → Bool
+bad_by w Alone len taints pc = bad_window w len taints pc
+bad_by w (Ranged r) len taints pc = bad_window w len taints pc || bad_ranges r w.origin len
+
+abbrev pub bad_in : Window → Reach → Machine → Bool
+bad_in w reach m = bad_by w reach (length m.memory) (length m.taints.bytes) m.pc
 
 abbrev pub machine_run : Window → List ℕ → Machine → Log → Result Machine
 machine_run w words m l = run_of (bad w) (step_of w) words m l

@@ -5,12 +5,12 @@ ghost use Rattle.std.specs.Prelude.{◌≡◌, List, ℕ, ◌+◌, ◌*◌, ◌�
 ghost use Rattle.machine.specs.Rule.{word_rule};
 ghost use Rattle.machine.specs.Machine.{Machine, machine_of};
 ghost use Rattle.machine.specs.Step.{shown, step_in};
-ghost use Rattle.execution.specs.Walk.{walk_of, Log, log, glue, not_begun, too_short, after_steps};
-ghost use Rattle.execution.specs.Run.{machine_run, turn_of, result_of};
+ghost use Rattle.execution.specs.Walk.{walk_of, Log, log, glue, too_short, after_steps, run_of};
+ghost use Rattle.execution.specs.Run.{machine_run, turn_of, result_of, bad_in, bad_by};
 ghost use Rattle.execution.specs.Secrecy.{Same, Filled, SameRoom, ShowsRun};
 
 use instruction::Answer;
-use machine::{Decision, Shown, State};
+use machine::{Shown, State};
 use plan::{Ranges, Reach, Window};
 
 // What a run returns: how many steps were done, the answer, code and address of the last step tried, and the
@@ -45,13 +45,7 @@ pub fn run(
     ensures filled { (other : Machine) (lent : Log) → Filled (machine_of state vectors.old vector_taint.old memory.old taint.old) other → SameRoom (log trace.old statuses.old) lent
         → ShowsRun Filled (result_of result vectors.new vector_taint.new memory.new taint.new trace.new statuses.new) (machine_run window words.now other lent) }
 {
-    if plan::is_bad(window, memory.len() as u64, taint.len() as u64, state.pc) {
-        return not_begun(state, Answer::BadWindow);
-    }
-    if is_short(words.len(), trace.len(), statuses.len()) {
-        return not_begun(state, Answer::NoRoom);
-    }
-    walk(
+    reaching(
         words,
         state,
         vectors,
@@ -85,16 +79,7 @@ pub fn turn(
         origin,
         readonly: 0,
     };
-    if plan::is_bad(window, memory.len() as u64, taint.len() as u64, state.pc) {
-        return not_begun(state, Answer::BadWindow);
-    }
-    if plan::are_bad(ranges, origin, memory.len() as u64) {
-        return not_begun(state, Answer::BadWindow);
-    }
-    if is_short(words.len(), trace.len(), statuses.len()) {
-        return not_begun(state, Answer::NoRoom);
-    }
-    walk(
+    reaching(
         words,
         state,
         vectors,
@@ -108,26 +93,58 @@ pub fn turn(
     )
 }
 
+// A run by what it may reach.
+fn reaching(
+    words: &[u32],
+    state: State,
+    vectors: &mut [[u64; 2]; 32],
+    vector_taint: &mut [[u64; 2]; 32],
+    window: Window,
+    reach: Reach,
+    memory: &mut [u8],
+    taint: &mut [u8],
+    trace: &mut [u64],
+    statuses: &mut [u8],
+) -> Ran
+    ensures { result_of result vectors.new vector_taint.new memory.new taint.new trace.new statuses.new ≡ run_of (bad_in window reach) (step_in window reach) words.now (machine_of state vectors.old vector_taint.old memory.old taint.old) (log trace.old statuses.old) }
+{
+    if is_bad(window, reach, memory.len(), taint.len(), state.pc) {
+        return ended(state, 0, Answer::BadWindow, machine::no_code(0));
+    }
+    if is_short(words.len(), trace.len(), statuses.len()) {
+        return ended(state, 0, Answer::NoRoom, machine::no_code(0));
+    }
+    walk(
+        words,
+        state,
+        vectors,
+        vector_taint,
+        window,
+        reach,
+        memory,
+        taint,
+        trace,
+        statuses,
+    )
+}
+
+// Whether a window, or the ranges in it, are answered with 1.
+fn is_bad(window: Window, reach: Reach, len: usize, taints: usize, pc: u64) -> bool
+    ensures { result ≡ bad_by window reach len taints pc }
+{
+    plan::is_bad(window, len as u64, taints as u64, pc)
+        || match reach {
+            Reach::Alone => false,
+            Reach::Ranged(ranges) => plan::are_bad(ranges, window.origin, len as u64),
+        }
+}
+
 // Whether a trace or a status list is shorter than so many words ask: answer 10.
 #[tactic(auto, unfolding(crate::specs::Walk::too_short))]
 pub fn is_short(words: usize, trace: usize, statuses: usize) -> bool
     ensures { result ≡ too_short words trace statuses }
 {
-    if trace / 2 < words {
-        return true;
-    }
-    statuses < words
-}
-
-fn not_begun(state: State, answer: Answer) -> Ran
-    ensures { (vs us : List (List ℕ)) (m k t s : List ℕ) → result_of result vs us m k t s ≡ not_begun answer (machine_of state vs us m k) (log t s) }
-{
-    Ran {
-        state,
-        steps: 0,
-        answer,
-        shown: machine::no_code(0),
-    }
+    trace / 2 < words || statuses < words
 }
 
 // The steps of a run whose window and lists were tested. Both halves of a step stand in the loop, so that a step that
@@ -149,8 +166,7 @@ fn walk(
 {
     let mut state = start;
     let mut last = machine::no_code(0);
-    let mut i = 0;
-    while i < words.len() {
+    for i in 0..words.len() {
         match machine::decide(
             words[i],
             state.pc,
@@ -164,31 +180,19 @@ fn walk(
             memory,
             taint,
         ) {
-            Decision::Refused(answer, address) => {
-                return ended(state, i, answer, machine::no_code(address));
-            }
-            Decision::Passed(shown) => {
-                last = shown;
-                i = noted(trace, statuses, i, shown);
-                state.pc = machine::next_pc(state.pc);
-            }
-            Decision::Wrote(shown, writes) => {
-                last = shown;
-                i = noted(trace, statuses, i, shown);
-                let next = machine::settled(state, writes);
-                state = next;
-            }
-            Decision::Vectors(shown, writes, filled) => {
-                last = shown;
-                i = noted(trace, statuses, i, shown);
-                let next = machine::settled(state, writes);
-                state = next;
-                vectors::write(vectors, filled);
-                vectors::write_taint(vector_taint, filled);
+            Err(refusal) => return ended(
+                state,
+                i,
+                refusal.answer,
+                machine::no_code(refusal.address),
+            ),
+            Ok(effect) => {
+                last = effect.settle(&mut state, vectors, vector_taint);
+                note(trace, statuses, i, last);
             }
         }
     }
-    ended(state, i, Answer::Done, last)
+    ended(state, words.len(), Answer::Done, last)
 }
 
 // What is returned after so many steps, with the answer of the last step tried and what it shows.
@@ -203,13 +207,12 @@ fn ended(state: State, steps: usize, answer: Answer, shown: Shown) -> Ran
     }
 }
 
-// The two numbers of a step in the trace, and its status; then the number of steps done.
-fn noted(trace: &mut [u64], statuses: &mut [u8], i: usize, shown: Shown) -> usize
+// The two numbers of a step in the trace, and its status.
+fn note(trace: &mut [u64], statuses: &mut [u8], i: usize, shown: Shown)
     requires { (i * 2 + 2 ≤ length trace.old) × (i < length statuses.old) }
-    ensures { (result ≡ i + 1) × (trace.new ≡ set (set trace.old (i * 2) shown.code) (i * 2 + 1) shown.address) × (statuses.new ≡ set statuses.old i shown.status) }
+    ensures { (trace.new ≡ set (set trace.old (i * 2) shown.code) (i * 2 + 1) shown.address) × (statuses.new ≡ set statuses.old i shown.status) }
 {
     trace[i * 2] = shown.code;
     trace[i * 2 + 1] = shown.address;
     statuses[i] = shown.status;
-    i + 1
 }

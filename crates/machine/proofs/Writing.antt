@@ -1,5 +1,5 @@
 -- What the two halves of a step come to together. Assumes nothing.
-use Rattle.std.proofs.Common.{◌≡◌, ℕ, zero, suc, ◌+◌, ◌-◌, ◌/◌, ◌≤◌, Bool, true, false, ◌||◌, eqb, ltb, List, [], ◌∷◌, ◌++◌, map, length, get_or, set, sym, refl, ap, ◌∙◌, inl, inr, arith, ltb-false}
+use Rattle.std.proofs.Common.{◌≡◌, ℕ, zero, suc, ◌+◌, ◌-◌, ◌/◌, ◌≤◌, Bool, true, false, ◌||◌, eqb, ltb, List, [], ◌∷◌, ◌++◌, map, length, get_or, set, Result, Ok, Err, sym, refl, ap, ◌∙◌, inl, inr, arith, ltb-false}
 use lib.Seq.{set_out, sets}
 use Rattle.bits.specs.Choice.{pick}
 use Rattle.bits.specs.Bytes.{bytes_of, joined, span_of}
@@ -26,8 +26,9 @@ use Rattle.machine.specs.route.Writing.{Full, based_of, loads_of, halves_in, fil
 use Rattle.machine.specs.declared.monitor.Monitor.{Monitor}
 use Rattle.machine.specs.declared.State.{State}
 use Rattle.machine.specs.declared.Shown.{Shown}
-use Rattle.machine.specs.declared.Decision.{Decision}
-use Rattle.machine.specs.declared.Decision.TheVariants.{Passed, Wrote}
+use Rattle.machine.specs.declared.Effect.{Effect}
+use Rattle.machine.specs.declared.Effect.TheVariants.{Passed, Wrote, Vectors}
+use Rattle.plan.specs.declared.Refusal.{Refusal}
 
 -- ---- an access
 
@@ -37,13 +38,11 @@ again [] i v = refl
 again (x ∷ xs) zero v = refl
 again (x ∷ xs) (suc i) v = ap (λ ys. x ∷ ys) (again xs i v)
 
--- a store leaves nothing to set: it is not exclusive, and its slot is behind the end of both arrays
-pub sets_none : (exclusive : Bool) (slot : ℕ) (xs us : List ℕ) → (exclusive || (ltb slot (length xs) || ltb slot (length us))) ≡ false
-    → (exclusive ≡ false) × (length xs ≤ slot) × (length us ≤ slot)
-sets_none exclusive slot xs us e =
-    let more = neither exclusive (ltb slot (length xs) || ltb slot (length us)) e in
-    let both = neither (ltb slot (length xs)) (ltb slot (length us)) more.1 in
-    (more.0, ltb-false slot (length xs) both.0, ltb-false slot (length us) both.1)
+-- a store leaves nothing to set: it is not exclusive, and its slot is behind the end of the file
+pub sets_none : (exclusive : Bool) (slot : ℕ) → (exclusive || ltb slot 32) ≡ false → (exclusive ≡ false) × (32 ≤ slot)
+sets_none exclusive slot e =
+    let none = neither exclusive (ltb slot 32) e in
+    (none.0, ltb-false slot 32 none.1)
 
 -- a store that fails leaves memory and taints as they were, and any other is made whole
 pub nothing_stored : (t : Transfer) (status at : ℕ) (v u m k : List ℕ) → fails t status ≡ true → (m ≡ stored_bytes (made_of t status) at v m) × (k ≡ stored_taints (made_of t status) at u k)
@@ -154,22 +153,23 @@ module _ (x : Transfer) (written at next : ℕ) (r : Monitor) (shown : Shown) (s
   based_taints_lem = plain_set u q full.taints many written 0 plain
 
   pub store_writes : {n l : List ℕ} → x.store ≡ true → n ≡ stored_bytes x at (v ++ w) m → l ≡ stored_taints x at (u ++ q) k
-      → told s vs ms (Wrote shown (based_of written next r)) n l ≡ made
+      → told s vs ms (Ok (Wrote shown (based_of written next r))) n l ≡ made
   unfolding effect_of move_rule
   store_writes e f g =
       rw (e, f, g, again (set v written next), again v, again (set u written 0), again u, based_values_lem, based_taints_lem)
 
-  pub store_passes : {n l : List ℕ} → x.store ≡ true → r ≡ s.monitor → length v ≤ written → length u ≤ written
-      → n ≡ stored_bytes x at (v ++ w) m → l ≡ stored_taints x at (u ++ q) k → told s vs ms (Passed shown) n l ≡ made
+  pub store_passes : {n l : List ℕ} → x.store ≡ true → r ≡ s.monitor → 32 ≤ written
+      → n ≡ stored_bytes x at (v ++ w) m → l ≡ stored_taints x at (u ++ q) k → told s vs ms (Ok (Passed shown)) n l ≡ made
   unfolding effect_of move_rule
-  store_passes e d h i f g = rw (e, d, f, g, based_values_lem, based_taints_lem, set_out v written next h, set_out u written 0 i)
+  store_passes e d h f g =
+      rw (e, d, f, g, based_values_lem, based_taints_lem, set_out v written next (rw full.values h), set_out u written 0 (rw full.taints h))
 
-  pub load_writes : x.store ≡ false → Plain x.target → Plain x.second → told s vs ms (Wrote shown (loads_of x written next r at m k)) m k ≡ made
+  pub load_writes : x.store ≡ false → Plain x.target → Plain x.second → told s vs ms (Ok (Wrote shown (loads_of x written next r at m k))) m k ≡ made
   unfolding effect_of move_rule
   load_writes e p o =
       rw (e, all_plain v w written x.target x.second _ _ _ full.values long plain p o, all_plain u q written x.target x.second _ _ _ full.taints many plain p o)
 
-  pub load_fills : x.store ≡ false → 32 ≤ x.target → VectorBounds x → told s vs ms (Decision.Vectors shown (based_of written next r) (fills_of x at m k)) m k ≡ made
+  pub load_fills : x.store ≡ false → 32 ≤ x.target → VectorBounds x → told s vs ms (Ok (Vectors shown (based_of written next r) (fills_of x at m k))) m k ≡ made
   unfolding effect_of move_rule
   load_fills e p b =
       rw (
@@ -190,16 +190,16 @@ module _ (x : Transfer) (written at next : ℕ) (r : Monitor) (shown : Shown) (s
         taints_are x.more x.extent k (at + x.bytes) b.wholes,
       )
 
-  pub store_tells : {n l : List ℕ} (more : Bool) → x.store ≡ true → (more ≡ false → (r ≡ s.monitor) × (length v ≤ written) × (length u ≤ written))
-      → n ≡ stored_bytes x at (v ++ w) m → l ≡ stored_taints x at (u ++ q) k → told s vs ms (after_store more written next shown r) n l ≡ made
+  pub store_tells : {n l : List ℕ} (more : Bool) → x.store ≡ true → (more ≡ false → (r ≡ s.monitor) × (32 ≤ written))
+      → n ≡ stored_bytes x at (v ++ w) m → l ≡ stored_taints x at (u ++ q) k → told s vs ms (Ok (after_store more written next shown r)) n l ≡ made
   store_tells true e h f g = store_writes e f g
-  store_tells false e h f g = let none = h refl in store_passes e none.0 none.1 none.2 f g
+  store_tells false e h f g = let none = h refl in store_passes e none.0 none.1 f g
 
-  pub load_tells : x.store ≡ false → Bounded x → told s vs ms (after_load x written at next shown r m k) m k ≡ made
+  pub load_tells : x.store ≡ false → Bounded x → told s vs ms (Ok (after_load x written at next shown r m k)) m k ≡ made
   load_tells e b = by (vector_slot x.target) refl
     where
       by : (z : Bool) → vector_slot x.target ≡ z
-          → told s vs ms (pick z (Decision.Vectors shown (based_of written next r) (fills_of x at m k)) (Wrote shown (loads_of x written next r at m k))) m k ≡ made
+          → told s vs ms (Ok (pick z (Vectors shown (based_of written next r) (fills_of x at m k)) (Wrote shown (loads_of x written next r at m k)))) m k ≡ made
       by true z = load_fills e (vector_low x.target z).0 (b.vector z)
       by false z = load_writes e z (b.general z).1
 
@@ -217,12 +217,12 @@ pub shows : (m : Machine) (s : Step Machine) {e : Ended} → e ≡ ended m s →
 shows m s h = ap shown_of h ∙ shown_at_lem m s
 
 -- what is returned of a decision, with the files that were handed in, is what it tells
-pub completes : (s : State) (vs ms : List (List ℕ)) (m k : List ℕ) → length vs ≡ 32 → length ms ≡ 32 → (d : Decision)
+pub completes : (s : State) (vs ms : List (List ℕ)) (m k : List ℕ) → length vs ≡ 32 → length ms ≡ 32 → (d : Result Effect Refusal)
     → outcome (completed_of s d) vs ms m k ≡ shown_of (told s vs ms d m k)
-completes s vs ms m k h i (Decision.Refused answer address) = rw (files_kept vs h, taints_kept ms i)
-completes s vs ms m k h i (Decision.Passed shown) = rw (files_kept vs h, taints_kept ms i)
-completes s vs ms m k h i (Decision.Wrote shown w) = rw (files_kept vs h, taints_kept ms i)
-completes s vs ms m k h i (Decision.Vectors shown w x) = refl
+completes s vs ms m k h i (Err r) = rw (files_kept vs h, taints_kept ms i)
+completes s vs ms m k h i (Ok (Passed shown)) = rw (files_kept vs h, taints_kept ms i)
+completes s vs ms m k h i (Ok (Wrote shown w)) = rw (files_kept vs h, taints_kept ms i)
+completes s vs ms m k h i (Ok (Vectors shown w x)) = refl
 
 step_at_lem : (m : Machine) (s : Step Machine) → (ended m s).step ≡ s
 step_at_lem m (stopped answer address) = refl

@@ -2,26 +2,30 @@
 // refuses and changes nothing; the second sets registers, and gives back the whole state.
 #![tactic(auto)]
 
-mod effect;
+mod effects;
+mod files;
 mod monitor;
 
-ghost use Rattle.std.specs.Prelude.{◌≡◌, ℕ, ◌+◌, ◌≤◌, ◌||◌, length, nat_lt};
+ghost use Rattle.std.specs.Prelude.{◌≡◌, ℕ, ◌+◌, ◌-◌, ◌≤◌, ◌||◌, List, Ok, length, nat_lt};
+ghost use Rattle.instruction.specs.declared.answer.Answer.TheVariants.{Done};
 ghost use Rattle.vectors.specs.route.Slots.{Plain};
 ghost use Rattle.access.specs.route.Bounds.{Within, Bounded, Placed};
 ghost use Rattle.plan.specs.Admission.{total_of};
 ghost use Rattle.plan.specs.Ranges.{admit_in};
-ghost use Rattle.machine.specs.Monitor.{monitor_after, made_of};
-ghost use Rattle.machine.specs.Machine.{machine_of, opened, next_pc, effect_of};
-ghost use Rattle.machine.specs.Step.{shown, moved, step_in, step_of, outcome, leaves};
+ghost use Rattle.machine.specs.Machine.{machine_of, opened, next_pc};
+ghost use Rattle.machine.specs.Step.{shown, touch_of, step_in, step_of, outcome, leaves};
 ghost use Rattle.machine.specs.route.Parts.{word_step, access_step};
-ghost use Rattle.machine.specs.route.Writing.{Full, state_of, passed_on, settled_of, completed_of, after_store, after_load, Decides};
+ghost use Rattle.machine.specs.route.Writing.{state_of, passed_on, settled_of, completed_of, after_store, after_load, moved_to, told, Decides};
+ghost use Rattle.machine.specs.route.Starting.{DecidesFrom};
 
 use access::{Access, Addressing, Transfer};
-pub use effect::{Writes, code};
+use effects::Back;
+pub use effects::{Writes, code};
+use files::{Bytes, Files, Start};
 use instruction::Answer;
 pub use monitor::{Monitor, fails};
-use plan::{Refusal, Touch};
-pub use plan::{Reach, Window};
+use plan::Touch;
+pub use plan::{Reach, Refusal, Window};
 use registers::Registers;
 use vectors::VectorWrites;
 
@@ -41,14 +45,41 @@ pub struct Shown {
     pub status: u8,
 }
 
-// What the first half of a step comes to: it is refused, with an answer and an address; or the access is made, and no
-// register is to be set; or some are; or vector registers are, too.
+// What an access that is made leaves to be set: no register; or some; or vector registers, too.
 #[derive(Drop)]
-pub enum Decision {
-    Refused(Answer, u64),
+pub enum Effect {
     Passed(Shown),
     Wrote(Shown, Writes),
     Vectors(Shown, Writes, VectorWrites),
+}
+
+impl Effect {
+    // The second half, where all that it sets is lent; and what the step shows.
+    pub fn settle(
+        self,
+        state: &mut State,
+        vectors: &mut [[u64; 2]; 32],
+        vector_taint: &mut [[u64; 2]; 32],
+    ) -> Shown
+        ensures { (memory taint : List ℕ) → moved_to (machine_of state.new vectors.new vector_taint.new memory taint) result ≡ told state.old vectors.old vector_taint.old (Ok self) memory taint }
+    {
+        match self {
+            Effect::Passed(shown) => {
+                state.pc = next_pc(state.pc);
+                shown
+            }
+            Effect::Wrote(shown, writes) => {
+                *state = settled(*state, writes);
+                shown
+            }
+            Effect::Vectors(shown, writes, filled) => {
+                *state = settled(*state, writes);
+                vectors::write(vectors, filled);
+                vectors::write_taint(vector_taint, filled);
+                shown
+            }
+        }
+    }
 }
 
 // What a step returns: 01's answer, code and address, and the state after it; and what it writes to the vector registers,
@@ -89,34 +120,34 @@ pub fn step(
 }
 
 // The second half, whatever the first has decided.
-fn completed(decision: Decision, state: State) -> Stepped
+fn completed(decision: Result<Effect, Refusal>, state: State) -> Stepped
     ensures { result ≡ completed_of state decision }
 {
     match decision {
-        Decision::Refused(answer, address) => Stepped {
+        Err(refusal) => Stepped {
             state,
-            answer,
-            shown: no_code(address),
+            answer: refusal.answer,
+            shown: no_code(refusal.address),
             vectors: vectors::no_writes(),
         },
-        Decision::Passed(shown) => Stepped {
-            state: passed_on(state),
-            answer: Answer::Done,
+        Ok(Effect::Passed(shown)) => done(passed_on(state), shown, vectors::no_writes()),
+        Ok(Effect::Wrote(shown, writes)) => done(
+            settled(state, writes),
             shown,
-            vectors: vectors::no_writes(),
-        },
-        Decision::Wrote(shown, writes) => Stepped {
-            state: settled(state, writes),
-            answer: Answer::Done,
-            shown,
-            vectors: vectors::no_writes(),
-        },
-        Decision::Vectors(shown, writes, filled) => Stepped {
-            state: settled(state, writes),
-            answer: Answer::Done,
-            shown,
-            vectors: filled,
-        },
+            vectors::no_writes(),
+        ),
+        Ok(Effect::Vectors(shown, writes, filled)) => done(settled(state, writes), shown, filled),
+    }
+}
+
+fn done(state: State, shown: Shown, vectors: VectorWrites) -> Stepped
+    ensures { result ≡ record { state = state; answer = Done; shown = shown; vectors = vectors } }
+{
+    Stepped {
+        state,
+        answer: Answer::Done,
+        shown,
+        vectors,
     }
 }
 
@@ -135,38 +166,35 @@ pub fn no_code(address: u64) -> Shown
 pub fn open(state: State) -> State
     ensures { result ≡ opened state }
 {
-    let monitor = Monitor {
-        address: 0,
-        size: 0,
-    };
-    let mut next = state;
-    next.monitor = monitor;
-    next
+    State {
+        monitor: Monitor::OPEN,
+        ..state
+    }
 }
 
 // The second half of a step that sets registers.
 pub fn settled(state: State, writes: Writes) -> State
     ensures { result ≡ settled_of writes state }
 {
-    let file = state.registers;
-    let monitor = writes.monitor;
-    let mut next = state;
-    next.registers = file
-        .set(writes.base, writes.next, 0)
-        .set(writes.first, writes.value, writes.taint)
-        .set(writes.second, writes.value2, writes.taint2);
-    next.pc = next_pc(state.pc);
-    next.monitor = monitor;
-    next
+    State {
+        registers: state
+            .registers
+            .set(writes.base, writes.next, 0)
+            .set(writes.first, writes.value, writes.taint)
+            .set(writes.second, writes.value2, writes.taint2),
+        pc: next_pc(state.pc),
+        monitor: writes.monitor,
+    }
 }
 
 // The second half of a step that sets none.
 pub fn passed_on(state: State) -> State
     ensures { result ≡ passed_on state }
 {
-    let mut next = state;
-    next.pc = next_pc(state.pc);
-    next
+    State {
+        pc: next_pc(state.pc),
+        ..state
+    }
 }
 
 // The program counter after a step that is done.
@@ -176,7 +204,8 @@ pub fn next_pc(pc: u64) -> u64
     std::num::wrapping_add_u64(pc, 4)
 }
 
-// The first half, by what may be reached. The arrays of the register file are lent, so that reading a register copies nothing.
+// The first half, by what may be reached: what is left to be set, or the refusal. The arrays of the register file are lent, so that
+// reading a register copies nothing.
 pub fn decide<'a>(
     word: u32,
     pc: u64,
@@ -185,33 +214,36 @@ pub fn decide<'a>(
     reach: Reach,
     value: &'a [u64; 32],
     tainted: &'a [u64; 32],
-    vectors: &[[u64; 2]; 32],
-    vector_taint: &[[u64; 2]; 32],
+    vectors: &'a [[u64; 2]; 32],
+    vector_taint: &'a [[u64; 2]; 32],
     memory: &mut [u8],
     taint: &mut [u8],
-) -> Decision
+) -> Result<Effect, Refusal>
     ensures { Decides (step_in window reach word) (state_of value.now tainted.now pc monitor) vectors.now vector_taint.now memory.old taint.old result memory.new taint.new }
 {
     if plan::is_bad(window, memory.len() as u64, taint.len() as u64, pc) {
-        return Decision::Refused(Answer::BadWindow, 0);
+        return Err(Refusal {
+            answer: Answer::BadWindow,
+            address: 0,
+        });
     }
     counted(*value);
     counted(*tainted);
     vectors::held(*vectors);
     vectors::held(*vector_taint);
-    decide_word(
-        word,
+    let start = Start {
         pc,
         monitor,
         window,
         reach,
-        value,
-        tainted,
-        vectors,
-        vector_taint,
-        memory,
-        taint,
-    )
+        files: Files {
+            value,
+            tainted,
+            vectors,
+            vector_taint,
+        },
+    };
+    decide_word(word, &start, memory, taint)
 }
 
 // How long an array is, which nothing says of one behind a reference. No code comes of it.
@@ -226,201 +258,121 @@ fn nothing() {}
 // In a window that is well formed.
 fn decide_word(
     word: u32,
-    pc: u64,
-    monitor: Monitor,
-    window: Window,
-    reach: Reach,
-    value: &[u64],
-    tainted: &[u64],
-    vectors: &[[u64; 2]; 32],
-    vector_taint: &[[u64; 2]; 32],
+    start: &Start,
     memory: &mut [u8],
     taint: &mut [u8],
-) -> Decision
-    requires { Full value.now tainted.now vectors.now vector_taint.now × (length taint.old ≡ length memory.old) }
-    ensures { Decides (word_step window.origin (admit_in window reach (length memory.old)) word) (state_of value.now tainted.now pc monitor) vectors.now vector_taint.now memory.old taint.old result memory.new taint.new }
+) -> Result<Effect, Refusal>
+    requires { length taint.old ≡ length memory.old }
+    ensures { DecidesFrom (word_step start.now.window.origin (admit_in start.now.window start.now.reach (length memory.old)) word) start.now memory.old taint.old result memory.new taint.new }
 {
     let examined = decoder::examine(word);
-    let answer = examined.answer;
-    if instruction::answer_number(answer) != 0 {
-        return Decision::Refused(answer, 0);
+    match examined.answer {
+        Answer::Done => decide_access(
+            access::access_of(examined.instruction),
+            start,
+            memory,
+            taint,
+        ),
+        answer => Err(Refusal { answer, address: 0 }),
     }
-    let instruction = examined.instruction;
-    decide_access(
-        access::access_of(instruction),
-        pc,
-        monitor,
-        window,
-        reach,
-        value,
-        tainted,
-        vectors,
-        vector_taint,
-        memory,
-        taint,
-    )
 }
 
 #[tactic(auto, unfolding(crate::specs::route::Parts::access_step))]
 fn decide_access(
     x: Access,
-    pc: u64,
-    monitor: Monitor,
-    window: Window,
-    reach: Reach,
-    value: &[u64],
-    tainted: &[u64],
-    vectors: &[[u64; 2]; 32],
-    vector_taint: &[[u64; 2]; 32],
+    start: &Start,
     memory: &mut [u8],
     taint: &mut [u8],
-) -> Decision
-    requires { Within x × Full value.now tainted.now vectors.now vector_taint.now × (length taint.old ≡ length memory.old) }
-    ensures { Decides (access_step window.origin (admit_in window reach (length memory.old)) x) (state_of value.now tainted.now pc monitor) vectors.now vector_taint.now memory.old taint.old result memory.new taint.new }
+) -> Result<Effect, Refusal>
+    requires { Within x × (length taint.old ≡ length memory.old) }
+    ensures { DecidesFrom (access_step start.now.window.origin (admit_in start.now.window start.now.reach (length memory.old)) x) start.now memory.old taint.old result memory.new taint.new }
 {
     match x {
         // A prefetch: the program counter goes on.
-        Access::Nothing => Decision::Passed(no_code(0)),
-        Access::Moves(t, a) => decide_moves(
-            t,
-            a,
-            pc,
-            monitor,
-            window,
-            reach,
-            value,
-            tainted,
-            vectors,
-            vector_taint,
-            memory,
-            taint,
-        ),
+        Access::Nothing => Ok(Effect::Passed(no_code(0))),
+        Access::Moves(t, a) => decide_moves(t, a, start, memory, taint),
     }
 }
 
 fn decide_moves(
     t: Transfer,
     a: Addressing,
-    pc: u64,
-    monitor: Monitor,
-    window: Window,
-    reach: Reach,
-    value: &[u64],
-    tainted: &[u64],
-    vectors: &[[u64; 2]; 32],
-    vector_taint: &[[u64; 2]; 32],
+    start: &Start,
     memory: &mut [u8],
     taint: &mut [u8],
-) -> Decision
-    requires { Bounded t × Placed a × Full value.now tainted.now vectors.now vector_taint.now × (length taint.old ≡ length memory.old) }
-    ensures { Decides (access_step window.origin (admit_in window reach (length memory.old)) (Access.Moves t a)) (state_of value.now tainted.now pc monitor) vectors.now vector_taint.now memory.old taint.old result memory.new taint.new }
+) -> Result<Effect, Refusal>
+    requires { Bounded t × Placed a × (length taint.old ≡ length memory.old) }
+    ensures { DecidesFrom (access_step start.now.window.origin (admit_in start.now.window start.now.reach (length memory.old)) (Access.Moves t a)) start.now memory.old taint.old result memory.new taint.new }
 {
-    let operands = plan::operands_of(a, pc, value, tainted);
-    match plan::planned(t, a, operands, window, reach, memory.len() as u64) {
-        Err(Refusal { answer, address }) => Decision::Refused(answer, address),
-        Ok(Touch { address, sum }) => {
-            let at = (address - window.origin) as usize;
-            let code = effect::code(t);
-            let status = monitor::status(t, address, monitor);
-            touched(
-                t,
-                a.written,
-                at,
-                monitor::written_back(t, status, sum),
-                Shown {
-                    code,
-                    address,
-                    status,
-                },
-                monitor,
-                value,
-                tainted,
-                vectors,
-                vector_taint,
-                memory,
-                taint,
-            )
-        }
-    }
+    let value = start.files.value;
+    let tainted = start.files.tainted;
+    let operands = plan::operands_of(a, start.pc, value, tainted);
+    let touch = plan::planned(
+        t,
+        a,
+        operands,
+        start.window,
+        start.reach,
+        memory.len() as u64,
+    )?;
+    Ok(touched(t, a.written, touch, start, memory, taint))
 }
 
-// An access at an index that passed its tests, with what it writes back and what it shows.
+// An access that passed its tests.
 fn touched(
     t: Transfer,
     written: u32,
-    at: usize,
-    next: u64,
-    shown: Shown,
-    monitor: Monitor,
-    value: &[u64],
-    tainted: &[u64],
-    vectors: &[[u64; 2]; 32],
-    vector_taint: &[[u64; 2]; 32],
+    touch: Touch,
+    start: &Start,
     memory: &mut [u8],
     taint: &mut [u8],
-) -> Decision
-    requires { Bounded t × Plain written × Full value.now tainted.now vectors.now vector_taint.now × (at + total_of t ≤ length memory.old) × (length taint.old ≡ length memory.old) }
-    ensures { (pc : ℕ) → Decides (λ m. moved (effect_of (made_of t shown.status) written at next (monitor_after t shown.address m.monitor) m) shown) (state_of value.now tainted.now pc monitor) vectors.now vector_taint.now memory.old taint.old result memory.new taint.new }
+) -> Effect
+    requires { Bounded t × Plain written × (start.now.window.origin ≤ touch.address) × (touch.address - start.now.window.origin + total_of t ≤ length memory.old) × (length taint.old ≡ length memory.old) }
+    ensures { DecidesFrom (touch_of start.now.window.origin t written touch.address touch.sum) start.now memory.old taint.old (Ok result) memory.new taint.new }
 {
-    let after = monitor::after(t, shown.address, monitor);
+    let address = touch.address;
+    let at = (address - start.window.origin) as usize;
+    let status = monitor::status(t, address, start.monitor);
+    let shown = Shown {
+        code: effects::code(t),
+        address,
+        status,
+    };
+    let back = Back {
+        base: written,
+        next: monitor::written_back(t, status, touch.sum),
+        monitor: monitor::after(t, address, start.monitor),
+    };
     if t.store {
-        effect::stored(
-            t,
-            shown.status,
-            at,
-            value,
-            tainted,
-            vectors,
-            vector_taint,
-            memory,
-            taint,
-        );
-        return after_store(t.exclusive, written, next, shown, after, value, tainted);
+        effects::stored(t, status, at, &start.files, memory, taint);
+        return after_store(t.exclusive, back, shown);
     }
-    after_load(t, written, at, next, shown, after, memory, taint)
+    after_load(t, back, at, shown, &Bytes { memory, taint })
 }
 
 // A store that is made leaves the base or the status to set, and the monitor, or nothing.
-fn after_store(
-    exclusive: bool,
-    written: u32,
-    next: u64,
-    shown: Shown,
-    monitor: Monitor,
-    value: &[u64],
-    tainted: &[u64],
-) -> Decision
-    ensures { result ≡ after_store (exclusive || (nat_lt written (length value.now) || nat_lt written (length tainted.now))) written next shown monitor }
+fn after_store(exclusive: bool, back: Back, shown: Shown) -> Effect
+    ensures { result ≡ after_store (exclusive || nat_lt back.base 32) back.base back.next shown back.monitor }
 {
-    if effect::sets_more(exclusive, written, value, tainted) {
-        return Decision::Wrote(shown, effect::written_back(written, next, monitor));
+    if exclusive || back.base < 32 {
+        Effect::Wrote(shown, effects::written_back(back))
+    } else {
+        Effect::Passed(shown)
     }
-    Decision::Passed(shown)
 }
 
 // A load sets general registers, or vector registers.
-fn after_load(
-    t: Transfer,
-    written: u32,
-    at: usize,
-    next: u64,
-    shown: Shown,
-    monitor: Monitor,
-    memory: &[u8],
-    taint: &[u8],
-) -> Decision
-    requires { Bounded t × (at + total_of t ≤ length memory.now) × (length taint.now ≡ length memory.now) }
-    ensures { result ≡ after_load t written at next shown monitor memory.now taint.now }
+fn after_load(t: Transfer, back: Back, at: usize, shown: Shown, bytes: &Bytes) -> Effect
+    requires { Bounded t × (at + total_of t ≤ length bytes.now.memory.now) }
+    ensures { result ≡ after_load t back.base at back.next shown back.monitor bytes.now.memory.now bytes.now.taint.now }
 {
     if vectors::is_vector(t.target) {
-        return Decision::Vectors(
+        Effect::Vectors(
             shown,
-            effect::written_back(written, next, monitor),
-            effect::fills(t, at, memory, taint),
-        );
+            effects::written_back(back),
+            effects::fills(t, at, bytes),
+        )
+    } else {
+        Effect::Wrote(shown, effects::loads(t, back, at, bytes))
     }
-    Decision::Wrote(
-        shown,
-        effect::loads(t, written, next, monitor, at, memory, taint),
-    )
 }

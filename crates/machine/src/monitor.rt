@@ -1,7 +1,6 @@
 // The monitor of exclusive accesses, once an access has passed its tests.
 ghost use Rattle.std.specs.Prelude.{◌≡◌};
-ghost use Rattle.bits.specs.Choice.{pick};
-ghost use Rattle.machine.specs.Monitor.{matches, status_of, monitor_after, written_back, fails};
+ghost use Rattle.machine.specs.Monitor.{store_exclusive, matches, status_of, monitor_after, written_back, fails};
 
 use access::Transfer;
 
@@ -13,29 +12,36 @@ pub struct Monitor {
     pub size: u64,
 }
 
+impl Monitor {
+    pub const OPEN: Monitor = Monitor {
+        address: 0,
+        size: 0,
+    };
+
+    #[tactic(auto, unfolding(crate::specs::Monitor::matches))]
+    fn matches(self, address: u64, size: u32) -> bool
+        ensures { result ≡ matches self address size }
+    {
+        self.address == address && self.size == size as u64
+    }
+}
+
+fn is_store_exclusive(t: Transfer) -> bool
+    ensures { result ≡ store_exclusive t }
+{
+    t.exclusive && t.store
+}
+
 // What a store-exclusive writes to its status register; 0 for every other access.
 #[tactic(auto, unfolding(crate::specs::Monitor::status_of))]
 pub fn status(t: Transfer, address: u64, monitor: Monitor) -> u8
     ensures { result ≡ status_of t address monitor }
 {
-    if t.exclusive {
-        if t.store {
-            return mismatch(monitor, address, t.bytes);
-        }
+    if is_store_exclusive(t) && !monitor.matches(address, t.bytes) {
+        1
+    } else {
+        0
     }
-    0
-}
-
-#[tactic(auto, unfolding(crate::specs::Monitor::matches))]
-fn mismatch(monitor: Monitor, address: u64, size: u32) -> u8
-    ensures { result ≡ pick (matches monitor address size) 0 1 }
-{
-    if monitor.address == address {
-        if monitor.size == size as u64 {
-            return 0;
-        }
-    }
-    1
 }
 
 // The monitor after an access: a load-exclusive arms it, and a store-exclusive opens it.
@@ -43,29 +49,21 @@ fn mismatch(monitor: Monitor, address: u64, size: u32) -> u8
 pub fn after(t: Transfer, address: u64, monitor: Monitor) -> Monitor
     ensures { result ≡ monitor_after t address monitor }
 {
-    if t.exclusive {
-        if t.store {
-            return Monitor {
-                address: 0,
-                size: 0,
-            };
-        }
-        return Monitor {
+    match (t.exclusive, t.store) {
+        (true, true) => Monitor::OPEN,
+        (true, false) => Monitor {
             address,
             size: t.bytes as u64,
-        };
+        },
+        (false, _) => monitor,
     }
-    monitor
 }
 
 #[tactic(auto, unfolding(crate::specs::Monitor::written_back))]
 pub fn written_back(t: Transfer, status: u8, sum: u64) -> u64
     ensures { result ≡ written_back t status sum }
 {
-    if t.exclusive {
-        return status as u64;
-    }
-    sum
+    if t.exclusive { status as u64 } else { sum }
 }
 
 // Whether a store with this status stores nothing.
@@ -73,10 +71,5 @@ pub fn written_back(t: Transfer, status: u8, sum: u64) -> u64
 pub fn fails(t: Transfer, status: u8) -> bool
     ensures { result ≡ fails t status }
 {
-    if t.exclusive {
-        if t.store {
-            return status == 1;
-        }
-    }
-    false
+    is_store_exclusive(t) && status == 1
 }

@@ -13,7 +13,6 @@ use Rattle.machine.specs.declared.Shown.{Shown}
 use Rattle.machine.specs.declared.Stepped.{Stepped}
 use Rattle.arm.specs.Choices.{arm_step}
 use Rattle.session.specs.declared.StepReply.{StepReply}
-use Rattle.session.specs.declared.Replied.{Replied}
 
 -- all that a step returns and leaves: the record, the vector registers and their marks, memory and taint bytes are a machine
 pub record Lent : Type 0 where
@@ -57,6 +56,3 @@ with_file file s = record { registers = file; pc = s.pc; monitor = s.monitor }
 -- 01: "the whole file with one register changed, value and mark"; a mark for each byte (02, CR 13), of which any but 0 is one
 unfoldable pub with_register : ℕ → ℕ → ℕ → State → State
 with_register n value marks s = with_file (set_at s.registers n value marks) s
-
-abbrev pub replied_of : State → Answer → Shown → Replied
-replied_of s answer shown = record { state = s; reply = reply_of answer shown }

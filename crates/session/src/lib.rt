@@ -1,6 +1,4 @@
-// A session's record, which its host keeps, lent and changed in place: by a step, and by setting one register. Both copy
-// the record out, and store it back whole after the step or with the register; vector registers are changed where they are.
-// Between two steps the host opens the monitor, or tells what another has stored, by value.
+// A session's record, which its host keeps, lent and changed in place: by a step, and by setting one register. Between two steps the host opens the monitor, or tells what another has stored, by value.
 #![tactic(auto)]
 
 mod watch;
@@ -8,12 +6,12 @@ mod watch;
 ghost use Rattle.std.specs.Prelude.{◌≡◌};
 ghost use Rattle.vectors.specs.File.{with_vector};
 ghost use Rattle.machine.specs.Machine.{opened};
-ghost use Rattle.session.specs.Lent.{with_register, lent_outcome, lent_step, replied_of};
+ghost use Rattle.session.specs.Lent.{with_register, lent_outcome, lent_step, reply_of};
 ghost use Rattle.session.specs.Vector.{vector_at};
 ghost use Rattle.session.specs.Watch.{observed};
 
 use instruction::Answer;
-use machine::{Decision, Reach, Shown, State, Window};
+use machine::{Reach, Shown, State, Window};
 use vectors::Halves;
 
 // What a step says beside the record that it leaves, the answer by its number; the status is 0 but for a store-exclusive
@@ -36,12 +34,7 @@ pub struct VectorRegister {
     pub taint_high: u64,
 }
 
-#[derive(Drop)]
-struct Replied {
-    state: State,
-    reply: StepReply,
-}
-
+// Vector registers aren't copied: only a step that fills some changes them.
 pub fn milestarling_step(
     word: u32,
     state: &mut State,
@@ -54,24 +47,41 @@ pub fn milestarling_step(
 ) -> StepReply
     ensures { lent_outcome state.new result vectors.new vector_taint.new memory.new taint.new ≡ lent_step (record { origin = origin; readonly = readonly }) word state.old vectors.old vector_taint.old memory.old taint.old }
 {
-    let stepped = step_replied(
+    arm::real(*state, *vectors, *vector_taint, memory, taint);
+    match machine::decide(
         word,
-        *state,
+        state.pc,
+        state.monitor,
+        Window { origin, readonly },
+        Reach::Alone,
+        &state.registers.value,
+        &state.registers.taint,
         vectors,
         vector_taint,
-        origin,
-        readonly,
         memory,
         taint,
-    );
-    *state = stepped.state;
-    stepped.reply
+    ) {
+        Err(refusal) => reply(refusal.answer, machine::no_code(refusal.address)),
+        Ok(effect) => reply(Answer::Done, effect.settle(state, vectors, vector_taint)),
+    }
 }
 
+fn reply(answer: Answer, shown: Shown) -> StepReply
+    ensures { result ≡ reply_of answer shown }
+{
+    StepReply {
+        answer: instruction::answer_number(answer) as u64,
+        code: shown.code,
+        address: shown.address,
+        status: shown.status as u64,
+    }
+}
+
+#[tactic(auto, unfolding(crate::specs::Lent::with_register))]
 pub fn milestarling_set_register(state: &mut State, n: u32, value: u64, marks: u64)
     ensures { state.new ≡ with_register n value marks state.old }
 {
-    *state = with_register(*state, n, value, marks);
+    state.registers = state.registers.set(n, value, marks);
 }
 
 // A vector register and its taints, which a host reads and sets by the register's number; one above 31 reads 0, untainted,
@@ -127,75 +137,9 @@ pub fn milestarling_opened(state: State) -> State
 pub fn milestarling_observed(state: State, code: u64, address: u64, status: u64) -> State
     ensures { result ≡ observed code address status state }
 {
-    let monitor = state.monitor;
-    if watch::stores_watched(monitor, code, address, status) {
-        return machine::open(state);
+    if watch::stores_watched(state.monitor, code, address, status) {
+        machine::open(state)
+    } else {
+        state
     }
-    state
-}
-
-// Both halves of a step, without a copy of the vector registers: only one that fills some changes them.
-fn step_replied(
-    word: u32,
-    state: State,
-    vectors: &mut [[u64; 2]; 32],
-    vector_taint: &mut [[u64; 2]; 32],
-    origin: u64,
-    readonly: u64,
-    memory: &mut [u8],
-    taint: &mut [u8],
-) -> Replied
-    ensures { lent_outcome result.state result.reply vectors.new vector_taint.new memory.new taint.new ≡ lent_step (record { origin = origin; readonly = readonly }) word state vectors.old vector_taint.old memory.old taint.old }
-{
-    arm::real(state, *vectors, *vector_taint, memory, taint);
-    match machine::decide(
-        word,
-        state.pc,
-        state.monitor,
-        Window { origin, readonly },
-        Reach::Alone,
-        &state.registers.value,
-        &state.registers.taint,
-        vectors,
-        vector_taint,
-        memory,
-        taint,
-    ) {
-        Decision::Refused(answer, address) => with_reply(state, answer, machine::no_code(address)),
-        Decision::Passed(shown) => with_reply(machine::passed_on(state), Answer::Done, shown),
-        Decision::Wrote(shown, writes) => with_reply(
-            machine::settled(state, writes),
-            Answer::Done,
-            shown,
-        ),
-        Decision::Vectors(shown, writes, filled) => {
-            vectors::write(vectors, filled);
-            vectors::write_taint(vector_taint, filled);
-            with_reply(machine::settled(state, writes), Answer::Done, shown)
-        }
-    }
-}
-
-fn with_reply(state: State, answer: Answer, shown: Shown) -> Replied
-    ensures { result ≡ replied_of state answer shown }
-{
-    Replied {
-        state,
-        reply: StepReply {
-            answer: instruction::answer_number(answer) as u64,
-            code: shown.code,
-            address: shown.address,
-            status: shown.status as u64,
-        },
-    }
-}
-
-#[tactic(auto, unfolding(crate::specs::Lent::with_register))]
-fn with_register(state: State, n: u32, value: u64, marks: u64) -> State
-    ensures { result ≡ with_register n value marks state }
-{
-    let file = state.registers;
-    let mut next = state;
-    next.registers = file.set(n, value, marks);
-    next
 }

@@ -1,5 +1,5 @@
 // What a monitor watches, and the bytes that another's step stored.
-ghost use Rattle.std.specs.Prelude.{◌≡◌, ◌-◌};
+ghost use Rattle.std.specs.Prelude.{◌≡◌};
 ghost use Rattle.session.specs.Watch.{meet, stores_watched};
 
 use machine::Monitor;
@@ -9,20 +9,9 @@ use machine::Monitor;
 pub fn stores_watched(monitor: Monitor, code: u64, address: u64, status: u64) -> bool
     ensures { result ≡ stores_watched monitor code address status }
 {
-    if status != 0 {
-        return false;
-    }
-    meets(monitor.address, monitor.size, address, bytes_stored(code))
-}
-
-// The bytes of a store by its code; none of a load, a prefetch or a refusal.
-fn bytes_stored(code: u64) -> u64
-    ensures { result ≡ code - 64 }
-{
-    if code < 64 {
-        return 0;
-    }
-    code - 64
+    // By its code a store has so many bytes; a load, a prefetch and a refusal have none.
+    let stored = code.saturating_sub(64);
+    status == 0 && meets(monitor.address, monitor.size, address, stored)
 }
 
 // Whether n bytes from a on and k bytes from b on have one in common.
@@ -31,7 +20,8 @@ fn meets(a: u64, n: u64, b: u64, k: u64) -> bool
     ensures { result ≡ meet a n b k }
 {
     if a < b {
-        return (b - a < n) & (0 < k);
+        b - a < n && 0 < k
+    } else {
+        0 < n && a - b < k
     }
-    (0 < n) & (a - b < k)
 }

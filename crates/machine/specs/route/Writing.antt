@@ -1,6 +1,6 @@
 -- A step in two halves: what the first decides, and what the second sets of it. What a step does is said in Step.antt;
 -- this is how the two halves come to it.
-use Rattle.std.specs.Prelude.{◌≡◌, ℕ, ◌+◌, ◌-◌, min, Bool, List, map, length}
+use Rattle.std.specs.Prelude.{◌≡◌, ℕ, ◌+◌, ◌-◌, min, Bool, List, map, length, Result, Ok, Err}
 use Rattle.bits.specs.Choice.{pick}
 use Rattle.bits.specs.Bytes.{joined, span_of}
 use Rattle.bits.specs.Extension.{extended_of}
@@ -19,9 +19,10 @@ use Rattle.machine.specs.declared.monitor.Monitor.{Monitor}
 use Rattle.machine.specs.declared.State.{State}
 use Rattle.machine.specs.declared.Shown.{Shown}
 use Rattle.machine.specs.declared.Stepped.{Stepped}
-use Rattle.machine.specs.declared.Decision.{Decision}
-use Rattle.machine.specs.declared.Decision.TheVariants.{Refused, Passed, Wrote, Vectors}
-use Rattle.machine.specs.declared.effect.Writes.{Writes}
+use Rattle.machine.specs.declared.Effect.{Effect}
+use Rattle.machine.specs.declared.Effect.TheVariants.{Passed, Wrote, Vectors}
+use Rattle.plan.specs.declared.Refusal.{Refusal}
+use Rattle.machine.specs.declared.effects.Writes.{Writes}
 
 -- the state whose register file is lent as two arrays
 abbrev pub state_of : List ℕ → List ℕ → ℕ → Monitor → State
@@ -78,11 +79,11 @@ fills_of t at m k =
 -- ---- what an access that is made decides
 
 -- a store, by whether it leaves anything to set
-abbrev pub after_store : Bool → ℕ → ℕ → Shown → Monitor → Decision
+abbrev pub after_store : Bool → ℕ → ℕ → Shown → Monitor → Effect
 after_store more written next shown monitor = pick more (Wrote shown (based_of written next monitor)) (Passed shown)
 
 -- a load at an index
-abbrev pub after_load : Transfer → ℕ → ℕ → ℕ → Shown → Monitor → List ℕ → List ℕ → Decision
+abbrev pub after_load : Transfer → ℕ → ℕ → ℕ → Shown → Monitor → List ℕ → List ℕ → Effect
 after_load t written at next shown monitor m k =
     pick (vector_slot t.target) (Vectors shown (based_of written next monitor) (fills_of t at m k)) (Wrote shown (loads_of t written next monitor at m k))
 
@@ -96,11 +97,11 @@ abbrev pub settled_of : Writes → State → State
 settled_of w s = record { registers = written_of w s.registers; pc = next_pc s.pc; monitor = w.monitor }
 
 -- what a step returns of a decision
-abbrev pub completed_of : State → Decision → Stepped
-completed_of s (Refused answer address) = record { state = s; answer = answer; shown = shown 0 address 0; vectors = no_writes }
-completed_of s (Passed shown) = record { state = passed_on s; answer = Done; shown = shown; vectors = no_writes }
-completed_of s (Wrote shown w) = record { state = settled_of w s; answer = Done; shown = shown; vectors = no_writes }
-completed_of s (Vectors shown w x) = record { state = settled_of w s; answer = Done; shown = shown; vectors = x }
+abbrev pub completed_of : State → Result Effect Refusal → Stepped
+completed_of s (Err r) = record { state = s; answer = r.answer; shown = shown 0 r.address 0; vectors = no_writes }
+completed_of s (Ok (Passed shown)) = record { state = passed_on s; answer = Done; shown = shown; vectors = no_writes }
+completed_of s (Ok (Wrote shown w)) = record { state = settled_of w s; answer = Done; shown = shown; vectors = no_writes }
+completed_of s (Ok (Vectors shown w x)) = record { state = settled_of w s; answer = Done; shown = shown; vectors = x }
 
 -- ---- both halves
 
@@ -120,14 +121,14 @@ abbrev pub moved_to : Machine → Shown → Ended
 moved_to m shown = record { step = moved m shown; machine = m }
 
 -- what a decision comes to with the second half, and with the memory and the taint bytes that the first has left
-abbrev pub told : State → List (List ℕ) → List (List ℕ) → Decision → List ℕ → List ℕ → Ended
-told s vectors vector_taint (Refused answer address) memory taint = record { step = stopped answer address; machine = machine_of s vectors vector_taint memory taint }
-told s vectors vector_taint (Passed shown) memory taint = moved_to (machine_of (passed_on s) vectors vector_taint memory taint) shown
-told s vectors vector_taint (Wrote shown w) memory taint = moved_to (machine_of (settled_of w s) vectors vector_taint memory taint) shown
-told s vectors vector_taint (Vectors shown w x) memory taint = moved_to (machine_of (settled_of w s) (files_after x vectors) (taints_after x vector_taint) memory taint) shown
+abbrev pub told : State → List (List ℕ) → List (List ℕ) → Result Effect Refusal → List ℕ → List ℕ → Ended
+told s vectors vector_taint (Err r) memory taint = record { step = stopped r.answer r.address; machine = machine_of s vectors vector_taint memory taint }
+told s vectors vector_taint (Ok (Passed shown)) memory taint = moved_to (machine_of (passed_on s) vectors vector_taint memory taint) shown
+told s vectors vector_taint (Ok (Wrote shown w)) memory taint = moved_to (machine_of (settled_of w s) vectors vector_taint memory taint) shown
+told s vectors vector_taint (Ok (Vectors shown w x)) memory taint = moved_to (machine_of (settled_of w s) (files_after x vectors) (taints_after x vector_taint) memory taint) shown
 
 -- the contract of the first half: its decision, with the memory and the taint bytes that it leaves, comes to a step of the machine
 -- that it was handed
-abbrev pub Decides : (Machine → Step Machine) → State → List (List ℕ) → List (List ℕ) → List ℕ → List ℕ → Decision → List ℕ → List ℕ → Type 0
+abbrev pub Decides : (Machine → Step Machine) → State → List (List ℕ) → List (List ℕ) → List ℕ → List ℕ → Result Effect Refusal → List ℕ → List ℕ → Type 0
 Decides step s vectors vector_taint memory taint decision memory-left taint-left =
     told s vectors vector_taint decision memory-left taint-left ≡ ends step (machine_of s vectors vector_taint memory taint)

@@ -1,7 +1,7 @@
--- `machine::effect::store_at` meets its contract. Assumes nothing.
+-- `machine::effects::store_at` meets its contract. Assumes nothing.
 use Rattle.bits.specs.Bytes.{bytes_of}
 use Rattle.memory.proofs.Spans.{put_back}
-use Rattle.machine.proofs.effect.store_at.Goals as goal
+use Rattle.machine.proofs.effects.store_at.Goals as goal
 
 pub returns : goal.returns
 returns c =

@@ -1,7 +1,7 @@
--- `machine::effect::store_halves` meets its contract. Assumes nothing.
+-- `machine::effects::store_halves` meets its contract. Assumes nothing.
 use Rattle.std.proofs.Common.{◌^◌, ◌<◌, ◌∙◌, arith, rules}
 use Rattle.vectors.proofs.Wide.{sets_low, sets_both}
-use Rattle.machine.proofs.effect.store_halves.Goals as goal
+use Rattle.machine.proofs.effects.store_halves.Goals as goal
 
 pub returns-then-n-le8 : goal.returns-then-n-le8
 returns-then-n-le8 c =

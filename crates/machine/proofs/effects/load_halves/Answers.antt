@@ -1,8 +1,8 @@
--- `machine::effect::load_halves` meets its contract. Assumes nothing.
+-- `machine::effects::load_halves` meets its contract. Assumes nothing.
 use Rattle.std.proofs.Common.{◌≡◌, ◌+◌, ◌-◌, min, arith}
 use Rattle.bits.specs.Bytes.{joined, span_of}
 use Rattle.memory.proofs.Spans.{span_back}
-use Rattle.machine.proofs.effect.load_halves.Goals as goal
+use Rattle.machine.proofs.effects.load_halves.Goals as goal
 
 pub returns-then-n-le8 : goal.returns-then-n-le8
 unfolding joined span_of

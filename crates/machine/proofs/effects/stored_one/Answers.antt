@@ -1,10 +1,10 @@
--- `machine::effect::stored_one` meets its contract. Assumes nothing.
+-- `machine::effects::stored_one` meets its contract. Assumes nothing.
 use Rattle.std.proofs.Common.{◌≡◌, ℕ, List, map, arith}
 use lib.Seq.{sets}
 use Rattle.bits.specs.Bytes.{bytes_of}
 use Rattle.memory.specs.Taints.{normal}
 use Rattle.memory.proofs.Spans.{put_back}
-use Rattle.machine.proofs.effect.stored_one.Goals as goal
+use Rattle.machine.proofs.effects.stored_one.Goals as goal
 
 -- no bytes change nothing
 no_bytes : (xs : List ℕ) (at n v : ℕ) → n ≡ 0 → xs ≡ sets xs at (bytes_of n v)

@@ -1,6 +1,6 @@
 // What an access leaves: the bytes and taints of memory at once, and what it sets in the register file as a small
 // struct, for the second half of a step. The tests are passed by now.
-ghost use Rattle.std.specs.Prelude.{◌≡◌, ◌+◌, ◌*◌, ◌/◌, ◌^◌, ◌<◌, ◌≤◌, ◌||◌, ◌++◌, map, length, nat_lt, slice_index};
+ghost use Rattle.std.specs.Prelude.{◌≡◌, ◌+◌, ◌*◌, ◌/◌, ◌^◌, ◌<◌, ◌≤◌, ◌++◌, map, length, slice_index};
 ghost use Rattle.std.proofs.lemmas.List.Edits.{sets};
 ghost use Rattle.bits.specs.Bytes.{bytes_of, joined, span_of};
 ghost use Rattle.bits.specs.Extension.{extended_of};
@@ -12,8 +12,9 @@ ghost use Rattle.plan.specs.Admission.{total_of};
 ghost use Rattle.machine.specs.Monitor.{made_of};
 ghost use Rattle.machine.specs.Rule.{stored_taints};
 ghost use Rattle.machine.specs.Machine.{stored_bytes, code_of};
-ghost use Rattle.machine.specs.route.Writing.{Full, based_of, loads_of, halves_in, fills_of};
+ghost use Rattle.machine.specs.route.Writing.{based_of, loads_of, halves_in, fills_of};
 
+use crate::files::{Bytes, Files};
 use crate::monitor;
 use crate::monitor::Monitor;
 use access::Transfer;
@@ -34,6 +35,14 @@ pub struct Writes {
     pub monitor: Monitor,
 }
 
+// What every access sets: the base or the status, and the monitor.
+#[derive(Clone, Copy)]
+pub struct Back {
+    pub base: u32,
+    pub next: u64,
+    pub monitor: Monitor,
+}
+
 pub fn code(t: Transfer) -> u64
     ensures { result ≡ code_of t }
 {
@@ -44,61 +53,40 @@ pub fn code(t: Transfer) -> u64
     moved
 }
 
-// Whether a store leaves anything to set: the monitor, or a register that the lent file has.
-pub fn sets_more(exclusive: bool, slot: u32, value: &[u64], tainted: &[u64]) -> bool
-    ensures { result ≡ (exclusive || (nat_lt slot (length value.now) || nat_lt slot (length tainted.now))) }
-{
-    if exclusive {
-        return true;
-    }
-    if (slot as usize) < value.len() {
-        return true;
-    }
-    (slot as usize) < tainted.len()
-}
-
 // The base alone, or the status: setting it again changes nothing.
-pub fn written_back(base: u32, next: u64, monitor: Monitor) -> Writes
-    ensures { result ≡ based_of base next monitor }
+pub fn written_back(back: Back) -> Writes
+    ensures { result ≡ based_of back.base back.next back.monitor }
 {
     Writes {
-        base,
-        next,
-        first: base,
-        value: next,
+        base: back.base,
+        next: back.next,
+        first: back.base,
+        value: back.next,
         taint: 0,
-        second: base,
-        value2: next,
+        second: back.base,
+        value2: back.next,
         taint2: 0,
-        monitor,
+        monitor: back.monitor,
     }
 }
 
 // What a load at an index sets.
-pub fn loads(
-    t: Transfer,
-    base: u32,
-    next: u64,
-    monitor: Monitor,
-    at: usize,
-    memory: &[u8],
-    taint: &[u8],
-) -> Writes
-    requires { (t.bytes ≤ t.extent) × (t.more ≤ t.extent) × (t.extent ≤ 8) × (at + total_of t ≤ length memory.now) × (length taint.now ≡ length memory.now) }
-    ensures { result ≡ loads_of t base next monitor at memory.now taint.now }
+pub fn loads(t: Transfer, back: Back, at: usize, bytes: &Bytes) -> Writes
+    requires { (t.bytes ≤ t.extent) × (t.more ≤ t.extent) × (t.extent ≤ 8) × (at + total_of t ≤ length bytes.now.memory.now) }
+    ensures { result ≡ loads_of t back.base back.next back.monitor at bytes.now.memory.now bytes.now.taint.now }
 {
-    let first = loaded_one(t.bytes, t.extent, at, memory, taint);
-    let second = loaded_one(t.more, t.extent, at + t.bytes as usize, memory, taint);
+    let first = loaded_one(t.bytes, t.extent, at, bytes);
+    let second = loaded_one(t.more, t.extent, at + t.bytes as usize, bytes);
     Writes {
-        base,
-        next,
+        base: back.base,
+        next: back.next,
         first: t.target,
         value: first.value,
         taint: first.taint,
         second: t.second,
         value2: second.value,
         taint2: second.taint,
-        monitor,
+        monitor: back.monitor,
     }
 }
 
@@ -110,15 +98,15 @@ struct Loaded {
 }
 
 // A load of n bytes. A single access has no second register, and no bytes for it.
-fn loaded_one(n: u32, extent: u32, at: usize, memory: &[u8], taint: &[u8]) -> Loaded
-    requires { (n ≤ extent) × (extent ≤ 8) × (at + n ≤ length memory.now) × (length taint.now ≡ length memory.now) }
-    ensures { result ≡ record { value = extended_of n extent (joined (span_of memory.now at n)); taint = loaded_taint at n extent taint.now } }
+fn loaded_one(n: u32, extent: u32, at: usize, bytes: &Bytes) -> Loaded
+    requires { (n ≤ extent) × (extent ≤ 8) × (at + n ≤ length bytes.now.memory.now) }
+    ensures { result ≡ record { value = extended_of n extent (joined (span_of bytes.now.memory.now at n)); taint = loaded_taint at n extent bytes.now.taint.now } }
 {
     if n == 0 {
         return Loaded { value: 0, taint: 0 };
     }
-    let number = memory::load(&memory[at..], n as usize);
-    let taints = memory::load_taints(&taint[at..], n as usize);
+    let number = memory::load(&bytes.memory[at..], n as usize);
+    let taints = memory::load_taints(&bytes.taint[at..], n as usize);
     Loaded {
         value: bits::extended(number, n, extent),
         taint: extended_taints(taints, n, extent),
@@ -137,22 +125,18 @@ fn extended_taints(taints: u64, n: u32, extent: u32) -> u64
 }
 
 // What a load of vector registers at an index sets of them.
-pub fn fills(t: Transfer, at: usize, memory: &[u8], taint: &[u8]) -> VectorWrites
-    requires { (t.bytes ≤ 16) × (t.more ≤ 16) × (32 ≤ t.target) × (32 ≤ t.second) × (at + total_of t ≤ length memory.now) × (length taint.now ≡ length memory.now) }
-    ensures { result ≡ fills_of t at memory.now taint.now }
+pub fn fills(t: Transfer, at: usize, bytes: &Bytes) -> VectorWrites
+    requires { (t.bytes ≤ 16) × (t.more ≤ 16) × (32 ≤ t.target) × (32 ≤ t.second) × (at + total_of t ≤ length bytes.now.memory.now) }
+    ensures { result ≡ fills_of t at bytes.now.memory.now bytes.now.taint.now }
 {
     let behind = at + t.bytes as usize;
-    let value = load_halves(t.bytes, at, memory);
-    let value2 = load_halves(t.more, behind, memory);
-    let taints = load_taints(t.bytes, at, taint);
-    let taints2 = load_taints(t.more, behind, taint);
     VectorWrites {
         first: t.target - 32,
-        value,
-        taint: taints,
+        value: load_halves(t.bytes, at, bytes.memory),
+        taint: load_taints(t.bytes, at, bytes.taint),
         second: t.second - 32,
-        value2,
-        taint2: taints2,
+        value2: load_halves(t.more, behind, bytes.memory),
+        taint2: load_taints(t.more, behind, bytes.taint),
     }
 }
 
@@ -196,61 +180,36 @@ pub fn stored(
     t: Transfer,
     status: u8,
     at: usize,
-    value: &[u64],
-    tainted: &[u64],
-    vectors: &[[u64; 2]; 32],
-    vector_taint: &[[u64; 2]; 32],
+    files: &Files,
     memory: &mut [u8],
     taint: &mut [u8],
 )
-    requires { Bounded t × Full value.now tainted.now vectors.now vector_taint.now × (at + total_of t ≤ length memory.old) × (length taint.old ≡ length memory.old) }
-    ensures { (memory.new ≡ stored_bytes (made_of t status) at (value.now ++ map wide vectors.now) memory.old) × (taint.new ≡ stored_taints (made_of t status) at (tainted.now ++ map wide vector_taint.now) taint.old) }
+    requires { Bounded t × (at + total_of t ≤ length memory.old) × (length taint.old ≡ length memory.old) }
+    ensures { (memory.new ≡ stored_bytes (made_of t status) at (files.now.value.now ++ map wide files.now.vectors.now) memory.old) × (taint.new ≡ stored_taints (made_of t status) at (files.now.tainted.now ++ map wide files.now.vector_taint.now) taint.old) }
 {
     if monitor::fails(t, status) {
         return;
     }
     let behind = at + t.bytes as usize;
     if vectors::is_vector(t.target) {
-        stored_vector(
-            t.target - 32,
-            t.bytes,
-            at,
-            vectors,
-            vector_taint,
-            memory,
-            taint,
-        );
-        stored_vector(
-            t.second - 32,
-            t.more,
-            behind,
-            vectors,
-            vector_taint,
-            memory,
-            taint,
-        );
+        stored_vector(t.target - 32, t.bytes, at, files, memory, taint);
+        stored_vector(t.second - 32, t.more, behind, files, memory, taint);
         return;
     }
-    stored_one(t.target, t.bytes, at, value, tainted, memory, taint);
-    stored_one(t.second, t.more, behind, value, tainted, memory, taint);
+    stored_one(t.target, t.bytes, at, files, memory, taint);
+    stored_one(t.second, t.more, behind, files, memory, taint);
 }
 
 // Memory and taints after a store of n bytes of one slot.
-fn stored_one(
-    slot: u32,
-    n: u32,
-    at: usize,
-    value: &[u64],
-    tainted: &[u64],
-    memory: &mut [u8],
-    taint: &mut [u8],
-)
+fn stored_one(slot: u32, n: u32, at: usize, files: &Files, memory: &mut [u8], taint: &mut [u8])
     requires { (at + n ≤ length memory.old) × (length taint.old ≡ length memory.old) }
-    ensures { (memory.new ≡ sets memory.old at (bytes_of n (slice_index value.now slot))) × (taint.new ≡ sets taint.old at (map normal (bytes_of n (slice_index tainted.now slot)))) }
+    ensures { (memory.new ≡ sets memory.old at (bytes_of n (slice_index files.now.value.now slot))) × (taint.new ≡ sets taint.old at (map normal (bytes_of n (slice_index files.now.tainted.now slot)))) }
 {
     if n == 0 {
         return;
     }
+    let value = files.value;
+    let tainted = files.tainted;
     let number = registers::value_in(value, slot);
     let taints = registers::value_in(tainted, slot);
     memory::store(&mut memory[at..], n as usize, number);
@@ -258,20 +217,12 @@ fn stored_one(
 }
 
 // Memory and taints after a store of n bytes of a vector register.
-fn stored_vector(
-    i: u32,
-    n: u32,
-    at: usize,
-    vectors: &[[u64; 2]; 32],
-    vector_taint: &[[u64; 2]; 32],
-    memory: &mut [u8],
-    taint: &mut [u8],
-)
+fn stored_vector(i: u32, n: u32, at: usize, files: &Files, memory: &mut [u8], taint: &mut [u8])
     requires { (at + n ≤ length memory.old) × (length taint.old ≡ length memory.old) }
-    ensures { (memory.new ≡ sets memory.old at (bytes_of n (number_of (halves_at vectors.now i)))) × (taint.new ≡ sets taint.old at (map normal (bytes_of n (number_of (halves_at vector_taint.now i))))) }
+    ensures { (memory.new ≡ sets memory.old at (bytes_of n (number_of (halves_at files.now.vectors.now i)))) × (taint.new ≡ sets taint.old at (map normal (bytes_of n (number_of (halves_at files.now.vector_taint.now i))))) }
 {
-    let number = vectors::halves_in(vectors, i);
-    let taints = vectors::halves_in(vector_taint, i);
+    let number = vectors::halves_in(files.vectors, i);
+    let taints = vectors::halves_in(files.vector_taint, i);
     store_halves(n, at, number, memory);
     store_halves(n, at, vectors::normal(taints), taint);
 }

@@ -1,8 +1,8 @@
--- `machine::effect::extended_taints` meets its contract. Assumes nothing.
+-- `machine::effects::extended_taints` meets its contract. Assumes nothing.
 use Rattle.std.proofs.Common.{ℕ, ◌*◌, ◌/◌, ap, ◌∙◌}
 use Rattle.bits.proofs.Extensions.{extended_exact}
 use Rattle.machine.proofs.Taints.{extended_none, taints_room}
-use Rattle.machine.proofs.effect.extended_taints.Goals as goal
+use Rattle.machine.proofs.effects.extended_taints.Goals as goal
 
 pub returns-then-taints-eq0 : goal.returns-then-taints-eq0
 returns-then-taints-eq0 c =

@@ -1,9 +1,9 @@
--- `machine::effect::load_taints` meets its contract. Assumes nothing.
+-- `machine::effects::load_taints` meets its contract. Assumes nothing.
 use Rattle.std.proofs.Common.{◌≡◌, ◌+◌, ◌-◌, min, arith}
 use Rattle.bits.specs.Bytes.{joined, span_of}
 use Rattle.memory.proofs.Spans.{span_back}
 use Rattle.memory.proofs.Taints.{span_normal}
-use Rattle.machine.proofs.effect.load_taints.Goals as goal
+use Rattle.machine.proofs.effects.load_taints.Goals as goal
 
 pub returns-then-n-le8 : goal.returns-then-n-le8
 unfolding joined span_of

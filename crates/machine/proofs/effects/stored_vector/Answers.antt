@@ -1,4 +1,4 @@
--- `machine::effect::stored_vector` meets its contract. Assumes nothing.
+-- `machine::effects::stored_vector` meets its contract. Assumes nothing.
 use Rattle.std.proofs.Common.{◌^◌, ◌<◌, map, ap, ◌∙◌, rules}
 use lib.Seq.{sets}
 use Rattle.bits.specs.Bytes.{bytes_of}
@@ -6,7 +6,7 @@ use Rattle.memory.specs.Taints.{normal}
 use Rattle.vectors.specs.declared.Halves.{Halves}
 use Rattle.vectors.specs.File.{number_of}
 use Rattle.vectors.proofs.Wide.{bytes_normal}
-use Rattle.machine.proofs.effect.stored_vector.Goals as goal
+use Rattle.machine.proofs.effects.stored_vector.Goals as goal
 
 pub returns : goal.returns
 returns c =
