@@ -15,13 +15,12 @@ use Rattle.ascii.specs.Ascii.{asc}
 use Rattle.mnemonic.specs.route.Names.{stem_at, name_at}
 use Rattle.text.specs.Texts.{word_text}
 use Rattle.text.proofs.Examples.{starred_examples}
-use Rattle.reader.specs.Types.{Reading}
 use Rattle.reader.specs.route.Scan.{plain_of, step_of, scan_start}
 use Rattle.reader.specs.route.Names.{letter_for, is_name, searched, name_for}
 use Rattle.reader.specs.route.Targets.{low_bits, target_at}
 use Rattle.reader.specs.route.Tails.{tail_at, plus_of, offset_at}
 use Rattle.reader.specs.route.Build.{offset_from, build_of}
-use Rattle.reader.specs.Reading.{LineOf, ReadOf}
+use Rattle.reader.specs.Reading.{Reading, LineOf, ReadOf}
 use Rattle.reader.specs.Examples.{new_line, old_line, HintsRead}
 use Rattle.reader.proofs.RoundTrip.{line_encodes, text_injective}
 

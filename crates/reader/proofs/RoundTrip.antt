@@ -16,10 +16,10 @@ use Rattle.instruction.specs.Encoded.{Encoded}
 use Rattle.encoder.specs.Exact.{Exact}
 use Rattle.encoder.proofs.RoundTrip.{encode_decoded, encode_exact, not_encoded}
 use Rattle.text.specs.Texts.{text_of, word_text}
-use Rattle.reader.specs.Types.{Done, NoSuchText, Reading}
+use Rattle.reader.specs.Types.{Done, NoSuchText}
 use Rattle.reader.specs.route.Scan.{step_of, scan_start}
 use Rattle.reader.specs.route.Build.{build_of}
-use Rattle.reader.specs.Reading.{LineOf, ReadOf}
+use Rattle.reader.specs.Reading.{Reading, LineOf, ReadOf}
 use Rattle.reader.proofs.Families.{family_comes}
 use Rattle.reader.proofs.Ranges.{in_range}
 

@@ -12,8 +12,8 @@ use Rattle.instruction.specs.Encoded.{Encoded}
 use Rattle.encoder.specs.Exact.{Exact}
 use Rattle.encoder.proofs.RoundTrip.{encode_decoded, encode_exact}
 use Rattle.text.specs.Texts.{text_of, word_text}
-use Rattle.reader.specs.Types.{Done, Instruction, Reading}
-use Rattle.reader.specs.Reading.{LineOf, ReadOf}
+use Rattle.reader.specs.Types.{Done, Instruction}
+use Rattle.reader.specs.Reading.{Reading, LineOf, ReadOf}
 use Rattle.reader.specs.Triangle.{Bijection, Allocated, Encodable, Readable}
 use Rattle.reader.proofs.RoundTrip.{text_injective}
 

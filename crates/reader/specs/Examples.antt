@@ -3,8 +3,7 @@ use Prim.Native.String.{String}
 use Rattle.std.specs.Prelude.{◌≡◌}
 use Rattle.instruction.specs.Answers.{answer_number}
 use Rattle.ascii.specs.Ascii.{asc}
-use Rattle.reader.specs.Types.{Reading}
-use Rattle.reader.specs.Reading.{ReadOf}
+use Rattle.reader.specs.Reading.{Reading, ReadOf}
 
 abbrev pub new_line : String
 new_line = "prfum pldl1keep, [x1]"

@@ -4,8 +4,8 @@ use Rattle.std.specs.Prelude.{ℕ, ◌^◌, ◌<◌, ◌≡◌, true, List}
 use Rattle.instruction.specs.Answers.{answer_number}
 use Rattle.instruction.specs.Table.{allocated}
 use Rattle.encoder.specs.Encoding.{encode_of}
-use Rattle.reader.specs.Types.{Instruction, Reading}
-use Rattle.reader.specs.Reading.{ReadOf}
+use Rattle.reader.specs.Types.{Instruction}
+use Rattle.reader.specs.Reading.{Reading, ReadOf}
 
 -- f leads from the members of A to those of B, to each from exactly one
 pub record Bijection {X Y : Type 0} (A : X → Type 0) (B : Y → Type 0) (f : X → Y) : Type 0 where

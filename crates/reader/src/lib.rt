@@ -3,7 +3,6 @@
 #![tactic(auto)]
 
 mod build;
-mod compare;
 mod first;
 mod name;
 mod scan;
@@ -12,54 +11,33 @@ mod tail;
 ghost use Rattle.std.specs.Prelude.{◌≡◌, true, ◌↔◌};
 ghost use Rattle.instruction.specs.Table.{allocated};
 ghost use Rattle.text.specs.Texts.{word_text};
-ghost use Rattle.reader.specs.Reading.{ReadOf};
+ghost use Rattle.reader.specs.Reading.{told, ReadOf};
 
-pub use compare::same;
 use instruction::Answer;
-use printer::write;
 use text::TEXT_MAX;
 
 // Room for any text, with eight bytes behind it, so that printer::write stores eight at a time.
 const BUFFER: usize = TEXT_MAX + 8;
 
-// What reading a text returns. The word is 0 where the text is refused.
-#[derive(Drop)]
-pub struct Reading {
-    pub answer: Answer,
-    pub word: u32,
-}
-
 // The allocated word whose line a text is, or answer 9. A text that is longer than any line is not looked at.
-pub fn read(text: &[u8]) -> Reading
-    ensures { ReadOf text.now result }
+pub fn read(text: &[u8]) -> Result<u32, Answer>
+    ensures { ReadOf text.now (told result) }
 {
-    let refused = Reading {
-        answer: Answer::NoSuchText,
-        word: 0,
-    };
     if text.len() > TEXT_MAX {
-        return refused;
+        return Err(Answer::NoSuchText);
     }
-    let encoded = encoder::encode(build::build(scan::scan_text(text)));
-    let word = encoded.word;
-    if decoder::is_allocated(word) {
-        if is_line(word, text) {
-            return Reading {
-                answer: Answer::Done,
-                word,
-            };
-        }
+    match encoder::encode(build::build(scan::scan_text(text))) {
+        Ok(word) if is_line(word, text) => Ok(word),
+        _ => Err(Answer::NoSuchText),
     }
-    refused
 }
 
-// Whether a text is the line of an allocated word.
+// Whether a text is the line of an allocated word, which has room in the buffer.
 fn is_line(word: u32, text: &[u8]) -> bool
     requires { allocated word ≡ true }
     ensures { (result ≡ true) ↔ (word_text word ≡ text.now) }
 {
     let mut buffer = [0u8; BUFFER];
-    let written = write(word, &mut buffer);
-    let length = written.length;
-    compare::same(&buffer[..length], text)
+    let length = printer::write(word, &mut buffer).unwrap_or(0);
+    &buffer[..length] == text
 }
