@@ -12,13 +12,13 @@ ghost use Rattle.plan.specs.Admission.{total_of};
 ghost use Rattle.machine.specs.Monitor.{made_of};
 ghost use Rattle.machine.specs.Rule.{stored_taints};
 ghost use Rattle.machine.specs.Machine.{stored_bytes, code_of};
-ghost use Rattle.machine.specs.route.Writing.{based_of, loads_of, halves_in, fills_of};
+ghost use Rattle.machine.specs.route.Writing.{based_of, loads_of, halves_in, fill_of, fills_of};
 
 use crate::files::{Bytes, Files};
 use crate::monitor;
 use crate::monitor::Monitor;
 use access::Transfer;
-use vectors::{Halves, VectorWrites};
+use vectors::{Halves, VectorWrite, VectorWrites};
 
 // What a step sets in the register file, in this order: the base or the status that is written, which is then untainted, and
 // the two registers that are loaded; then the monitor. A number above 31 sets no register.
@@ -131,12 +131,20 @@ pub fn fills(t: Transfer, at: usize, bytes: &Bytes) -> VectorWrites
 {
     let behind = at + t.bytes as usize;
     VectorWrites {
-        first: t.target - 32,
-        value: load_halves(t.bytes, at, bytes.memory),
-        taint: load_taints(t.bytes, at, bytes.taint),
-        second: t.second - 32,
-        value2: load_halves(t.more, behind, bytes.memory),
-        taint2: load_taints(t.more, behind, bytes.taint),
+        first: fill(t.target - 32, t.bytes, at, bytes),
+        second: fill(t.second - 32, t.more, behind, bytes),
+    }
+}
+
+// What n bytes at an index fill of a vector register.
+fn fill(number: u32, n: u32, at: usize, bytes: &Bytes) -> VectorWrite
+    requires { (n ≤ 16) × (at + n ≤ length bytes.now.memory.now) }
+    ensures { result ≡ fill_of number n at bytes.now.memory.now bytes.now.taint.now }
+{
+    VectorWrite {
+        number,
+        value: load_halves(n, at, bytes.memory),
+        taint: load_taints(n, at, bytes.taint),
     }
 }
 

@@ -5,7 +5,7 @@ use mathlib.Core.List.{List, [], ◌∷◌, ◌++◌, append-nil}
 use native.Mathlib.Nat.{add-suc, add-zero}
 use native.Mathlib.Omega.{arith}
 use lib.ListN.{length, take, drop, set, take-append-drop, length-drop, drop_of_length-le}
-use lib.Seq.{sets, drop-set-add, take-set-le, get_or-drop, take_all}
+use lib.Seq.{sets, drop-set-add, take-set-le, get_or-drop, take_all, set_out}
 use borrow.Rule.Slice.PartMut.{mid_of, put_mid}
 use Rattle.bits.specs.Bytes.{bytes_of, span_of}
 
@@ -16,6 +16,16 @@ left h = omega arith
 pub bytes_left : {n i : ℕ} (v : ℕ) → i < n → bytes_of (n - i) v ≡ v % 256 ∷ bytes_of (n - suc i) (v / 256)
 unfolding bytes_of
 bytes_left v h = rw (left h)
+
+-- past the end nothing is stored
+sets_out : (bs xs : List ℕ) (i : ℕ) → length xs ≤ i → sets xs i bs ≡ xs
+sets_out [] xs i h = refl
+sets_out (b ∷ bs) xs i h = rw (set_out xs i b h) (sets_out bs xs (suc i) (omega arith))
+
+pub sets_end : (xs : List ℕ) (i n v : ℕ) → (0 < n → length xs ≤ i) → sets xs i (bytes_of n v) ≡ xs
+unfolding bytes_of
+sets_end xs i zero v h = refl
+sets_end xs i (suc n) v h = sets_out (bytes_of (suc n) v) xs i (h (omega arith))
 
 -- stores into a part that starts at an index are stores into the whole
 sets_part : (bs xs : List ℕ) (at i : ℕ) → take at xs ++ sets (drop at xs) i bs ≡ sets xs (at + i) bs

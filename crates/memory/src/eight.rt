@@ -6,6 +6,7 @@ ghost use Rattle.bits.specs.Bytes.{bytes_of};
 ghost use Rattle.bits.specs.route.Joins.{under};
 
 // The low n bytes of a number.
+#[tactic(auto, using(crate::proofs::Masks::masked))]
 pub fn cut(number: u64, n: usize) -> u64
     requires { n ≤ 8 }
     ensures { result ≡ number % 256 ^ n }
@@ -14,14 +15,12 @@ pub fn cut(number: u64, n: usize) -> u64
 }
 
 // The largest number of n bytes.
+#[tactic(auto, using(crate::proofs::Masks::ones))]
 fn mask(n: usize) -> u64
     requires { n ≤ 8 }
     ensures { result ≡ 256 ^ n - 1 }
 {
-    if n == 0 {
-        return 0;
-    }
-    u64::MAX >> (64 - 8 * n)
+    if n == 0 { 0 } else { u64::MAX >> (64 - 8 * n) }
 }
 
 // Puts the low n bytes of a number at the start of a part, as eight bytes of which the others are those that are there.
@@ -41,23 +40,10 @@ fn merged(old: u64, n: usize, number: u64) -> u64
     old - low + cut(number, n)
 }
 
+#[tactic(auto, unfolding(bits::specs::Bytes::bytes_of))]
 fn put_eight(part: &mut [u8], number: u64)
     requires { 8 ≤ length part.old }
     ensures { part.new ≡ sets part.old 0 (bytes_of 8 number) }
 {
-    let b = number / 256;
-    let c = b / 256;
-    let d = c / 256;
-    let e = d / 256;
-    let f = e / 256;
-    let g = f / 256;
-    let h = g / 256;
-    part[0] = (number % 256) as u8;
-    part[1] = (b % 256) as u8;
-    part[2] = (c % 256) as u8;
-    part[3] = (d % 256) as u8;
-    part[4] = (e % 256) as u8;
-    part[5] = (f % 256) as u8;
-    part[6] = (g % 256) as u8;
-    part[7] = (h % 256) as u8;
+    part[..8].copy_from_slice(&number.to_le_bytes());
 }

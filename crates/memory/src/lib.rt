@@ -16,24 +16,20 @@ pub use ones::normal;
 pub fn store(part: &mut [u8], n: usize, number: u64)
     ensures { part.new ≡ sets part.old 0 (bytes_of n number) }
 {
-    if part.len() >= 8 {
-        if n <= 8 {
-            eight::put_low(part, n, number);
-            return;
-        }
+    if n <= 8 && part.len() >= 8 {
+        eight::put_low(part, n, number);
+    } else {
+        store_by_byte(part, n, number);
     }
-    store_by_byte(part, n, number);
 }
 
 fn store_by_byte(part: &mut [u8], n: usize, number: u64)
     ensures { part.new ≡ sets part.old 0 (bytes_of n number) }
 {
-    let mut i = 0;
     let mut rest = number;
-    while i < n {
-        set_byte(part, i, (rest % 256) as u8);
-        rest = rest / 256;
-        i += 1;
+    for i in 0..n.min(part.len()) {
+        part[i] = (rest % 256) as u8;
+        rest /= 256;
     }
 }
 
@@ -48,29 +44,12 @@ pub fn store_taints(part: &mut [u8], n: usize, taints: u64)
 pub fn load(part: &[u8], n: usize) -> u64
     ensures { (result ≡ joined (span_of part.now 0 (min n 8))) × (result < 256 ^ min n 8) }
 {
-    eight::cut(bits::eight_at(part, 0), at_most_8(n))
+    eight::cut(bits::eight_at(part, 0), n.min(8))
 }
 
 // The number that the first n taint bytes make, at most 8 of them, each as 0 or 1.
 pub fn load_taints(part: &[u8], n: usize) -> u64
     ensures { (result ≡ joined (map normal (span_of part.now 0 (min n 8)))) × (result * 255 < 256 ^ min n 8) }
 {
-    ones::normal(eight::cut(bits::eight_at(part, 0), at_most_8(n)))
-}
-
-fn set_byte(part: &mut [u8], i: usize, byte: u8)
-    ensures { part.new ≡ set part.old i byte }
-{
-    if i < part.len() {
-        part[i] = byte;
-    }
-}
-
-fn at_most_8(n: usize) -> usize
-    ensures { result ≡ min n 8 }
-{
-    if n < 8 {
-        return n;
-    }
-    8
+    ones::normal(eight::cut(bits::eight_at(part, 0), n.min(8)))
 }

@@ -5,9 +5,5 @@ ghost use Rattle.std.specs.Prelude.{◌≡◌, get_or};
 pub fn value_in(value: &[u64], n: u32) -> u64
     ensures { result ≡ get_or value.now n 0 }
 {
-    let i = n as usize;
-    if i < value.len() {
-        return value[i];
-    }
-    0
+    value.get(n as usize).copied().unwrap_or(0)
 }

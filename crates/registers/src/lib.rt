@@ -11,6 +11,7 @@ ghost use Rattle.registers.specs.File.{zero_slot, value_at, taints_at, set_at};
 
 pub use lent::value_in;
 
+// Two arrays and not one of pairs, since the C interface has them so.
 #[repr(C)]
 #[derive(Clone, Copy)]
 pub struct Registers {
@@ -22,31 +23,20 @@ pub struct Registers {
 pub fn zero_slot(n: u32) -> u32
     ensures { result ≡ zero_slot n }
 {
-    if n == 31 {
-        return 64;
-    }
-    n
+    if n == 31 { 64 } else { n }
 }
 
 impl Registers {
     pub fn get(self, n: u32) -> u64
         ensures { result ≡ value_at self n }
     {
-        if n < 32 {
-            let i = n as usize;
-            return self.value[i];
-        }
-        0
+        value_in(&self.value, n)
     }
 
     pub fn taints(self, n: u32) -> u64
         ensures { result ≡ taints_at self n }
     {
-        if n < 32 {
-            let i = n as usize;
-            return self.taint[i];
-        }
-        0
+        value_in(&self.taint, n)
     }
 
     pub fn set(mut self, n: u32, value: u64, taints: u64) -> Self

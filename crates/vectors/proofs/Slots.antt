@@ -1,5 +1,5 @@
 -- General registers and vector registers as one list of 64: what is read and set at a slot. Assumes nothing.
-use Prim.Native.Nat.{ℕ, zero, suc, ◌+◌, ◌-◌, ◌/◌, ◌≤◌, ◌<◌}
+use Prim.Native.Nat.{ℕ, zero, suc, ◌-◌, ◌/◌, ◌≤◌, ◌<◌}
 use mathlib.Core.Path.{◌≡◌, refl, sym, ap, ◌∙◌}
 use mathlib.Core.Bool.{Bool, true, false}
 use mathlib.Core.List.{List, [], ◌∷◌, ◌++◌, map}
@@ -8,7 +8,8 @@ use native.Mathlib.Omega.{arith}
 use borrow.Author.Tests.{eqb-true, eqb-false, ltb-true, ltb-false}
 use lib.Dec.{eqb, ltb}
 use lib.ListN.{length, get_or, set, length-set, length-append, get_or-append, get_or-eq_default, get_or-map}
-use lib.Seq.{get_or-append-add, set-append_left, set_out}
+use lib.Seq.{set-append_left, set_out}
+use Rattle.std.proofs.lemmas.List.{map-set, get_or-append_right, set-append_right}
 use Rattle.vectors.specs.declared.Halves.{Halves}
 use Rattle.vectors.specs.File.{wide, number_of, halves_at, with_vector, vector_slot, files_after, taints_after, no_writes}
 use Rattle.vectors.specs.route.Slots.{Plain}
@@ -30,19 +31,12 @@ plain slot p = plain_at slot (ltb slot 32) refl p
 pub vector_low : (slot : ℕ) → vector_slot slot ≡ true → (32 ≤ slot) × (slot < 64)
 vector_low slot e = let d : slot / 32 ≡ 1 = eqb-true (slot / 32) 1 e in (omega arith, omega arith)
 
-set_append_add : {A : Type 0} (xs ys : List A) (n : ℕ) (a : A) → set (xs ++ ys) (length xs + n) a ≡ xs ++ set ys n a
-set_append_add [] ys n a = rw (native.Mathlib.Nat.zero-add n)
-set_append_add (x ∷ xs) ys n a = rw (native.Mathlib.Nat.suc-add (length xs) n) (ap (λ zs. x ∷ zs) (set_append_add xs ys n a))
-
 module _ (v w : List ℕ) (general : length v ≡ 32) where
-  over : (slot : ℕ) → 32 ≤ slot → slot ≡ length v + (slot - 32)
-  over slot h = rw general (omega arith)
-
   pub vector_get : (slot : ℕ) → 32 ≤ slot → get_or (v ++ w) slot 0 ≡ get_or w (slot - 32) 0
-  vector_get slot h = ap (λ (i : ℕ). get_or (v ++ w) i 0) (over slot h) ∙ get_or-append-add v w (slot - 32) 0
+  vector_get slot h = get_or-append_right v w 32 slot 0 general h
 
   pub vector_set : (slot x : ℕ) → 32 ≤ slot → set (v ++ w) slot x ≡ v ++ set w (slot - 32) x
-  vector_set slot x h = ap (λ (i : ℕ). set (v ++ w) i x) (over slot h) ∙ set_append_add v w (slot - 32) x
+  vector_set slot x h = set-append_right v w 32 slot x general h
 
   module _ (vectors : length w ≡ 32) where
     all : length (v ++ w) ≡ 64
@@ -64,13 +58,8 @@ module _ (v w : List ℕ) (general : length v ≡ 32) where
 
 -- ---- vector registers as numbers
 
-map_set : {A B : Type 0} (f : A → B) (xs : List A) (i : ℕ) (y : A) → map f (set xs i y) ≡ set (map f xs) i (f y)
-map_set f [] i y = refl
-map_set f (x ∷ xs) zero y = refl
-map_set f (x ∷ xs) (suc i) y = ap (λ zs. f x ∷ zs) (map_set f xs i y)
-
 pub wide_set : (file : List (List ℕ)) (n : ℕ) (h : Halves) → map wide (with_vector file n h) ≡ set (map wide file) n (number_of h)
-wide_set file n h = map_set wide file n (h.low ∷ h.high ∷ [])
+wide_set file n h = map-set wide file n (h.low ∷ h.high ∷ [])
 
 pub wide_get : (file : List (List ℕ)) (n : ℕ) → get_or (map wide file) n 0 ≡ number_of (halves_at file n)
 wide_get file n = get_or-map wide file n []

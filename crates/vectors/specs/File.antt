@@ -5,6 +5,7 @@ use Rattle.std.specs.Prelude.{ℕ, ◌+◌, ◌*◌, ◌^◌, ◌/◌, ◌<◌, 
 use Rattle.bits.specs.Bytes.{bytes_of, joined}
 use Rattle.memory.specs.Taints.{normal}
 use Rattle.vectors.specs.declared.Halves.{Halves}
+use Rattle.vectors.specs.declared.VectorWrite.{VectorWrite}
 use Rattle.vectors.specs.declared.VectorWrites.{VectorWrites}
 
 -- a register as one number
@@ -38,14 +39,17 @@ vector_slot slot = eqb (slot / 32) 1
 -- ---- what a step writes
 
 abbrev pub files_after : VectorWrites → List (List ℕ) → List (List ℕ)
-files_after w file = with_vector (with_vector file w.first w.value) w.second w.value2
+files_after w file = with_vector (with_vector file w.first.number w.first.value) w.second.number w.second.value
 
 abbrev pub taints_after : VectorWrites → List (List ℕ) → List (List ℕ)
-taints_after w file = with_vector (with_vector file w.first w.taint) w.second w.taint2
+taints_after w file = with_vector (with_vector file w.first.number w.first.taint) w.second.number w.second.taint
 
 -- nothing is written
 abbrev pub no_halves : Halves
 no_halves = record { low = 0; high = 0 }
 
+abbrev pub no_write : VectorWrite
+no_write = record { number = 32; value = no_halves; taint = no_halves }
+
 abbrev pub no_writes : VectorWrites
-no_writes = record { first = 32; value = no_halves; taint = no_halves; second = 32; value2 = no_halves; taint2 = no_halves }
+no_writes = record { first = no_write; second = no_write }

@@ -5,21 +5,25 @@
 ghost use Rattle.std.specs.Prelude.{◌≡◌};
 ghost use Rattle.vectors.specs.File.{halves_at, with_vector, vector_slot, normal_halves, files_after, taints_after, no_writes, Held};
 
-#[derive(Clone, Copy)]
+#[derive(Clone, Copy, Default)]
 pub struct Halves {
     pub low: u64,
     pub high: u64,
 }
 
-// What a step writes to the vector registers, in this order; a number above 31 writes none.
+// What is written to one vector register; a number above 31 writes none.
 #[derive(Clone, Copy)]
-pub struct VectorWrites {
-    pub first: u32,
+pub struct VectorWrite {
+    pub number: u32,
     pub value: Halves,
     pub taint: Halves,
-    pub second: u32,
-    pub value2: Halves,
-    pub taint2: Halves,
+}
+
+// What a step writes to the vector registers, in this order.
+#[derive(Clone, Copy)]
+pub struct VectorWrites {
+    pub first: VectorWrite,
+    pub second: VectorWrite,
 }
 
 // Whether a slot of the machine is a vector register.
@@ -33,15 +37,11 @@ pub fn is_vector(slot: u32) -> bool
 pub fn halves_in(file: &[[u64; 2]; 32], n: u32) -> Halves
     ensures { result ≡ halves_at file.now n }
 {
-    held(*file);
-    if n < 32 {
-        let row = file[n as usize];
-        return Halves {
-            low: row[0],
-            high: row[1],
-        };
+    if let Some(&[low, high]) = file.get(n as usize) {
+        Halves { low, high }
+    } else {
+        Halves::default()
     }
-    Halves { low: 0, high: 0 }
 }
 
 // Two halves of taints, with each byte 0 or 1.
@@ -61,84 +61,68 @@ pub fn get(file: [[u64; 2]; 32], n: u32) -> Halves
     halves_in(&file, n)
 }
 
-pub fn set(file: [[u64; 2]; 32], n: u32, value: Halves) -> [[u64; 2]; 32]
+pub fn set(mut file: [[u64; 2]; 32], n: u32, value: Halves) -> [[u64; 2]; 32]
     ensures { result ≡ with_vector file n value }
 {
-    let mut next = file;
-    if n < 32 {
-        let i = n as usize;
-        next[i] = [value.low, value.high];
-    }
-    next
+    put(&mut file, n, value);
+    file
 }
 
 // A register of a file that is lent is set in place.
 pub fn put(file: &mut [[u64; 2]; 32], n: u32, value: Halves)
     ensures { file.new ≡ with_vector file.old n value }
 {
-    held(*file);
     if n < 32 {
-        let i = n as usize;
-        file[i] = [value.low, value.high];
+        file[n as usize] = [value.low, value.high];
     }
 }
 
 // The file after what a step writes.
-pub fn written(file: [[u64; 2]; 32], w: VectorWrites) -> [[u64; 2]; 32]
+pub fn written(mut file: [[u64; 2]; 32], w: VectorWrites) -> [[u64; 2]; 32]
     ensures { result ≡ files_after w file }
 {
-    let value = w.value;
-    let value2 = w.value2;
-    set(set(file, w.first, value), w.second, value2)
+    write(&mut file, w);
+    file
 }
 
-pub fn written_taint(vector_taint: [[u64; 2]; 32], w: VectorWrites) -> [[u64; 2]; 32]
+pub fn written_taint(mut vector_taint: [[u64; 2]; 32], w: VectorWrites) -> [[u64; 2]; 32]
     ensures { result ≡ taints_after w vector_taint }
 {
-    let taint = w.taint;
-    let taint2 = w.taint2;
-    set(set(vector_taint, w.first, taint), w.second, taint2)
+    write_taint(&mut vector_taint, w);
+    vector_taint
 }
 
 // The same of a file that is lent.
 pub fn write(file: &mut [[u64; 2]; 32], w: VectorWrites)
     ensures { file.new ≡ files_after w file.old }
 {
-    let value = w.value;
-    let value2 = w.value2;
-    put(file, w.first, value);
-    put(file, w.second, value2);
+    put(file, w.first.number, w.first.value);
+    put(file, w.second.number, w.second.value);
 }
 
 pub fn write_taint(vector_taint: &mut [[u64; 2]; 32], w: VectorWrites)
     ensures { vector_taint.new ≡ taints_after w vector_taint.old }
 {
-    let taint = w.taint;
-    let taint2 = w.taint2;
-    put(vector_taint, w.first, taint);
-    put(vector_taint, w.second, taint2);
+    put(vector_taint, w.first.number, w.first.taint);
+    put(vector_taint, w.second.number, w.second.taint);
 }
 
 // What is known of an array by its type alone, for who holds it behind a reference only. No code comes of it.
 pub fn held(file: [[u64; 2]; 32])
     ensures { Held file }
-{
-    nothing();
-}
-
-fn nothing() {}
+{}
 
 // Nothing is written.
 pub fn no_writes() -> VectorWrites
     ensures { result ≡ no_writes }
 {
-    let none = Halves { low: 0, high: 0 };
+    let none = VectorWrite {
+        number: 32,
+        value: Halves::default(),
+        taint: Halves::default(),
+    };
     VectorWrites {
-        first: 32,
-        value: none,
-        taint: none,
-        second: 32,
-        value2: none,
-        taint2: none,
+        first: none,
+        second: none,
     }
 }

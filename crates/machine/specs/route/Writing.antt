@@ -9,6 +9,7 @@ use Rattle.memory.specs.Sources.{loaded_taint}
 use Rattle.registers.specs.declared.Registers.{Registers}
 use Rattle.registers.specs.File.{set_at}
 use Rattle.vectors.specs.declared.Halves.{Halves}
+use Rattle.vectors.specs.declared.VectorWrite.{VectorWrite}
 use Rattle.vectors.specs.declared.VectorWrites.{VectorWrites}
 use Rattle.vectors.specs.File.{files_after, taints_after, no_writes, vector_slot}
 use Rattle.instruction.specs.declared.answer.Answer.TheVariants.{Done}
@@ -64,17 +65,13 @@ loads_of t base next monitor at m k =
 abbrev pub halves_in : List ℕ → ℕ → ℕ → Halves
 halves_in m at n = record { low = joined (span_of m at (min n 8)); high = joined (span_of m (at + 8) (n - 8)) }
 
+-- what n bytes at an index fill of a vector register
+abbrev pub fill_of : ℕ → ℕ → ℕ → List ℕ → List ℕ → VectorWrite
+fill_of number n at m k = record { number = number; value = halves_in m at n; taint = halves_in (map normal k) at n }
+
 -- a load of vector registers at an index
 abbrev pub fills_of : Transfer → ℕ → List ℕ → List ℕ → VectorWrites
-fills_of t at m k =
-    record {
-      first = t.target - 32;
-      value = halves_in m at t.bytes;
-      taint = halves_in (map normal k) at t.bytes;
-      second = t.second - 32;
-      value2 = halves_in m (at + t.bytes) t.more;
-      taint2 = halves_in (map normal k) (at + t.bytes) t.more;
-    }
+fills_of t at m k = record { first = fill_of (t.target - 32) t.bytes at m k; second = fill_of (t.second - 32) t.more (at + t.bytes) m k }
 
 -- ---- what an access that is made decides
 

@@ -9,4 +9,4 @@ returns c =
     let m = min c.args.n 8 in
     let few : m ≤ 8 = omega arith in
     let joins = low m few c.eight_at.ensures in
-    rw (c.cut.ensures, c.at_most_8.ensures) (number joins, joins.fits)
+    rw (c.cut.ensures, c.min.ensures) (number joins, joins.fits)

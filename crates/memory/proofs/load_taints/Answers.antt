@@ -7,7 +7,7 @@ use Rattle.memory.proofs.load_taints.Goals as goal
 
 pub returns : goal.returns
 returns c =
-    let bound = c.at_most_8 in
+    let bound = c.min in
     let m = bound.result in
     let few : m ≤ 8 = omega (arith, bound.ensures) in
     let joins = low m few c.eight_at.ensures in
