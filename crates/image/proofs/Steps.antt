@@ -10,10 +10,11 @@ use lib.ListN.{length, get_or, take}
 use lib.Seq.{get_or-take}
 use Rattle.bits.specs.Choice.{pick}
 use Rattle.instruction.specs.declared.answer.Answer.{Answer}
-use Rattle.instruction.specs.declared.answer.Answer.TheVariants.{Malformed}
+use Rattle.instruction.specs.declared.answer.Answer.TheVariants.{Done, Malformed}
 use Rattle.instruction.specs.Answers.{answer_number}
-use Rattle.plan.specs.Refusals.{Refusal, first_of, answer_in}
-use Rattle.plan.proofs.Refusals.{by_answer}
+use Rattle.plan.specs.Refusals.{Refusal, first_of, answer_in, verdict_in}
+use Rattle.plan.proofs.Refusals.{Each, by_answer}
+use Rattle.std.specs.Prelude.{Result, Ok, Err}
 use Rattle.image.specs.declared.Reply.{Reply}
 use Rattle.image.specs.Lines.{lines_of, count_in}
 use Rattle.image.specs.Records.{type_in, sum_in, bad_count, is_end, upper_after, places_in, places_of}
@@ -73,6 +74,19 @@ module _ (t : List ℕ) (h : begins t ≡ true) where
 
 -- ---- one line of the check
 
+-- what a line's faults come to as a result, and as an answer
+abbrev pub Settles : Result (Unit {0}) Answer → Answer → Type 0
+Settles (Ok u) a = a ≡ Done
+Settles (Err e) a = (a ≡ e) × (answer_number e ≡ 0 → ⊥)
+
+settles_at : (b : Bool) (e : Answer) (r : Result (Unit {0}) Answer) (a : Answer) → (answer_number e ≡ 0 → ⊥) → Settles r a → Settles (pick b (Err e) r) (pick b e a)
+settles_at true e r a z h = (refl, z)
+settles_at false e r a z h = h
+
+settles : (es : List Refusal) → Each (λ e. ¬ (answer_number e.answer ≡ 0)) es → Settles (verdict_in es) (answer_in es)
+settles [] z = refl
+settles (e ∷ es) z = settles_at e.holds e.answer (verdict_in es) (answer_in es) z.0 (settles es z.1)
+
 shapeless : {A : Type 0} (refuse : Answer → ℕ → A) (done : A) (origin len : ℕ) (ended : Bool) (upper : ℕ) (l : List ℕ)
     → first_of refuse done (faults_in origin len false ended upper l) ≡ refuse Malformed 0
 unfolding faults_in
@@ -93,6 +107,10 @@ module _ (origin len n : ℕ) (ended : Bool) (upper : ℕ) where
 
   abbrev pub faults_here : List ℕ → List Refusal
   faults_here t = faults_in origin len (begins t) ended upper t
+
+  pub settled : (t : List ℕ) (r : Result (Unit {0}) Answer) → r ≡ verdict_in (faults_here t) → Settles r (answer_in (faults_here t))
+  unfolding faults_in
+  settled t r e = rw e (settles (faults_here t) ((λ h. omega arith), ((λ h. omega arith), ((λ h. omega arith), ((λ h. omega arith), tt)))))
 
   check_first : (t : List ℕ) → 0 < length t → checked origin len n ended upper (lines_of t) ≡ first_of (λ answer address. reply answer n) (next t) (faults_here t)
   check_first [] l = absurd (omega arith)

@@ -1,5 +1,5 @@
 -- The tests of one line, as code makes them. Assumes nothing.
-use Prim.Native.Nat.{ℕ, ◌+◌, ◌*◌, ◌%◌, ◌≤◌, ◌<◌}
+use Prim.Native.Nat.{ℕ, ◌+◌, ◌*◌, ◌%◌, ◌<◌}
 use mathlib.Core.Path.{◌≡◌, refl, ◌∙◌}
 use mathlib.Core.Bool.{Bool, true, false}
 use mathlib.Core.List.{List, []}
@@ -7,6 +7,7 @@ use native.Mathlib.Nat.{zero-add}
 use native.Mathlib.Omega.{arith}
 use borrow.Author.Tests.{ne_eqb}
 use lib.Dec.{eqb}
+use Rattle.std.specs.Prelude.{Option, Some, None, MatchOption, unwrap_or}
 use lib.ListN.{get_or}
 use Rattle.bits.specs.Choice.{pick}
 use Rattle.image.specs.Lines.{digit_of, digits_in, byte_in, bytes_in}
@@ -14,9 +15,14 @@ use Rattle.image.specs.route.Rest.{begins, Sums}
 use Rattle.image.specs.Records.{total, sum_in, upper_after, placed, places_in}
 use Rattle.image.proofs.Loops.{summed_is}
 
-pub byte_is : (l : List ℕ) (i h d : ℕ) → h ≡ digit_of (get_or l (2 * i + 1) 0) → d ≡ digit_of (get_or l (2 * i + 2) 0) → h % 16 * 16 + d % 16 ≡ byte_in l i
+half : (v : ℕ) (r : Option ℕ) → MatchOption r (v ≡ 16) (λ d. (d ≡ v) × (d < 16)) → unwrap_or r 0 ≡ v % 16
+half v None e = rw e
+half v (Some d) e = rw (← e.0) (omega (arith, e.1))
+
+pub byte_is : (l : List ℕ) (i x y h d : ℕ) (r s : Option ℕ) → x ≡ get_or l (2 * i + 1) 0 → MatchOption r (digit_of x ≡ 16) (λ k. (k ≡ digit_of x) × (k < 16)) → h ≡ unwrap_or r 0
+    → y ≡ get_or l (2 * i + 2) 0 → MatchOption s (digit_of y ≡ 16) (λ k. (k ≡ digit_of y) × (k < 16)) → d ≡ unwrap_or s 0 → h * 16 + d ≡ byte_in l i
 unfolding byte_in
-byte_is l i h d e f = rw (e, f)
+byte_is l i x y h d r s e f g p q t = rw (← e, ← p, g, half (digit_of x) r f, t, half (digit_of y) s q)
 
 -- ---- shape and sum at once
 
@@ -42,14 +48,14 @@ module _ (l : List ℕ) (b n e : ℕ) (colon : b ≡ get_or l 0 0) (is : b ≡ 5
   unfolding sum_in
   sum_is k r h f g = h.is ∙ rw (begins_is, f, g, ← count) (rw (zero-add (total (bytes_in l 0 (5 + n)))) at (summed_is l (5 + n) 0 0))
 
--- what is no sum is no line
-sum_line_at : (b : Bool) (r s : ℕ) → s < 256 → r ≡ pick b s 256 → (255 < r → b ≡ false) × (r ≤ 255 → (b ≡ true) × (r ≡ s))
-sum_line_at true r s l e = ((λ h. absurd (omega arith)), (λ h. (refl, e)))
-sum_line_at false r s l e = ((λ h. refl), (λ h. absurd (omega arith)))
+-- what has no sum is no line
+none_at : (b : Bool) (s : ℕ) → s < 256 → 256 ≡ pick b s 256 → b ≡ false
+none_at true s l e = absurd (omega arith)
+none_at false s l e = refl
 
-pub sum_line : (l : List ℕ) (r : ℕ) → r ≡ pick (begins l) (sum_in l) 256 → (255 < r → begins l ≡ false) × (r ≤ 255 → (begins l ≡ true) × (r ≡ sum_in l))
+pub sum_none : (l : List ℕ) → 256 ≡ pick (begins l) (sum_in l) 256 → begins l ≡ false
 unfolding sum_in
-sum_line l r e = sum_line_at (begins l) r (sum_in l) (omega arith) e
+sum_none l e = none_at (begins l) (sum_in l) (omega arith) e
 
 module _ (l : List ℕ) (upper k : ℕ) (kind : k ≡ byte_in l 3) where
   pub upper_set : (n x y : ℕ) → k ≡ 4 → n ≡ byte_in l 0 → n ≡ 2 → x ≡ byte_in l 4 → y ≡ byte_in l 5 → x * 256 + y ≡ upper_after upper l
@@ -64,9 +70,9 @@ module _ (l : List ℕ) (upper k : ℕ) (kind : k ≡ byte_in l 3) where
   unfolding upper_after
   upper_kept h = rw (← kind, ne_eqb k 4 h)
 
-  pub places_data : (n x y : ℕ) → k ≡ 0 → x ≡ byte_in l 1 → y ≡ byte_in l 2 → n ≡ byte_in l 0 → placed (upper * 65536 + (x * 256 + y)) (bytes_in l 4 n) ≡ places_in upper l
+  pub places_data : (n first : ℕ) → k ≡ 0 → first ≡ upper * 65536 + (byte_in l 1 * 256 + byte_in l 2) → n ≡ byte_in l 0 → placed first (bytes_in l 4 n) ≡ places_in upper l
   unfolding places_in
-  places_data n x y zero e f count = rw (← kind, zero, e, f, count)
+  places_data n first zero e count = rw (← kind, zero, e, count)
 
   pub places_none : (k ≡ 0 → ⊥) → [] ≡ places_in upper l
   unfolding places_in

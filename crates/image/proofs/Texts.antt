@@ -1,105 +1,61 @@
--- The loops over a whole text, and what is returned. A rest is lent as `take (length text - at) (drop at text)`. Assumes nothing.
-use Prim.Native.Nat.{ℕ, ◌+◌, ◌-◌, ◌*◌, ◌≤◌, ◌<◌}
+-- The loops over a whole text, and what is returned. Assumes nothing.
+use Rattle.std.specs.Prelude.{Ok, Err}
+use Prim.Native.Nat.{ℕ, ◌+◌, ◌*◌, ◌<◌}
 use mathlib.Core.Path.{◌≡◌, sym, ap, ◌∙◌}
 use mathlib.Core.Bool.{Bool, true, false}
-use mathlib.Core.List.{List, []}
+use mathlib.Core.List.{List}
 use native.Mathlib.Numerals.{add-one}
 use native.Mathlib.Omega.{arith}
-use borrow.Author.Tests.{eq-eqb, ne_eqb}
+use borrow.Author.Tests.{ne_eqb, eqb-false}
 use lib.Dec.{eqb}
-use lib.ListN.{length, take, drop, length-drop, drop_of_length-le}
-use lib.Seq.{take_all, drop-drop}
+use lib.ListN.{length, length-drop}
 use Rattle.bits.specs.Choice.{pick}
 use Rattle.instruction.specs.declared.answer.Answer.{Answer}
-use Rattle.instruction.specs.declared.answer.Answer.TheVariants.{BadWindow}
+use Rattle.instruction.specs.declared.answer.Answer.TheVariants.{Done, BadWindow}
 use Rattle.instruction.specs.Answers.{answer_number}
 use Rattle.plan.specs.declared.window.Window.{Window}
 use Rattle.plan.specs.Window.{bad_window}
-use Rattle.plan.specs.Refusals.{answer_in}
+use Rattle.plan.specs.Refusals.{answer_in, verdict_in}
 use Rattle.image.specs.declared.Reply.{Reply}
 use Rattle.image.specs.Lines.{lines_of, byte_in}
 use Rattle.image.specs.Records.{upper_after, places_in, places_of}
 use Rattle.image.specs.Import.{reply, faults_in, checked, reply_of, is_done, puts, clears, outcome, import_of}
-use Rattle.image.specs.route.Rest.{begins, behind}
-use Rattle.image.proofs.Cuts.{begun, begun_fits}
-use Rattle.image.proofs.Loops.{puts_length, clears_length}
-use Rattle.image.proofs.Steps.{check_line, passes, places_first, puts_append, clears_append, Sound, sound_next}
+use Rattle.image.specs.route.Rest.{begins, behind, Replies}
+use Rattle.image.specs.declared.text.Fault.{Fault}
+use Rattle.image.proofs.Steps.{Settles, settled, check_line, places_first, puts_append, clears_append, Sound, sound_next}
 
-rest_is : (t : List ℕ) (at : ℕ) → take (length t - at) (drop at t) ≡ drop at t
-rest_is t at = take_all (length t - at) (drop at t) (omega (arith, length-drop at t))
+pub some_left : (t : List ℕ) (b : Bool) → b ≡ eqb (length t) 0 → b ≡ false → 0 < length t
+some_left t b e f = omega (arith, eqb-false (length t) 0 (sym e ∙ f))
 
-rest_some : (t : List ℕ) (at : ℕ) → at < length t → 0 < length (drop at t)
-rest_some t at h = omega (arith, length-drop at t)
-
-behind_is : (t : List ℕ) (at b : ℕ) → b ≡ byte_in (drop at t) 0 → behind (drop at t) ≡ drop (at + (2 * b + 12)) t
-behind_is t at b e = rw e (drop-drop (2 * byte_in (drop at t) 0 + 12) at t)
-
-fits : (t : List ℕ) (at b : ℕ) → at < length t → b ≡ byte_in (drop at t) 0 → begins (drop at t) ≡ true → at + (2 * b + 12) ≤ length t
-fits t at b h e s = omega (arith, begun_fits (drop at t) (begun (drop at t) s), length-drop at t, e)
+pub behind_less : (t r : List ℕ) → 0 < length t → r ≡ behind t → length r < length t
+behind_less t r h e = rw e (omega (arith, length-drop (2 * byte_in t 0 + 12) t))
 
 -- ---- the check
 
-module _ (t : List ℕ) (origin len at n : ℕ) (ended : Bool) (upper : ℕ) (a : Answer) (k : ℕ) (more : at < length t)
-    (fault : a ≡ answer_in (faults_in origin len (begins (take (length t - at) (drop at t))) ended upper (take (length t - at) (drop at t))))
-    (number : k ≡ answer_number a) where
-  fault_is : a ≡ answer_in (faults_in origin len (begins (drop at t)) ended upper (drop at t))
-  fault_is = rw (rest_is t at) at fault
+module _ (t : List ℕ) (origin len n : ℕ) (ended : Bool) (upper : ℕ) (z : Reply) (some : 0 < length t) (so : checked origin len n ended upper (lines_of t) ≡ z) where
+  pub check_stop : (e : Answer) → Err e ≡ verdict_in (faults_in origin len (begins t) ended upper t) → Replies (Err (record { answer = e; line = n })) z
+  check_stop e f =
+      let s : Settles (Err e) (answer_in (faults_in origin len (begins t) ended upper t)) = settled origin len n ended upper t (Err e) f in
+      (sym so ∙ rw (check_line origin len n ended upper t some, s.0, ne_eqb (answer_number e) 0 s.1), s.1)
 
-  pub check_stop : (r z : Reply) → r ≡ reply a n → (k ≡ 0 → ⊥) → checked origin len n ended upper (lines_of (drop at t)) ≡ z → r ≡ z
-  check_stop r z e h so =
-      e ∙ (rw (check_line origin len n ended upper (drop at t) (rest_some t at more), ← fault_is, ne_eqb (answer_number a) 0 (λ q. h (number ∙ q))) at so)
-
-  passed : k ≡ 0 → begins (drop at t) ≡ true
-  passed h = passes origin len n ended upper (drop at t) (ap answer_number (sym fault_is) ∙ sym number ∙ h)
-
-  pub check_room : (b : ℕ) → k ≡ 0 → b ≡ byte_in (take (length t - at) (drop at t)) 0 → at + (2 * b + 12) ≤ length t
-  check_room b h e = fits t at b more (rw (rest_is t at) at e) (passed h)
-
-  pub check_more : (z : Reply) (b kind u : ℕ) → k ≡ 0 → b ≡ byte_in (take (length t - at) (drop at t)) 0 → kind ≡ byte_in (take (length t - at) (drop at t)) 3
-      → u ≡ upper_after upper (take (length t - at) (drop at t)) → checked origin len n ended upper (lines_of (drop at t)) ≡ z
-      → checked origin len (n + 1) (eqb kind 1) u (lines_of (drop (at + (2 * b + 12)) t)) ≡ z
-  check_more z b kind u h e f g so =
-      let x = rw (rest_is t at) at e in
-      let y = rw (rest_is t at) at f in
-      let w = rw (rest_is t at) at g in
-      rw (add-one n, y, w, ← behind_is t at b x) (rw (check_line origin len n ended upper (drop at t) (rest_some t at more), ← fault_is, ← number, h) at so)
-
-pub check_end : (t : List ℕ) (origin len at n : ℕ) (ended : Bool) (upper : ℕ) (r z : Reply) → length t ≤ at → r ≡ checked 0 0 n ended 0 [] → checked origin len n ended upper (lines_of (drop at t)) ≡ z → r ≡ z
-check_end t origin len at n ended upper r z h e so = e ∙ (rw (drop_of_length-le t h) at so)
+  pub check_more : (kind u : ℕ) (r : List ℕ) → Ok tt ≡ verdict_in (faults_in origin len (begins t) ended upper t) → kind ≡ byte_in t 3 → u ≡ upper_after upper t → r ≡ behind t
+      → checked origin len (n + 1) (eqb kind 1) u (lines_of r) ≡ z
+  check_more kind u r f k g b =
+      let s : answer_in (faults_in origin len (begins t) ended upper t) ≡ Done = settled origin len n ended upper t (Ok tt) f in
+      rw (add-one n, k, g, b) (rw (check_line origin len n ended upper t some, s) at so)
 
 -- ---- the writing
 
-module _ (t : List ℕ) (origin len at upper : ℕ) (more : at < length t) (sound : Sound origin len upper (drop at t))
-    (b u : ℕ) (count : b ≡ byte_in (take (length t - at) (drop at t)) 0) where
-  count_is : b ≡ byte_in (drop at t) 0
-  count_is = rw (rest_is t at) at count
+module _ (t : List ℕ) (origin len upper : ℕ) (some : 0 < length t) (sound : Sound origin len upper t) where
+  pub fill_sound : (u : ℕ) (r : List ℕ) → u ≡ upper_after upper t → r ≡ behind t → Sound origin len u r
+  fill_sound u r g b = rw (g, b) (sound_next t some sound).1
 
-  pub fill_room : at + (2 * b + 12) ≤ length t
-  fill_room = fits t at b more count_is (sound_next (drop at t) (rest_some t at more) sound).0
+  module _ (u : ℕ) (r xs ys zs : List ℕ) (half : u ≡ upper_after upper t) (next : r ≡ behind t) where
+    pub fill_puts : ys ≡ puts origin (places_in upper t) xs → puts origin (places_of upper (lines_of t)) xs ≡ zs → puts origin (places_of u (lines_of r)) ys ≡ zs
+    fill_puts q so = rw (q, half, next) (rw (places_first upper t some (sound_next t some sound).0, puts_append) at so)
 
-  pub fill_length : (xs ys : List ℕ) → ys ≡ puts origin (places_in upper (take (length t - at) (drop at t))) xs → length ys ≡ length xs
-  fill_length xs ys q = ap length q ∙ puts_length origin (places_in upper (take (length t - at) (drop at t))) xs
-
-  pub clear_length : (xs ys : List ℕ) → ys ≡ clears origin (places_in upper (take (length t - at) (drop at t))) xs → length ys ≡ length xs
-  clear_length xs ys q = ap length q ∙ clears_length origin (places_in upper (take (length t - at) (drop at t))) xs
-
-  pub fill_sound : u ≡ upper_after upper (take (length t - at) (drop at t)) → Sound origin len u (drop (at + (2 * b + 12)) t)
-  fill_sound g =
-      rw (rw (rest_is t at) at g, ← behind_is t at b count_is) (sound_next (drop at t) (rest_some t at more) sound).1
-
-  pub fill_puts : (xs ys zs : List ℕ) → u ≡ upper_after upper (take (length t - at) (drop at t)) → ys ≡ puts origin (places_in upper (take (length t - at) (drop at t))) xs
-      → puts origin (places_of upper (lines_of (drop at t))) xs ≡ zs → puts origin (places_of u (lines_of (drop (at + (2 * b + 12)) t))) ys ≡ zs
-  fill_puts xs ys zs g q so =
-      let s = (sound_next (drop at t) (rest_some t at more) sound).0 in
-      rw (rw (rest_is t at) at q, rw (rest_is t at) at g, ← behind_is t at b count_is)
-      (rw (places_first upper (drop at t) (rest_some t at more) s, puts_append) at so)
-
-  pub fill_clears : (xs ys zs : List ℕ) → u ≡ upper_after upper (take (length t - at) (drop at t)) → ys ≡ clears origin (places_in upper (take (length t - at) (drop at t))) xs
-      → clears origin (places_of upper (lines_of (drop at t))) xs ≡ zs → clears origin (places_of u (lines_of (drop (at + (2 * b + 12)) t))) ys ≡ zs
-  fill_clears xs ys zs g q so =
-      let s = (sound_next (drop at t) (rest_some t at more) sound).0 in
-      rw (rw (rest_is t at) at q, rw (rest_is t at) at g, ← behind_is t at b count_is)
-      (rw (places_first upper (drop at t) (rest_some t at more) s, clears_append) at so)
+    pub fill_clears : ys ≡ clears origin (places_in upper t) xs → clears origin (places_of upper (lines_of t)) xs ≡ zs → clears origin (places_of u (lines_of r)) ys ≡ zs
+    fill_clears q so = rw (q, half, next) (rw (places_first upper t some (sound_next t some sound).0, clears_append) at so)
 
 -- ---- both
 
@@ -108,15 +64,17 @@ checked_done : (w : Window) (len : ℕ) (t : List ℕ) (b : Bool) → is_done (p
 checked_done w len t true h = absurd (let z : ◌≡◌ {A = ℕ} 0 1 = cc in omega arith)
 checked_done w len t false h = h
 
-module _ (w : Window) (t memory taint : List ℕ) (r : Reply) (answer : r ≡ reply_of w (length memory) (length taint) t) where
-  pub import_not : (r.answer ≡ 0 → ⊥) → outcome r memory taint ≡ import_of w t memory taint
+module _ (w : Window) (t memory taint : List ℕ) where
+  pub import_not : (r : Reply) (e : Fault) → Replies (Err e) (reply_of w (length memory) (length taint) t) → r ≡ reply e.answer e.line → outcome r memory taint ≡ import_of w t memory taint
   unfolding import_of
-  import_not h = rw (← answer, ne_eqb r.answer 0 h)
+  import_not r e h f = rw (f, h.0, ne_eqb (answer_number e.answer) 0 h.1)
 
-  pub import_sound : r.answer ≡ 0 → is_done (checked w.origin (length memory) 1 false 0 (lines_of t)) ≡ true
-  unfolding reply_of
-  import_sound h = checked_done w (length memory) t (bad_window w (length memory) (length taint) 0) (ap is_done (sym answer) ∙ eq-eqb r.answer 0 h)
+  module _ (done : reply_of w (length memory) (length taint) t ≡ reply Done 0) where
+    pub import_sound : is_done (checked w.origin (length memory) 1 false 0 (lines_of t)) ≡ true
+    unfolding reply_of
+    import_sound = checked_done w (length memory) t (bad_window w (length memory) (length taint) 0) (ap is_done done)
 
-  pub import_done : (m n : List ℕ) → r.answer ≡ 0 → m ≡ puts w.origin (places_of 0 (lines_of t)) memory → n ≡ clears w.origin (places_of 0 (lines_of t)) taint → outcome r m n ≡ import_of w t memory taint
-  unfolding import_of
-  import_done m n h e f = rw (← answer, eq-eqb r.answer 0 h, e, f)
+    pub import_done : (r : Reply) (m n : List ℕ) → r ≡ reply Done 0 → m ≡ puts w.origin (places_of 0 (lines_of t)) memory → n ≡ clears w.origin (places_of 0 (lines_of t)) taint
+        → outcome r m n ≡ import_of w t memory taint
+    unfolding import_of
+    import_done r m n f e g = rw (done, f, e, g)

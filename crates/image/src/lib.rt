@@ -7,8 +7,9 @@ mod place;
 mod text;
 
 ghost use Rattle.std.specs.Prelude.{◌≡◌};
-ghost use Rattle.image.specs.Import.{outcome, import_of};
+ghost use Rattle.image.specs.Import.{reply, outcome, import_of};
 
+use instruction::Answer;
 use plan::Window;
 
 // The answer's number, and the number of the line that is refused, from 1. It is 0 where no line is.
@@ -30,10 +31,20 @@ pub fn milestarling_import(
     ensures { outcome result memory.new taint.new ≡ import_of (record { origin = origin; readonly = readonly }) text.now memory.old taint.old }
 {
     let window = Window { origin, readonly };
-    let reply = text::reply_of(text, window, memory.len() as u64, taint.len() as u64);
-    if reply.answer != 0 {
-        return reply;
+    match text::check(text, window, memory.len() as u64, taint.len() as u64) {
+        Ok(()) => {
+            text::fill(text, origin, memory, taint);
+            replied(Answer::Done, 0)
+        }
+        Err(fault) => replied(fault.answer, fault.line),
     }
-    text::fill(text, origin, memory, taint);
-    reply
+}
+
+fn replied(answer: Answer, line: u64) -> Reply
+    ensures { result ≡ reply answer line }
+{
+    Reply {
+        answer: u64::from(instruction::answer_number(answer)),
+        line,
+    }
 }

@@ -1,9 +1,13 @@
 -- A text by what is left of it: code reads a line at the start of the rest, without a search for its newline.
-use Rattle.std.specs.Prelude.{ℕ, zero, suc, ◌+◌, ◌*◌, ◌%◌, ◌≡◌, Bool, false, List, [], ◌∷◌, eqb, ltb, length, get_or, drop}
+use Rattle.std.specs.Prelude.{ℕ, zero, suc, ◌+◌, ◌*◌, ◌%◌, ◌≡◌, Bool, false, ⊤, Result, Ok, Err, List, [], ◌∷◌, eqb, ltb, length, get_or, drop}
 use Rattle.bits.specs.Choice.{pick}
+use Rattle.instruction.specs.declared.answer.Answer.TheVariants.{Done}
+use Rattle.instruction.specs.Answers.{answer_number}
+use Rattle.image.specs.declared.Reply.{Reply}
+use Rattle.image.specs.declared.text.Fault.{Fault}
 use Rattle.image.specs.Lines.{digit_of, digits_in, byte_in, count_in}
 use Rattle.image.specs.Records.{placed}
-use Rattle.image.specs.Import.{any_beyond}
+use Rattle.image.specs.Import.{reply, any_beyond}
 
 -- the length of the first line
 abbrev pub line_end : List ℕ → ℕ
@@ -33,3 +37,8 @@ pub record SomeBeyond (origin len a n : ℕ) (r : Bool) : Type 0 where
 -- what is behind a line that has its shape
 abbrev pub behind : List ℕ → List ℕ
 behind t = drop (2 * count_in t + 12) t
+
+-- what is returned stands for a reply: an error is never answer 0
+abbrev pub Replies : Result ⊤ Fault → Reply → Type 0
+Replies (Ok u) r = r ≡ reply Done 0
+Replies (Err e) r = (r ≡ reply e.answer e.line) × (answer_number e.answer ≡ 0 → ⊥)
