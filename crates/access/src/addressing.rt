@@ -3,13 +3,14 @@ ghost use Rattle.std.specs.Prelude.{◌≡◌};
 ghost use Rattle.bits.specs.Signed.{twos_complement};
 ghost use Rattle.access.specs.Addressings.{based, offset_mode, pre_mode, post_mode, paired_mode, shift_of, indexed_mode, literal_mode};
 
+use crate::transfer::NONE;
 use instruction::{
     IndexOperands, LiteralOperands, OffsetOperands, PairMode, PairOperands, SizedOp,
 };
 
 // The base is a register, or the program counter where relative. The offset and the index are added to it,
 // the index extended by its option and shifted. Post takes the base alone as the address. The sum is written
-// to the slot written; where an access has a status, that is written there.
+// to the slot written; where an access has a status, that is written there. Flags, as the definitions of an address go by them.
 #[derive(Clone, Copy)]
 pub struct Addressing {
     pub relative: bool,
@@ -31,7 +32,7 @@ pub fn based(base: u32, offset: u64, post: bool, written: u32) -> Addressing
         relative: false,
         base,
         offset,
-        index: 64,
+        index: NONE,
         option: 0b011,
         shift: 0,
         post,
@@ -42,7 +43,7 @@ pub fn based(base: u32, offset: u64, post: bool, written: u32) -> Addressing
 pub fn offset(o: OffsetOperands) -> Addressing
     ensures { result ≡ offset_mode o.base (twos_complement o.offset) }
 {
-    based(o.base, bits::twos_complement(o.offset), false, 64)
+    based(o.base, bits::twos_complement(o.offset), false, NONE)
 }
 
 pub fn pre(o: OffsetOperands) -> Addressing
@@ -68,26 +69,21 @@ fn in_mode(mode: PairMode, base: u32, offset: u64) -> Addressing
     ensures { result ≡ paired_mode mode base offset }
 {
     match mode {
-        PairMode::NoAllocate => based(base, offset, false, 64),
+        PairMode::NoAllocate | PairMode::Offset => based(base, offset, false, NONE),
         PairMode::Post => based(base, offset, true, base),
-        PairMode::Offset => based(base, offset, false, 64),
         PairMode::Pre => based(base, offset, false, base),
     }
 }
 
-#[tactic(auto, unfolding(crate::specs::Addressings::indexed_mode))]
+#[tactic(auto, unfolding(crate::specs::Addressings::based, crate::specs::Addressings::indexed_mode))]
 pub fn indexed(op: SizedOp, o: IndexOperands) -> Addressing
     ensures { result ≡ indexed_mode op o }
 {
     Addressing {
-        relative: false,
-        base: o.base,
-        offset: 0,
         index: registers::zero_slot(o.index),
         option: o.option,
         shift: shift(op, o.scaled),
-        post: false,
-        written: 64,
+        ..based(o.base, 0, false, NONE)
     }
 }
 
@@ -97,23 +93,18 @@ fn shift(op: SizedOp, scaled: u32) -> u32
     ensures { result ≡ shift_of op scaled }
 {
     if scaled == 1 {
-        return instruction::scale(op);
+        instruction::scale(op)
+    } else {
+        0
     }
-    0
 }
 
-#[tactic(auto, unfolding(crate::specs::Addressings::literal_mode))]
+#[tactic(auto, unfolding(crate::specs::Addressings::based, crate::specs::Addressings::literal_mode))]
 pub fn literal(o: LiteralOperands) -> Addressing
     ensures { result ≡ literal_mode (twos_complement o.offset) }
 {
     Addressing {
         relative: true,
-        base: 64,
-        offset: bits::twos_complement(o.offset),
-        index: 64,
-        option: 0b011,
-        shift: 0,
-        post: false,
-        written: 64,
+        ..based(NONE, bits::twos_complement(o.offset), false, NONE)
     }
 }

@@ -1,5 +1,6 @@
 // An instruction as one access: what it moves between registers and memory, and how its address is formed.
-// What comes after it knows no families. Registers are slots: 0 to 30, 31 for SP, 32 for none.
+// What comes after it knows no families. Registers are slots, numbers that definitions count with: 0 to 30, 31 for SP, 32 to 63
+// for vector registers, and 64 for none.
 #![tactic(auto)]
 
 mod addressing;
@@ -13,10 +14,11 @@ use instruction::{
     ExclusiveOp, ExclusiveOperands, Family, Instruction, LiteralOp, LiteralOperands, PairOp,
     PairOperands, SizedOp, StoreExclusiveOperands,
 };
+use transfer::NONE;
 pub use transfer::Transfer;
 
-// A prefetch touches nothing.
-#[derive(Drop)]
+// A prefetch touches nothing. An enum of its own, since the definitions of a step, and a theorem of what a trace shows, match on it.
+#[derive(Clone, Copy)]
 pub enum Access {
     Nothing,
     Moves(Transfer, Addressing),
@@ -26,8 +28,7 @@ pub enum Access {
 pub fn access_of(instruction: Instruction) -> Access
     ensures { result ≡ access_of instruction }
 {
-    let family = instruction.family;
-    family_access(family)
+    family_access(instruction.family)
 }
 
 fn family_access(family: Family) -> Access
@@ -53,9 +54,10 @@ fn sized_access(op: SizedOp, target: u32, ordered: bool, addressing: Addressing)
     ensures { result ≡ sized_access op target ordered addressing }
 {
     if is_prefetch(op) {
-        return Access::Nothing;
+        Access::Nothing
+    } else {
+        Access::Moves(transfer::sized(op, target, ordered), addressing)
     }
-    Access::Moves(transfer::sized(op, target, ordered), addressing)
 }
 
 #[tactic(auto, unfolding(crate::specs::Accesses::is_prefetch))]
@@ -100,10 +102,9 @@ fn pair_access(op: PairOp, o: PairOperands) -> Access
 fn exclusive_access(op: ExclusiveOp, o: ExclusiveOperands) -> Access
     ensures { result ≡ exclusive_access op o }
 {
-    let size = o.size;
     Access::Moves(
-        transfer::exclusive(op, size, o.target),
-        addressing::based(o.base, 0, false, 64),
+        transfer::exclusive(op, o.size, o.target),
+        addressing::based(o.base, 0, false, NONE),
     )
 }
 
@@ -112,9 +113,8 @@ fn exclusive_access(op: ExclusiveOp, o: ExclusiveOperands) -> Access
 fn store_exclusive_access(o: StoreExclusiveOperands) -> Access
     ensures { result ≡ store_exclusive_access o }
 {
-    let size = o.size;
     Access::Moves(
-        transfer::store_exclusive(size, o.target),
+        transfer::store_exclusive(o.size, o.target),
         addressing::based(o.base, 0, false, registers::zero_slot(o.status)),
     )
 }

@@ -1,14 +1,18 @@
 // What an access moves: registers, and bytes of memory.
-ghost use Rattle.std.specs.Prelude.{◌≡◌, eqb};
+ghost use Rattle.std.specs.Prelude.{◌≡◌, false, eqb};
 ghost use Rattle.bits.specs.Choice.{pick};
 ghost use Rattle.instruction.specs.Operations.{vector_of, opc_of, pair_code};
-ghost use Rattle.access.specs.Transfers.{slot_of, extent_of, sized_transfer, literal_transfer, pair_transfer, monitored_transfer, exclusive_transfer, store_exclusive_transfer};
+ghost use Rattle.access.specs.Transfers.{none, slot_of, extent_of, sized_transfer, literal_transfer, pair_transfer, monitored_transfer, exclusive_transfer, store_exclusive_transfer};
+
+// The slot of no register.
+pub const NONE: u32 = 64;
 
 use instruction::{AccessSize, ExclusiveOp, PairOp, SizedOp};
 
 // Each register's bytes are moved; the second of a pair lies behind the first, and a single register has no
 // bytes there. A loaded number keeps its sign up to the extent, in bytes; it is as long as the number where
-// zeros stand above. An ordered access lies in one block of 16 bytes. An exclusive one goes by the monitor.
+// zeros stand above. An ordered access lies in one block of 16 bytes. An exclusive one goes by the monitor. Flags, as the definitions
+// of the refusals and of a step go by them.
 #[derive(Clone, Copy)]
 pub struct Transfer {
     pub store: bool,
@@ -29,11 +33,23 @@ pub fn sized(op: SizedOp, target: u32, ordered: bool) -> Transfer
     Transfer {
         store: instruction::sized_stores(op),
         ordered,
+        extent: sized_extent(op, bytes),
+        ..loaded(bytes, slot(instruction::vector_field(op), target))
+    }
+}
+
+// A load of one register, with zeros above the number: what other transfers differ from.
+fn loaded(bytes: u32, target: u32) -> Transfer
+    ensures { result ≡ record { store = false; ordered = false; bytes = bytes; more = 0; extent = bytes; target = target; second = none; exclusive = false } }
+{
+    Transfer {
+        store: false,
+        ordered: false,
         bytes,
         more: 0,
-        extent: sized_extent(op, bytes),
-        target: slot(instruction::vector_field(op), target),
-        second: 64,
+        extent: bytes,
+        target,
+        second: NONE,
         exclusive: false,
     }
 }
@@ -44,9 +60,10 @@ fn slot(vector: u32, register: u32) -> u32
     ensures { result ≡ slot_of vector register }
 {
     if vector == 1 {
-        return 32 + register % 32;
+        32 + register % 32
+    } else {
+        registers::zero_slot(register)
     }
-    registers::zero_slot(register)
 }
 
 // A vector is not extended.
@@ -54,22 +71,21 @@ fn sized_extent(op: SizedOp, bytes: u32) -> u32
     ensures { result ≡ pick (eqb (vector_of op) 1) bytes (extent_of (opc_of op) bytes) }
 {
     if instruction::vector_field(op) == 1 {
-        return bytes;
+        bytes
+    } else {
+        extent(instruction::opc_field(op), bytes)
     }
-    extent(instruction::opc_field(op), bytes)
 }
 
 #[tactic(auto, unfolding(crate::specs::Transfers::extent_of))]
 fn extent(opc: u32, bytes: u32) -> u32
     ensures { result ≡ extent_of opc bytes }
 {
-    if opc == 0b10 {
-        return 8;
+    match opc {
+        0b10 => 8,
+        0b11 => 4,
+        _ => bytes,
     }
-    if opc == 0b11 {
-        return 4;
-    }
-    bytes
 }
 
 #[tactic(auto, unfolding(crate::specs::Transfers::literal_transfer))]
@@ -77,14 +93,8 @@ pub fn literal(vector: u32, bytes: u32, extent: u32, target: u32) -> Transfer
     ensures { result ≡ literal_transfer vector bytes extent target }
 {
     Transfer {
-        store: false,
-        ordered: false,
-        bytes,
-        more: 0,
         extent,
-        target: slot(vector, target),
-        second: 64,
-        exclusive: false,
+        ..loaded(bytes, slot(vector, target))
     }
 }
 
@@ -95,13 +105,10 @@ pub fn pair(op: PairOp, first: u32, second: u32) -> Transfer
     let bytes = instruction::pair_bytes(op);
     Transfer {
         store: instruction::pair_load(op) == 0,
-        ordered: false,
-        bytes,
         more: bytes,
         extent: pair_extent(op, bytes),
-        target: slot(instruction::pair_vector(op), first),
         second: slot(instruction::pair_vector(op), second),
-        exclusive: false,
+        ..loaded(bytes, slot(instruction::pair_vector(op), first))
     }
 }
 
@@ -109,9 +116,10 @@ fn pair_extent(op: PairOp, bytes: u32) -> u32
     ensures { result ≡ pick (eqb (pair_code op) 0b0_01_1) 8 bytes }
 {
     if instruction::pair_code(op) == 0b0_01_1 {
-        return 8;
+        8
+    } else {
+        bytes
     }
-    bytes
 }
 
 #[tactic(auto, unfolding(crate::specs::Transfers::exclusive_transfer))]
@@ -133,15 +141,13 @@ pub fn store_exclusive(size: AccessSize, target: u32) -> Transfer
 fn monitored(store: bool, exclusive: bool, size: AccessSize, target: u32) -> Transfer
     ensures { result ≡ monitored_transfer store exclusive size target }
 {
-    let bytes = instruction::access_bytes(size);
     Transfer {
         store,
         ordered: !exclusive,
-        bytes,
-        more: 0,
-        extent: bytes,
-        target: registers::zero_slot(target),
-        second: 64,
         exclusive,
+        ..loaded(
+            instruction::access_bytes(size),
+            registers::zero_slot(target),
+        )
     }
 }

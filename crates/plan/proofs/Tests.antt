@@ -1,15 +1,12 @@
 -- Laws of the tests of a plan. Assumes nothing.
-use Rattle.std.proofs.Common.{◌≡◌, ℕ, ◌+◌, ◌%◌, ◌^◌, ◌<◌, ◌≤◌, Bool, true, false, not, ◌||◌, eqb, ltb, List, ◌++◌, Result, is_err, sym, refl, ap, ◌∙◌, subst, arith, ltb-false, ltb-true, eqb-true}
+use Rattle.std.proofs.Common.{◌≡◌, ℕ, ◌+◌, ◌%◌, ◌^◌, ◌<◌, ◌≤◌, Bool, true, false, not, eqb, ltb, List, ◌++◌, Result, is_err, sym, refl, ap, ◌∙◌, subst, arith, ltb-false, ltb-true, eqb-true}
 use Rattle.bits.specs.Choice.{pick}
 use Rattle.instruction.specs.declared.answer.Answer.{Answer}
 use Rattle.instruction.specs.declared.answer.Answer.TheVariants.{TaintedAddress, Misaligned}
 use Rattle.instruction.specs.Answers.{answer_number}
-use Rattle.memory.specs.Taints.{tainted}
-use Rattle.memory.proofs.Taints.{nonzero_tainted}
 use Rattle.access.specs.declared.transfer.Transfer.{Transfer}
 use Rattle.access.specs.declared.addressing.Addressing.{Addressing}
 use Rattle.plan.specs.declared.window.Window.{Window}
-use Rattle.plan.specs.Operands.{used_of}
 use Rattle.plan.specs.declared.operands.Operands.{Operands}
 use Rattle.plan.specs.Window.{bad_window}
 use Rattle.plan.specs.Refusals.{Refusal, first_of, answer_in, verdict_in}
@@ -127,17 +124,3 @@ pub same_lengths : (w : Window) (len taints pc : ℕ) → bad_window w len taint
 unfolding bad_window
 same_lengths w len taints pc h =
     lengths_at (ltb (2 ^ 64) (w.origin + len)) (ltb len w.readonly) (eqb taints len) taints len refl (not (eqb (pc % 4) 0)) h
-
--- ---- 5
-
--- of no taint a part is used that is none
-none_used : (z : Bool) → pick z (0 % 2 ^ 32) 0 ≡ 0
-none_used true = refl
-none_used false = refl
-
-pub none_held : {x y r s : ℕ} (option : ℕ) → r ≡ x → r ≡ 0 → s ≡ y → s ≡ 0 → false ≡ pick (tainted x) true (tainted (used_of option y))
-unfolding used_of
-none_held option e z f n = rw (← e, z, ← f, n, none_used (eqb option 0b010 || eqb option 0b110))
-
-pub base_passed : {x y r s : ℕ} → r ≡ x → r ≡ 0 → s ≡ y → not (eqb s 0) ≡ pick (tainted x) true (tainted y)
-base_passed {x} {y} {r} {s} e z f = rw (← e, z, f) (nonzero_tainted y)

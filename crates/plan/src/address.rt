@@ -12,15 +12,14 @@ pub fn sum(a: Addressing, o: Operands) -> u64
     ensures { result ≡ sum_of a o }
 {
     let index = shifted(a.option, a.shift, o.index);
-    let far = std::num::wrapping_add_u64(a.offset, index);
-    std::num::wrapping_add_u64(o.base, far)
+    o.base.wrapping_add(a.offset.wrapping_add(index))
 }
 
 #[tactic(auto, unfolding(crate::specs::Address::shifted_of))]
 fn shifted(option: u32, shift: u32, register: u64) -> u64
     ensures { result ≡ shifted_of option shift register }
 {
-    index(option, register) << (shift % 64)
+    index(option, register).wrapping_shl(shift)
 }
 
 #[tactic(auto, unfolding(crate::specs::Address::index_of))]
@@ -28,20 +27,15 @@ fn index(option: u32, register: u64) -> u64
     ensures { result ≡ index_of option register }
 {
     let low = register % 0x1_0000_0000;
-    if option == 0b010 {
-        return low;
+    match option {
+        0b010 => low,
+        0b110 => bits::extended(low, 4, 8),
+        _ => register,
     }
-    if option == 0b110 {
-        return bits::extended(low, 4, 8);
-    }
-    register
 }
 
 pub fn first_byte(post: bool, base: u64, sum: u64) -> u64
     ensures { result ≡ pick post base sum }
 {
-    if post {
-        return base;
-    }
-    sum
+    if post { base } else { sum }
 }

@@ -5,7 +5,7 @@ ghost use Rattle.plan.specs.Ranges.{admit_in};
 ghost use Rattle.plan.specs.Admission.{misaligned, unaligned, outside, guarded, guards};
 
 use crate::ranges;
-use crate::ranges::Reach;
+use crate::ranges::{Range, Reach};
 use crate::window::Window;
 use access::Transfer;
 use instruction::Answer;
@@ -26,28 +26,25 @@ pub fn admission(
     if is_outside(total, address, window.origin, len) {
         return Err(Answer::OutOfWindow);
     }
-    ranges::reached(t.store, total, address, window, reach)
+    let touched = Range {
+        address,
+        length: total,
+    };
+    ranges::reached(t.store, touched, window, reach)
 }
 
 #[tactic(auto, unfolding(crate::specs::Admission::misaligned))]
 fn is_misaligned(ordered: bool, total: u64, address: u64) -> bool
-    requires { total ≤ 8589934590 }
     ensures { result ≡ misaligned ordered total address }
 {
-    if ordered {
-        return 16 < address % 16 + total;
-    }
-    false
+    ordered && 16 - address % 16 < total
 }
 
 #[tactic(auto, unfolding(crate::specs::Admission::unaligned))]
 fn is_unaligned(exclusive: bool, total: u64, address: u64) -> bool
     ensures { result ≡ unaligned exclusive total address }
 {
-    if exclusive {
-        return remains(address, total);
-    }
-    false
+    exclusive && remains(address, total)
 }
 
 // Whether a division leaves a remainder. Of 0, only 0 is a multiple.
@@ -55,9 +52,10 @@ fn remains(address: u64, total: u64) -> bool
     ensures { result ≡ not (address % total == 0) }
 {
     if total == 0 {
-        return address != 0;
+        address != 0
+    } else {
+        address % total != 0
     }
-    address % total != 0
 }
 
 // Answer 7, of so many bytes at an address.
@@ -65,34 +63,23 @@ fn remains(address: u64, total: u64) -> bool
 pub fn is_outside(total: u64, address: u64, origin: u64, len: u64) -> bool
     ensures { result ≡ outside total address origin len }
 {
-    if address < origin {
-        return true;
-    }
-    let at = address - origin;
-    if len < at {
-        return true;
-    }
-    len - at < total
+    address < origin || len < address - origin || len - (address - origin) < total
 }
 
 // Answer 8 of a plugin alone.
 pub fn guard(store: bool, address: u64, window: Window) -> Result<(), Answer>
-    requires { window.origin ≤ address }
     ensures { result ≡ verdict_in (guards window store address) }
 {
     if is_guarded(store, address, window) {
-        return Err(Answer::ReadOnly);
+        Err(Answer::ReadOnly)
+    } else {
+        Ok(())
     }
-    Ok(())
 }
 
 #[tactic(auto, unfolding(crate::specs::Admission::guarded))]
 fn is_guarded(store: bool, address: u64, window: Window) -> bool
-    requires { window.origin ≤ address }
     ensures { result ≡ guarded store address window }
 {
-    if store {
-        return address - window.origin < window.readonly;
-    }
-    false
+    store && (address < window.origin || address - window.origin < window.readonly)
 }

@@ -77,8 +77,5 @@ pub fn admitted(transfer: Transfer, address: u64, window: Window, len: u64) -> R
 fn is_misaligned_stack(slot: u32, base: u64) -> bool
     ensures { result ≡ misaligned_stack slot base }
 {
-    if slot == 31 {
-        return base % 16 != 0;
-    }
-    false
+    slot == 31 && base % 16 != 0
 }

@@ -1,7 +1,7 @@
 // The ranges of two plugins in one window, and what an access may reach.
 ghost use Rattle.std.specs.Prelude.{◌≡◌, ◌≤◌};
 ghost use Rattle.plan.specs.Refusals.{verdict_in};
-ghost use Rattle.plan.specs.Ranges.{range, share, overlap, misses, bad_ranges, common, strays, limits};
+ghost use Rattle.plan.specs.Ranges.{share, overlap, bad_ranges, beyond, common, strays, limits};
 ghost use Rattle.plan.specs.route.Reaches.{reach_of};
 
 use crate::admission;
@@ -25,7 +25,8 @@ pub struct Ranges {
     pub other: Range,
 }
 
-// What an access may reach: all of the window, of which stores leave the read-only beginning; or what ranges allow.
+// What an access may reach: all of the window, of which stores leave the read-only beginning; or what ranges allow. An enum of its own,
+// since the definition of an admission matches on it.
 #[derive(Clone, Copy)]
 pub enum Reach {
     Alone,
@@ -37,110 +38,80 @@ pub enum Reach {
 pub fn are_bad(r: Ranges, origin: u64, len: u64) -> bool
     ensures { result ≡ bad_ranges r origin len }
 {
-    if overlaps(r) {
-        return true;
-    }
-    if is_missed(r.shared, origin, len) {
-        return true;
-    }
-    if is_missed(r.own, origin, len) {
-        return true;
-    }
-    is_missed(r.other, origin, len)
+    let window = Range {
+        address: origin,
+        length: len,
+    };
+    r.overlap() || r.shared.exceeds(window) || r.own.exceeds(window) || r.other.exceeds(window)
 }
 
-#[tactic(auto, unfolding(crate::specs::Ranges::overlap))]
-fn overlaps(r: Ranges) -> bool
-    ensures { result ≡ overlap r }
-{
-    if shares(r.shared, r.own) {
-        return true;
+impl Ranges {
+    #[tactic(auto, unfolding(crate::specs::Ranges::overlap))]
+    fn overlap(self) -> bool
+        ensures { result ≡ overlap self }
+    {
+        self.shared.shares(self.own)
+            || self.shared.shares(self.other)
+            || self.own.shares(self.other)
     }
-    if shares(r.shared, r.other) {
-        return true;
+
+    // Answers 8 and 12 of an access to the bytes of a range.
+    fn admit(self, store: bool, touched: Range) -> Result<(), Answer>
+        ensures { result ≡ verdict_in (limits self store touched.length touched.address) }
+    {
+        if self.is_common(store, touched) {
+            return Err(Answer::ReadOnly);
+        }
+        if self.is_astray(store, touched) {
+            return Err(Answer::NotAllowed);
+        }
+        Ok(())
     }
-    shares(r.own, r.other)
+
+    // A store that touches the shared range.
+    #[tactic(auto, unfolding(crate::specs::Ranges::common))]
+    fn is_common(self, store: bool, touched: Range) -> bool
+        ensures { result ≡ common store touched.length touched.address self.shared }
+    {
+        store && touched.shares(self.shared)
+    }
+
+    // An access that lies neither in the plugin's own range nor, being a load, in the shared one.
+    #[tactic(auto, unfolding(crate::specs::Ranges::strays))]
+    fn is_astray(self, store: bool, touched: Range) -> bool
+        ensures { result ≡ strays store touched.length touched.address self }
+    {
+        touched.exceeds(self.own) && (store || touched.exceeds(self.shared))
+    }
 }
 
-fn is_missed(r: Range, origin: u64, len: u64) -> bool
-    ensures { result ≡ misses origin len r }
-{
-    admission::is_outside(r.length, r.address, origin, len)
+impl Range {
+    // Whether two ranges have a byte in common.
+    #[tactic(auto, unfolding(crate::specs::Ranges::share))]
+    fn shares(self, other: Range) -> bool
+        ensures { result ≡ share self other }
+    {
+        if self.address < other.address {
+            other.length != 0 && other.address - self.address < self.length
+        } else {
+            self.length != 0 && self.address - other.address < other.length
+        }
+    }
+
+    // Whether a range doesn't lie wholly in another.
+    fn exceeds(self, other: Range) -> bool
+        ensures { result ≡ beyond self.length self.address other }
+    {
+        admission::is_outside(self.length, self.address, other.address, other.length)
+    }
 }
 
-// Whether two ranges have a byte in common.
-#[tactic(auto, unfolding(crate::specs::Ranges::share))]
-fn shares(p: Range, q: Range) -> bool
-    ensures { result ≡ share p q }
-{
-    if p.length == 0 {
-        return false;
-    }
-    if q.length == 0 {
-        return false;
-    }
-    if p.address < q.address {
-        return q.address - p.address < p.length;
-    }
-    p.address - q.address < q.length
-}
-
-// Answers 8 and 12 of an access inside the window, by what it may reach.
-pub fn reached(
-    store: bool,
-    total: u64,
-    address: u64,
-    window: Window,
-    reach: Reach,
-) -> Result<(), Answer>
-    requires { window.origin ≤ address }
-    ensures { result ≡ verdict_in (reach_of window reach store total address) }
+// Answers 8 and 12 of an access to the bytes of a range, by what it may reach.
+pub fn reached(store: bool, touched: Range, window: Window, reach: Reach) -> Result<(), Answer>
+    ensures { result ≡ verdict_in (reach_of window reach store touched.length touched.address) }
 {
     match reach {
-        Reach::Alone => admission::guard(store, address, window),
-        Reach::Ranged(ranges) => within(store, total, address, ranges),
+        Reach::Alone => admission::guard(store, touched.address, window),
+        Reach::Ranged(ranges) => ranges.admit(store, touched),
     }
-}
-
-fn within(store: bool, total: u64, address: u64, r: Ranges) -> Result<(), Answer>
-    ensures { result ≡ verdict_in (limits r store total address) }
-{
-    if is_common(store, total, address, r.shared) {
-        return Err(Answer::ReadOnly);
-    }
-    if is_astray(store, total, address, r) {
-        return Err(Answer::NotAllowed);
-    }
-    Ok(())
-}
-
-// A store that touches the shared range.
-#[tactic(auto, unfolding(crate::specs::Ranges::common))]
-fn is_common(store: bool, total: u64, address: u64, shared: Range) -> bool
-    ensures { result ≡ common store total address shared }
-{
-    if store {
-        return shares(
-            Range {
-                address,
-                length: total,
-            },
-            shared,
-        );
-    }
-    false
-}
-
-// An access that lies neither in the plugin's own range nor, being a load, in the shared one.
-#[tactic(auto, unfolding(crate::specs::Ranges::strays))]
-fn is_astray(store: bool, total: u64, address: u64, r: Ranges) -> bool
-    ensures { result ≡ strays store total address r }
-{
-    if admission::is_outside(total, address, r.own.address, r.own.length) {
-        if store {
-            return true;
-        }
-        return admission::is_outside(total, address, r.shared.address, r.shared.length);
-    }
-    false
 }

@@ -15,24 +15,12 @@ pub struct Window {
 pub fn is_bad(window: Window, len: u64, taints: u64, pc: u64) -> bool
     ensures { result ≡ bad_window window len taints pc }
 {
-    if runs_over(window.origin, len) {
-        return true;
-    }
-    if len < window.readonly {
-        return true;
-    }
-    if taints != len {
-        return true;
-    }
-    pc % 4 != 0
+    runs_over(window.origin, len) || len < window.readonly || taints != len || pc % 4 != 0
 }
 
 // Whether memory would end above the address space. It may end with it.
 fn runs_over(origin: u64, len: u64) -> bool
     ensures { result ≡ nat_lt (2 ^ 64) (origin + len) }
 {
-    if len == 0 {
-        return false;
-    }
-    u64::MAX - (len - 1) < origin
+    len != 0 && u64::MAX - (len - 1) < origin
 }

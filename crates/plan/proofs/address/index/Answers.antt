@@ -4,6 +4,6 @@ use Rattle.bits.proofs.Extensions.{extended_exact}
 use Rattle.plan.specs.Address.{index_of}
 use Rattle.plan.proofs.address.index.Goals as goal
 
-pub returns-then-option-eq6 : goal.returns-then-option-eq6
+pub returns-in-6 : goal.returns-in-6
 unfolding index_of
-returns-then-option-eq6 c = rw c.if-option-eq6.true (c.extended.ensures ∙ extended_exact 4 8 _ (omega arith) (omega arith) (omega arith))
+returns-in-6 c = rw c.in-6.is (c.extended.ensures ∙ extended_exact 4 8 _ (omega arith) (omega arith) (omega arith))

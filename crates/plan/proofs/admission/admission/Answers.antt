@@ -1,6 +1,5 @@
 -- `plan::admission::admission` meets its contract. Assumes nothing.
-use Rattle.std.proofs.Common.{sym, ◌∙◌}
-use Rattle.plan.proofs.Tests.{not_outside, verdict_placed}
+use Rattle.plan.proofs.Tests.{verdict_placed}
 use Rattle.plan.proofs.admission.admission.Goals as goal
 use Rattle.plan.proofs.admission.admission.Goals.{then-is_misaligned-via-then-is_misaligned, then-is_misaligned-via-else-is_misaligned+then-is_unaligned}
 
@@ -18,11 +17,6 @@ pub returns-then-is_outside : goal.returns-then-is_outside
 returns-then-is_outside c =
     let a = c.args in
     verdict_placed a.window a.reach a.len a.t a.address (rw (← c.from.ensures, ← c.from-2.ensures, ← c.is_misaligned.ensures, c.if-is_misaligned.false, ← c.is_unaligned.ensures, c.if-is_unaligned.false, ← c.is_outside.ensures, c.if-is_outside.true))
-
-pub reached-requires : goal.reached-requires
-reached-requires c =
-    let a = c.args in
-    (not_outside _ a.address a.window.origin a.len (sym c.is_outside.ensures ∙ c.if-is_outside.false)).starts
 
 pub returns : goal.returns
 returns c =
