@@ -10,7 +10,8 @@ use instruction::{
 
 // The base is a register, or the program counter where relative. The offset and the index are added to it,
 // the index extended by its option and shifted. Post takes the base alone as the address. The sum is written
-// to the slot written; where an access has a status, that is written there. Flags, as the definitions of an address go by them.
+// to the slot written; where an access has a status, that is written there. Relative and post are flags,
+// since the definition of an address tests them.
 #[derive(Clone, Copy)]
 pub struct Addressing {
     pub relative: bool,

@@ -17,7 +17,7 @@ use instruction::{
 use transfer::NONE;
 pub use transfer::Transfer;
 
-// A prefetch touches nothing. An enum of its own, since the definitions of a step, and a theorem of what a trace shows, match on it.
+// A prefetch touches nothing. This is no Option, since the definitions of a step and of what a trace can show match on it.
 #[derive(Clone, Copy)]
 pub enum Access {
     Nothing,

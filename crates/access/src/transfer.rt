@@ -4,15 +4,15 @@ ghost use Rattle.bits.specs.Choice.{pick};
 ghost use Rattle.instruction.specs.Operations.{vector_of, opc_of, pair_code};
 ghost use Rattle.access.specs.Transfers.{none, slot_of, extent_of, sized_transfer, literal_transfer, pair_transfer, monitored_transfer, exclusive_transfer, store_exclusive_transfer};
 
+use instruction::{AccessSize, ExclusiveOp, PairOp, SizedOp};
+
 // The slot of no register.
 pub const NONE: u32 = 64;
 
-use instruction::{AccessSize, ExclusiveOp, PairOp, SizedOp};
-
 // Each register's bytes are moved; the second of a pair lies behind the first, and a single register has no
 // bytes there. A loaded number keeps its sign up to the extent, in bytes; it is as long as the number where
-// zeros stand above. An ordered access lies in one block of 16 bytes. An exclusive one goes by the monitor. Flags, as the definitions
-// of the refusals and of a step go by them.
+// zeros stand above. An ordered access lies in one block of 16 bytes. An exclusive one goes by the monitor. These
+// are flags and not an enum, since the definitions of the refusals and of a step test them.
 #[derive(Clone, Copy)]
 pub struct Transfer {
     pub store: bool,

@@ -25,8 +25,8 @@ pub struct Ranges {
     pub other: Range,
 }
 
-// What an access may reach: all of the window, of which stores leave the read-only beginning; or what ranges allow. An enum of its own,
-// since the definition of an admission matches on it.
+// What an access may reach: all of the window, of which stores leave the read-only beginning; or what ranges allow. This
+// is no Option, since the definition of an admission matches on it.
 #[derive(Clone, Copy)]
 pub enum Reach {
     Alone,
