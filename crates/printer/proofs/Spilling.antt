@@ -1,30 +1,32 @@
 -- Pieces that are stored with the zeros above them, and what stood behind the last put back. Assumes nothing.
-use Prim.Native.Nat.{ℕ, zero, suc, ◌+◌, ◌-◌, ◌/◌, ◌%◌, ◌≤◌, ◌<◌}
+use Prim.Native.Nat.{ℕ, zero, suc, ◌+◌, ◌-◌, ◌≤◌, ◌<◌}
 use mathlib.Core.Path.{◌≡◌, refl, sym, ap, ◌∙◌}
 use mathlib.Core.List.{List, [], ◌∷◌, ◌++◌, append_assoc, append-nil}
 use native.Mathlib.Nat.{sub-zero, div-eq_of_lt}
 use native.Mathlib.Omega.{arith}
-use lib.ListN.{length, drop, set, replicate, length-append, length-replicate, replicate-append-replicate}
+use lib.ListN.{length, take, drop, set, replicate, length-append, length-replicate, replicate-append-replicate}
 use lib.Seq.{sets, set-set, set_comm}
 use Rattle.bits.specs.Bytes.{bytes_of, span_of}
-use Rattle.bits.proofs.Bytes.{bytes_more, bytes_none}
+use Rattle.bits.proofs.Bytes.{bytes_more, bytes_none, bytes_take}
+use Rattle.std.specs.Int.{w64, to_le_bytes}
+use Rattle.ascii.proofs.Pieces.{number_bytes}
 use Rattle.ascii.specs.route.Puts.{Puts}
 use Rattle.bits.proofs.Lists.{sets_append}
 use Rattle.bits.proofs.Spans.{length_span, span_stays, span_behind}
 use Rattle.text.specs.declared.piece.Piece.{Piece}
 use Rattle.text.specs.declared.piece.Pieces.{Pieces}
-use Rattle.text.specs.route.Pieces.{text_in, Fit}
+use Rattle.text.specs.route.Pieces.{text_in}
 use Rattle.text.specs.route.Lines.{whole}
 use Rattle.text.proofs.Packing.{size}
 use Rattle.printer.specs.route.Printing.{Spills, total_of}
 
 -- ---- a number of fewer bytes
 
-eight_are : (p : Piece) → Fit p → bytes_of 8 p.bytes ≡ text_in p ++ replicate (8 - p.length) 0
+eight_are : (p : Piece) → bytes_of 8 p.bytes ≡ text_in p ++ replicate (8 - p.length) 0
 unfolding text_in
-eight_are p f =
-    let e : p.length + (8 - p.length) ≡ 8 = omega (arith, f.short) in
-    ap (λ (k : ℕ). bytes_of k p.bytes) (sym e) ∙ bytes_more p.length (8 - p.length) p.bytes ∙ rw (div-eq_of_lt f.low, bytes_none (8 - p.length))
+eight_are p =
+    let e : p.length + (8 - p.length) ≡ 8 = omega (arith, p.short) in
+    ap (λ (k : ℕ). bytes_of k p.bytes) (sym e) ∙ bytes_more p.length (8 - p.length) p.bytes ∙ rw (div-eq_of_lt p.low, bytes_none (8 - p.length))
 
 -- ---- lists that are put over one another
 
@@ -52,12 +54,12 @@ drop_replicate (suc k) (suc i) b =
 split : {xs t ys : List ℕ} {at next : ℕ} (s : Spills xs at t ys next) → ys ≡ sets (sets xs at t) next (replicate s.zeros 0)
 split {xs} {t} {at = at} s = s.text ∙ sym (sets_append xs t (replicate s.zeros 0) at) ∙ ap (λ (m : ℕ). sets (sets xs at t) m (replicate s.zeros 0)) (sym s.place)
 
-pub spill_is : {xs ys : List ℕ} {at r : ℕ} (p : Piece) → Fit p → ys ≡ sets xs at (bytes_of 8 p.bytes) → r ≡ at + p.length → Spills xs at (text_in p) ys r
-spill_is {xs} {at = at} p f a e =
+pub spill_is : {xs ys : List ℕ} {at r : ℕ} (p : Piece) → ys ≡ sets xs at (bytes_of 8 p.bytes) → r ≡ at + p.length → Spills xs at (text_in p) ys r
+spill_is {xs} {at = at} p a e =
     record {
       zeros = 8 - p.length;
       few = omega arith;
-      text = a ∙ ap (sets xs at) (eight_are p f);
+      text = a ∙ ap (sets xs at) (eight_are p);
       place = omega (arith, size p);
     }
 
@@ -108,11 +110,9 @@ whole_length p =
     let f = text_in p.last in
     omega (arith, size p.name, size p.first, size p.second, size p.third, size p.fourth, size p.last, length-append a b, length-append (a ++ b) c, length-append (a ++ b ++ c) d, length-append (a ++ b ++ c ++ d) e, length-append (a ++ b ++ c ++ d ++ e) f)
 
--- ---- byte by byte
-
-pub low_more : (n v : ℕ) → ¬ (n ≡ 0) → bytes_of n v ≡ (v % 256 ∷ []) ++ bytes_of (n - 1) (v / 256)
-unfolding bytes_of
-low_more zero v h = absurd (h refl)
-low_more (suc n) v h =
-    let e : suc n - 1 ≡ n = omega arith in
-    rw e
+-- the bytes of a piece among eight
+pub low_bytes : (p : Piece) → take p.length (to_le_bytes w64 p.bytes) ≡ text_in p
+unfolding text_in
+low_bytes p =
+    let e : p.length + (8 - p.length) ≡ 8 = omega (arith, p.short) in
+    ap (take p.length) (number_bytes p.bytes ∙ ap (λ (k : ℕ). bytes_of k p.bytes) (sym e)) ∙ bytes_take p.length (8 - p.length) p.bytes

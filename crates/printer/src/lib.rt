@@ -7,7 +7,7 @@ ghost use Rattle.std.specs.Prelude.{◌≡◌, IfErr};
 ghost use Rattle.decoder.specs.Decoding.{class_of, decode_of};
 ghost use Rattle.ascii.specs.route.Puts.{Puts};
 ghost use Rattle.text.specs.Texts.{text_of};
-ghost use Rattle.text.specs.route.Lines.{Sound, whole};
+ghost use Rattle.text.specs.route.Lines.{whole};
 ghost use Rattle.printer.specs.Writing.{outcome, copied, write_of};
 ghost use Rattle.printer.specs.route.Printing.{textless};
 
@@ -58,7 +58,6 @@ pub fn write(word: u32, buffer: &mut [u8]) -> Result<usize, Answer>
 }
 
 fn write_pieces(pieces: Pieces, buffer: &mut [u8]) -> Result<usize, Answer>
-    requires { Sound pieces }
     ensures exact { outcome result buffer.new ≡ copied (whole pieces) buffer.old }
     ensures refusal { IfErr result (λ answer. ¬ (answer ≡ Answer.Done)) }
 {

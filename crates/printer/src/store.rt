@@ -4,14 +4,13 @@ ghost use Rattle.std.specs.Prelude.{◌≡◌, ◌+◌, ◌≤◌, length};
 ghost use Rattle.std.proofs.lemmas.List.Edits.{sets};
 ghost use Rattle.bits.specs.Bytes.{bytes_of};
 ghost use Rattle.ascii.specs.route.Puts.{Puts};
-ghost use Rattle.text.specs.route.Pieces.{text_in, Fit};
-ghost use Rattle.text.specs.route.Lines.{Sound, whole};
+ghost use Rattle.text.specs.route.Pieces.{text_in};
+ghost use Rattle.text.specs.route.Lines.{whole};
 ghost use Rattle.printer.specs.route.Printing.{Spills, total_of};
 
 use text::{Piece, Pieces};
 
 pub fn put_pieces(line: &mut [u8], at: usize, p: Pieces) -> usize
-    requires { Sound p }
     ensures { Puts line.old at (whole p) line.new result }
 {
     let room = total(p) + 8;
@@ -20,12 +19,11 @@ pub fn put_pieces(line: &mut [u8], at: usize, p: Pieces) -> usize
             return put_in_room(line, at, p);
         }
     }
-    put_bytewise(line, at, p)
+    put_in_part(line, at, p)
 }
 
 // The bytes of a line.
 pub fn total(p: Pieces) -> usize
-    requires { Sound p }
     ensures { (result ≡ total_of p) × (result ≤ 48) }
 {
     p.name.length
@@ -38,7 +36,7 @@ pub fn total(p: Pieces) -> usize
 
 // With room for eight bytes more.
 fn put_in_room(line: &mut [u8], at: usize, p: Pieces) -> usize
-    requires { Sound p × (at + total_of p + 8 ≤ length line.old) }
+    requires { at + total_of p + 8 ≤ length line.old }
     ensures { Puts line.old at (whole p) line.new result }
 {
     let end = at + total(p);
@@ -49,7 +47,7 @@ fn put_in_room(line: &mut [u8], at: usize, p: Pieces) -> usize
 }
 
 fn spill_pieces(line: &mut [u8], at: usize, p: Pieces) -> usize
-    requires { Sound p × (at + total_of p + 8 ≤ length line.old) }
+    requires { at + total_of p + 8 ≤ length line.old }
     ensures { Spills line.old at (whole p) line.new result }
 {
     let first = spill(line, at, p.name);
@@ -62,7 +60,7 @@ fn spill_pieces(line: &mut [u8], at: usize, p: Pieces) -> usize
 
 // A piece with the zeros above it.
 fn spill(line: &mut [u8], at: usize, piece: Piece) -> usize
-    requires { Fit piece × (at + 8 ≤ length line.old) }
+    requires { at + 8 ≤ length line.old }
     ensures { Spills line.old at (text_in piece) line.new result × (result ≡ at + piece.length) }
 {
     put_number(line, at, piece.bytes);
@@ -79,24 +77,20 @@ fn put_number(line: &mut [u8], at: usize, number: u64)
 }
 
 // Where a line has less room.
-fn put_bytewise(line: &mut [u8], at: usize, p: Pieces) -> usize
+fn put_in_part(line: &mut [u8], at: usize, p: Pieces) -> usize
     ensures { Puts line.old at (whole p) line.new result }
 {
-    let first = put_low(line, at, p.name.bytes, p.name.length);
-    let second = put_low(line, first, p.first.bytes, p.first.length);
-    let third = put_low(line, second, p.second.bytes, p.second.length);
-    let fourth = put_low(line, third, p.third.bytes, p.third.length);
-    let last = put_low(line, fourth, p.fourth.bytes, p.fourth.length);
-    put_low(line, last, p.last.bytes, p.last.length)
+    let first = put_piece(line, at, p.name);
+    let second = put_piece(line, first, p.first);
+    let third = put_piece(line, second, p.second);
+    let fourth = put_piece(line, third, p.third);
+    let last = put_piece(line, fourth, p.fourth);
+    put_piece(line, last, p.last)
 }
 
-// The low n bytes of a number.
-fn put_low(line: &mut [u8], at: usize, number: u64, n: usize) -> usize
-    ensures { Puts line.old at (bytes_of n number) line.new result }
+fn put_piece(line: &mut [u8], at: usize, piece: Piece) -> usize
+    ensures { Puts line.old at (text_in piece) line.new result }
 {
-    if n == 0 {
-        return at;
-    }
-    let next = ascii::put_byte(line, at, (number % 256) as u8);
-    put_low(line, next, number / 256, n - 1)
+    let bytes = piece.bytes.to_le_bytes();
+    ascii::put_text(line, at, &bytes[..piece.length])
 }

@@ -5,9 +5,8 @@ use mathlib.Core.Bool.{Bool, true, false, ◌&&◌, false≢true}
 use mathlib.Core.List.{List, [], ◌++◌, append_assoc, append-nil}
 use native.Mathlib.Omega.{arith}
 use borrow.Author.Tests.{ne_eqb, leb-true, ltb-true}
-use lib.Dec.{eqb, leb, ltb, lit<}
+use lib.Dec.{eqb}
 use lib.IntN.{ℤ, pos, nat_abs}
-use lib.ListN.{length}
 use Rattle.bits.specs.Choice.{pick}
 use Rattle.bits.specs.Bytes.{bytes_of}
 use Rattle.ascii.specs.Ascii.{asc, dec, signed_dec}
@@ -18,14 +17,14 @@ use Rattle.mnemonic.proofs.Registers.{Registered}
 use Rattle.text.specs.declared.piece.Piece.{Piece}
 use Rattle.text.specs.declared.piece.Pieces.{Pieces}
 use Rattle.text.specs.Texts.{register_text, operand_text, offset_tail, extend_name, extend_text, amount_text, front_text}
-use Rattle.text.specs.route.Pieces.{text_in, Fit, Leads, Shows}
-use Rattle.text.proofs.Packing.{size}
+use Rattle.text.specs.route.Pieces.{text_in, Leads, Shows}
+use Rattle.text.proofs.Packing.{constant}
 use Rattle.text.proofs.Hinted.{hint_parts}
 use Rattle.text.specs.route.Lines.{Made, first_part, rest_part, front_in, extend_part, amount_part}
 
-pub nothing_shown : Shows [] (record { bytes = 0; length = 0 })
-unfolding text_in bytes_of
-nothing_shown = record { text = refl; fit = record { short = omega arith; low = lit< tt } }
+pub nothing_shown : {q : Piece} → q.bytes ≡ 0 → q.length ≡ 0 → Shows [] q
+unfolding bytes_of
+nothing_shown e l = constant e l refl
 
 -- ---- mnemonics
 
@@ -34,11 +33,13 @@ both_true true true h = (refl, refl)
 both_true true false h = absurd (false≢true h)
 both_true false b h = absurd (false≢true h)
 
-pub name_shown : (m : Mnemonic) → (known m).fits ≡ true → Shows (known m).letters (record { bytes = m.letters; length = m.shape % 256 })
-unfolding text_in
-name_shown m h =
+pub name_shown : (m : Mnemonic) {q : Piece} → q.bytes ≡ m.letters → q.length ≡ m.shape % 256 → Shows (known m).letters q
+name_shown m e l = constant e l refl
+
+pub name_fits : (m : Mnemonic) → (known m).fits ≡ true → (m.shape % 256 ≤ 8) × (m.letters < 256 ^ (m.shape % 256))
+name_fits m h =
     let (short, low) = both_true _ _ h in
-    record { text = refl; fit = record { short = leb-true _ _ short; low = ltb-true _ _ low } }
+    (leb-true _ _ short, ltb-true _ _ low)
 
 first_rest : (o : Operand) (r : ℕ) → first_part (letter_of o) r ++ rest_part (letter_of o) r ≡ operand_text o r ++ asc ", "
 unfolding first_part rest_part
@@ -90,18 +91,15 @@ fits m name o e = ap (λ (k : Known). k.fits) e
 -- ---- six pieces
 
 pub made_as : {s t : List ℕ} {p : Pieces} → s ≡ t → Made s p → Made t p
-made_as e a = record { text = a.text ∙ e; sound = a.sound }
+made_as e a = record { text = a.text ∙ e }
 
-pub made : (m : Mnemonic) (n : ℕ) {a b : Piece} (c d e f : Piece) → Shows (known m).letters a → Shows (asc " " ++ first_part (known m).letter n) b → Fit c → Fit d → Fit e → Fit f
+pub made : (m : Mnemonic) (n : ℕ) {a b : Piece} (c d e f : Piece) → Shows (known m).letters a → Shows (asc " " ++ first_part (known m).letter n) b
     → Made (front_in m n ++ text_in c ++ text_in d ++ text_in e ++ text_in f) (record { name = a; first = b; second = c; third = d; fourth = e; last = f })
 unfolding front_in
-made m n c d e f p q h i j k =
+made m n c d e f p q =
     let x = (known m).letters in
     let g = sym (append_assoc x (asc " ") (first_part (known m).letter n)) in
-    record {
-      text = rw (p.text, q.text, g);
-      sound = record { name = p.fit; first = q.fit; second = h; third = i; fourth = j; last = k };
-    }
+    record { text = rw (p.text, q.text, g) }
 
 -- ---- what stands behind the operands
 
@@ -141,58 +139,54 @@ indexed_by f end {rest} {base} {index} {extend} {amount} s k l q i r x a e m =
 
 -- ---- pieces that are always the same
 
-constant : {bytes length : ℕ} {t : List ℕ} → bytes_of length bytes ≡ t → leb length 8 ≡ true → ltb bytes (256 ^ length) ≡ true → Shows t (record { bytes = bytes; length = length })
-unfolding text_in
-constant {bytes} {length} e short low = record { text = e; fit = record { short = leb-true length 8 short; low = ltb-true bytes (256 ^ length) low } }
-
-pub open_shown : Shows (asc "[") (record { bytes = 0x5b; length = 1 })
+pub open_shown : {q : Piece} → q.bytes ≡ 0x5b → q.length ≡ 1 → Shows (asc "[") q
 unfolding bytes_of
-open_shown = constant refl refl refl
+open_shown e l = constant e l refl
 
-pub sign_shown : Shows (asc ", #") (record { bytes = 0x23_202c; length = 3 })
+pub sign_shown : {q : Piece} → q.bytes ≡ 0x23_202c → q.length ≡ 3 → Shows (asc ", #") q
 unfolding bytes_of
-sign_shown = constant refl refl refl
+sign_shown e l = constant e l refl
 
-pub post_sign_shown : Shows (asc "], #") (record { bytes = 0x2320_2c5d; length = 4 })
+pub post_sign_shown : {q : Piece} → q.bytes ≡ 0x2320_2c5d → q.length ≡ 4 → Shows (asc "], #") q
 unfolding bytes_of
-post_sign_shown = constant refl refl refl
+post_sign_shown e l = constant e l refl
 
-pub hash_shown : Shows (asc "#") (record { bytes = 0x23; length = 1 })
+pub hash_shown : {q : Piece} → q.bytes ≡ 0x23 → q.length ≡ 1 → Shows (asc "#") q
 unfolding bytes_of
-hash_shown = constant refl refl refl
+hash_shown e l = constant e l refl
 
-pub bracket_shown : Shows (asc "]") (record { bytes = 0x5d; length = 1 })
+pub bracket_shown : {q : Piece} → q.bytes ≡ 0x5d → q.length ≡ 1 → Shows (asc "]") q
 unfolding bytes_of
-bracket_shown = constant refl refl refl
+bracket_shown e l = constant e l refl
 
-pub close_shown : Shows (asc "]!") (record { bytes = 0x215d; length = 2 })
+pub close_shown : {q : Piece} → q.bytes ≡ 0x215d → q.length ≡ 2 → Shows (asc "]!") q
 unfolding bytes_of
-close_shown = constant refl refl refl
+close_shown e l = constant e l refl
 
-pub lsl_shown : Shows (extend_part 0b011 1) (record { bytes = 0x6c_736c_202c; length = 5 })
+pub lsl_shown : {q : Piece} → q.bytes ≡ 0x6c_736c_202c → q.length ≡ 5 → Shows (extend_part 0b011 1) q
 unfolding bytes_of extend_part
-lsl_shown = constant refl refl refl
+lsl_shown e l = constant e l refl
 
-pub uxtw_shown : (s : ℕ) → Shows (extend_part 0b010 s) (record { bytes = 0x7774_7875_202c; length = 6 })
+pub uxtw_shown : (s : ℕ) → {q : Piece} → q.bytes ≡ 0x7774_7875_202c → q.length ≡ 6 → Shows (extend_part 0b010 s) q
 unfolding bytes_of extend_part extend_name
-uxtw_shown s = constant refl refl refl
+uxtw_shown s e l = constant e l refl
 
-pub sxtw_shown : (s : ℕ) → Shows (extend_part 0b110 s) (record { bytes = 0x7774_7873_202c; length = 6 })
+pub sxtw_shown : (s : ℕ) → {q : Piece} → q.bytes ≡ 0x7774_7873_202c → q.length ≡ 6 → Shows (extend_part 0b110 s) q
 unfolding bytes_of extend_part extend_name
-sxtw_shown s = constant refl refl refl
+sxtw_shown s e l = constant e l refl
 
-pub sxtx_shown : (option s : ℕ) → ¬ (option ≡ 0b011) → ¬ (option ≡ 0b010) → ¬ (option ≡ 0b110) → Shows (extend_part option s) (record { bytes = 0x7874_7873_202c; length = 6 })
+pub sxtx_shown : (option s : ℕ) → ¬ (option ≡ 0b011) → ¬ (option ≡ 0b010) → ¬ (option ≡ 0b110) → {q : Piece} → q.bytes ≡ 0x7874_7873_202c → q.length ≡ 6 → Shows (extend_part option s) q
 unfolding bytes_of extend_part extend_name
-sxtx_shown option s h i j = rw (ne_eqb option 0b011 h, ne_eqb option 0b010 i, ne_eqb option 0b110 j) (constant refl refl refl)
+sxtx_shown option s h i j e l = rw (ne_eqb option 0b011 h, ne_eqb option 0b010 i, ne_eqb option 0b110 j) (constant e l refl)
 
-pub amount_shown : (size : ℕ) → size < 5 → Shows (amount_part 1 size) (record { bytes = 0x5d30_2320 + size * 0x1_0000; length = 4 })
+pub amount_shown : (size : ℕ) → size < 5 → {q : Piece} → q.bytes ≡ 0x5d30_2320 + size * 0x1_0000 → q.length ≡ 4 → Shows (amount_part 1 size) q
 unfolding bytes_of amount_part amount_text dec
-amount_shown zero h = constant refl refl refl
-amount_shown (suc zero) h = constant refl refl refl
-amount_shown (suc (suc zero)) h = constant refl refl refl
-amount_shown (suc (suc (suc zero))) h = constant refl refl refl
-amount_shown (suc (suc (suc (suc zero)))) h = constant refl refl refl
-amount_shown (suc (suc (suc (suc (suc n))))) h = absurd (omega arith)
+amount_shown zero h e l = constant e l refl
+amount_shown (suc zero) h e l = constant e l refl
+amount_shown (suc (suc zero)) h e l = constant e l refl
+amount_shown (suc (suc (suc zero))) h e l = constant e l refl
+amount_shown (suc (suc (suc (suc zero)))) h e l = constant e l refl
+amount_shown (suc (suc (suc (suc (suc n))))) h e l = absurd (omega arith)
 
 -- ---- an index
 
@@ -207,12 +201,11 @@ index_parts option scaled size = by_parts [] (asc ", " ++ extend_name option) (a
 
 -- ---- lengths
 
-pub shown_length : {t : List ℕ} {p : Piece} → Shows t p → p.length ≡ length t
-shown_length {t} {p} s = sym (size p) ∙ ap length s.text
-
 -- the rest of a first operand with nothing behind it
 pub rest_alone : {t : List ℕ} {q p : Piece} → Leads t q p → Shows [] q → text_in p ≡ t
 rest_alone {t} l q = l.text ∙ ap (λ (k : List ℕ). t ++ k) q.text ∙ append-nil t
 
-pub fit_of : {t : List ℕ} {rest p : Piece} → Leads t rest p → p.length ≤ 8 → Fit p
-fit_of l h = record { short = h; low = l.low }
+-- a literal's offset behind its operand
+pub literal_by : (f : List ℕ) {rest number : List ℕ} {k s h n e : Piece} {p : Pieces} → Leads rest k s → Shows [] k → Shows (asc "#") h → Shows number n → Shows [] e
+    → Made (f ++ text_in s ++ text_in h ++ text_in n ++ text_in e) p → Made (f ++ rest ++ asc "#" ++ number) p
+literal_by f s k h n e m = made_as (simp (append_assoc, append-nil)) (rw (rest_alone s k, h.text, n.text, e.text) at m)

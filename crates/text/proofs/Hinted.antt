@@ -9,7 +9,6 @@ use lib.Arith.{digits_lt}
 use lib.Dec.{ltb, lit<}
 use lib.ListN.{length}
 use lib.Pow.{pow-add}
-use borrow.Author.Tests.{ltb-true}
 use Rattle.bits.specs.Choice.{pick}
 use Rattle.bits.specs.Fields.{part}
 use Rattle.bits.specs.Bytes.{bytes_of}
@@ -19,7 +18,8 @@ use Rattle.ascii.specs.Ascii.{asc}
 use Rattle.mnemonic.proofs.Told.{same, same_is}
 use Rattle.text.specs.Hints.{hint_kind, hint_level, hint_policy, unnamed, hint_text}
 use Rattle.text.specs.declared.piece.Piece.{Piece}
-use Rattle.text.specs.route.Pieces.{text_in, Low, Leads, Shows}
+use Rattle.text.specs.route.Pieces.{text_in, Leads, Shows}
+use Rattle.text.proofs.Packing.{constant}
 use Rattle.text.specs.route.Hints.{kind_bytes, policy_bytes}
 use Rattle.text.specs.route.Lines.{hint_front, hint_rest}
 
@@ -45,12 +45,14 @@ front_bytes n = 0x316c_0000_0020 + kind_bytes (n / 8) * 256 + n / 2 % 4 * 0x100_
 front_test : ℕ → Bool
 front_test n = unnamed n || (same (bytes_of 6 (front_bytes n)) (asc " " ++ hint_front n) && ltb (front_bytes n) (256 ^ 6))
 
-pub front_named : (n : ℕ) → n < 32 → unnamed n ≡ false
-    → Shows (asc " " ++ hint_front n) (record { bytes = 0x316c_0000_0020 + kind_bytes (n / 8) * 256 + n / 2 % 4 * 0x100_0000_0000; length = 6 })
-unfolding front_test front_bytes same bytes_of part text_in
-front_named n h u =
-    let t = both (same (bytes_of 6 (front_bytes n)) (asc " " ++ hint_front n)) (ltb (front_bytes n) (256 ^ 6)) (other (unnamed n) _ u (tested 32 front_test refl n h)) in
-    record { text = same_is (bytes_of 6 (front_bytes n)) (asc " " ++ hint_front n) t.0; fit = record { short = omega arith; low = ltb-true (front_bytes n) (256 ^ 6) t.1 } }
+front_tested : (n : ℕ) → n < 32 → unnamed n ≡ false → (same (bytes_of 6 (front_bytes n)) (asc " " ++ hint_front n) ≡ true) × (ltb (front_bytes n) (256 ^ 6) ≡ true)
+unfolding front_test front_bytes same bytes_of part
+front_tested n h u = both (same (bytes_of 6 (front_bytes n)) (asc " " ++ hint_front n)) (ltb (front_bytes n) (256 ^ 6)) (other (unnamed n) _ u (tested 32 front_test refl n h))
+
+pub front_named : (n : ℕ) {q : Piece} → n < 32 → unnamed n ≡ false → q.bytes ≡ 0x316c_0000_0020 + kind_bytes (n / 8) * 256 + n / 2 % 4 * 0x100_0000_0000 → q.length ≡ 6
+    → Shows (asc " " ++ hint_front n) q
+unfolding front_bytes
+front_named n h u e l = constant e l (same_is (bytes_of 6 (front_bytes n)) (asc " " ++ hint_front n) (front_tested n h u).0)
 
 -- ---- the second, before another piece
 
@@ -66,19 +68,21 @@ six_before x y l h =
     let e : (x + y * 281474976710656) / 256 ^ 6 ≡ y = omega arith in
     ap (λ (k : ℕ). bytes_of k (x + y * 281474976710656)) (add_comm l 6) ∙ bytes_more 6 l (x + y * 281474976710656) ∙ rw (e, bytes_low 6 x y)
 
-pub small : (p : Piece) → p.length ≤ 2 → Low p → p.bytes < 65536
-small p h l = lt_of_lt_of_le l (pow-le-pow_right (lit< tt) h)
+pub small : (p : Piece) → p.length ≤ 2 → p.bytes < 65536
+small p h = lt_of_lt_of_le p.low (pow-le-pow_right (lit< tt) h)
 
-pub itself_led : (p : Piece) → Low p → Leads [] p p
-itself_led p l = record { text = refl; longer = omega arith; low = l }
+pub itself_led : (p : Piece) → Leads [] p p
+itself_led p = record { text = refl; longer = omega arith }
 
-pub rest_named : (n : ℕ) (p : Piece) {x : ℕ} → n < 32 → unnamed n ≡ false → Low p → x ≡ policy_bytes (n % 2) → x < 2 ^ 48
-    → Leads (hint_rest n) p (record { bytes = x + p.bytes * 0x1_0000_0000_0000; length = p.length + 6 })
+pub rest_named : (n : ℕ) (p q : Piece) {x : ℕ} → n < 32 → unnamed n ≡ false → x ≡ policy_bytes (n % 2) → x < 2 ^ 48
+    → q.bytes ≡ x + p.bytes * 0x1_0000_0000_0000 → q.length ≡ p.length + 6 → Leads (hint_rest n) p q
 unfolding text_in
-rest_named n p {x} h u l e b =
+rest_named n p q {x} h u e b f l =
     let t = ap (bytes_of 6) e ∙ rest_bytes n h u in
     record {
-      text = six_before x p.bytes p.length b ∙ ap (λ (k : List ℕ). k ++ bytes_of p.length p.bytes) t;
+      text = rw (f, l) (six_before x p.bytes p.length b ∙ ap (λ (k : List ℕ). k ++ bytes_of p.length p.bytes) t);
       longer = omega (arith, sym (length_bytes 6 x) ∙ ap length t);
-      low = rw (pow-add 256 p.length 6) (omega (arith, digits_lt l b));
     }
+
+pub rest_low : (p : Piece) (x : ℕ) → x < 2 ^ 48 → x + p.bytes * 0x1_0000_0000_0000 < 256 ^ (p.length + 6)
+rest_low p x b = rw (pow-add 256 p.length 6) (omega (arith, digits_lt p.low b))

@@ -15,8 +15,8 @@ use Rattle.bits.proofs.Bytes.{bytes_drop}
 use Rattle.ascii.specs.Ascii.{dec}
 use Rattle.ascii.proofs.Decimals.{dec_one, dec_two, dec_more}
 use Rattle.text.specs.declared.piece.Piece.{Piece}
-use Rattle.text.specs.route.Pieces.{text_in, Spells, padded, reaches_of, count_to}
-use Rattle.text.proofs.Packing.{long}
+use Rattle.text.specs.route.Pieces.{text_in, Shows, padded, reaches_of, count_to}
+use Rattle.text.proofs.Packing.{shown}
 
 -- ---- digits
 
@@ -102,16 +102,18 @@ module _ (n : ℕ) where
   count_is (suc k) l h = count_next k l h (count_is k l) (ltb n (10 ^ suc k)) refl
 
 -- all seven digits without those in front
-pub number_is : {n k : ℕ} {p : Piece} → n < 10000000 → Spells (padded 7 n) p → k ≡ count_to 6 n → Spells (dec n) (record { bytes = p.bytes / 2 ^ (8 * (7 - k)); length = k })
+pub number_is : {n k : ℕ} {p : Piece} {q : Piece} → n < 10000000 → Shows (padded 7 n) p → k ≡ count_to 6 n → q.bytes ≡ p.bytes / 2 ^ (8 * (7 - k)) → q.length ≡ k → Shows (dec n) q
 unfolding text_in
-number_is {n} {k} {p} h s e =
+number_is {n} {k} {p} {q} h s e b m =
     let d = count_is n 6 (omega arith) h in
     let j : 7 - k + k ≡ 7 = omega (arith, d.most) in
-    let i : k + (7 - k) ≡ 7 = omega (arith, d.most) in
-    let l : p.length ≡ 7 = long s in
+    let l : p.length ≡ 7 = s.long ∙ length_padded 7 n in
     let t : bytes_of 7 p.bytes ≡ padded 7 n = rw l at s.text in
     let f : dec n ≡ padded k n = rw e d.digits in
-    record {
-      text = rw (pow_eight (7 - k)) (bytes_drop (7 - k) k p.bytes ∙ rw j (ap (drop (7 - k)) t) ∙ (rw j at (drop_padded (7 - k) k n)) ∙ sym f);
-      low = rw (pow_eight (7 - k)) ((div-lt_iff_lt-mul (one-le-pow (7 - k) 256 (lit< tt))).1 (rw (← pow-add 256 k (7 - k), i) (rw l at s.low)));
-    }
+    shown (rw (b, m, pow_eight (7 - k)) (bytes_drop (7 - k) k p.bytes ∙ rw j (ap (drop (7 - k)) t) ∙ (rw j at (drop_padded (7 - k) k n)) ∙ sym f))
+
+pub number_low : (n k : ℕ) (p : Piece) → Shows (padded 7 n) p → k ≤ 7 → p.bytes / 2 ^ (8 * (7 - k)) < 256 ^ k
+number_low n k p s h =
+    let i : k + (7 - k) ≡ 7 = omega arith in
+    let l : p.length ≡ 7 = s.long ∙ length_padded 7 n in
+    rw (pow_eight (7 - k)) ((div-lt_iff_lt-mul (one-le-pow (7 - k) 256 (lit< tt))).1 (rw (← pow-add 256 k (7 - k), i) (rw l at p.low)))

@@ -4,11 +4,11 @@ ghost use Rattle.bits.specs.Choice.{pick};
 ghost use Rattle.ascii.specs.Ascii.{asc, signed_dec};
 ghost use Rattle.mnemonic.specs.route.Named.{known};
 ghost use Rattle.text.specs.Texts.{base_text, offset_tail, pre_tail, post_tail};
-ghost use Rattle.text.specs.route.Pieces.{text_in, Low, Leads, Fit, Shows};
+ghost use Rattle.text.specs.route.Pieces.{text_in, Leads, Shows};
 ghost use Rattle.text.specs.route.Lines.{Made, first_part, rest_part, front_in};
 
 use crate::piece::{Piece, Pieces};
-use crate::{hint, number, piece, register};
+use crate::{hint, number, register};
 use mnemonic::Mnemonic;
 
 // A line by its mnemonic, the first piece of its first operand, and the further pieces. The second is the rest of the
@@ -21,7 +21,7 @@ pub fn line_of(
     fourth: Piece,
     last: Piece,
 ) -> Pieces
-    requires { ((known m).fits ≡ true) × (first < 32) × Fit second × Fit third × Fit fourth × Fit last }
+    requires { ((known m).fits ≡ true) × (first < 32) }
     ensures { Made (front_in m first ++ text_in second ++ text_in third ++ text_in fourth ++ text_in last) result }
 {
     let letters = name(m);
@@ -54,12 +54,12 @@ fn first_operand(m: Mnemonic, n: u32) -> Piece
     if letter == b'#' {
         return hint::front(n);
     }
-    piece::led(b' ', register::operand(letter, n))
+    register::operand(letter, n).led(b' ')
 }
 
 // What a first operand has behind its first piece, before a piece.
 pub fn rest_operand(m: Mnemonic, n: u32, behind: Piece) -> Piece
-    requires { (n < 32) × (behind.length ≤ 2) × Low behind }
+    requires { (n < 32) × (behind.length ≤ 2) }
     ensures { Leads (rest_part (known m).letter n) behind result × (result.length ≤ behind.length + 6) }
 {
     if m.shape / 256 == 0x23 {
@@ -78,7 +78,7 @@ pub fn none() -> Piece
 }
 
 pub fn plain(m: Mnemonic, first: u32, second: Piece, base: u32, offset: i64) -> Pieces
-    requires { ((known m).fits ≡ true) × (first < 32) × Fit second × (base < 32) × (nat_abs offset < 10000000) }
+    requires { ((known m).fits ≡ true) × (first < 32) × (base < 32) × (nat_abs offset < 10000000) }
     ensures { Made (front_in m first ++ text_in second ++ asc "[" ++ base_text base ++ offset_tail offset) result }
 {
     let far = bits::magnitude(offset);
@@ -121,7 +121,7 @@ fn offset_for(far: u64, offset: i64) -> Piece
 }
 
 pub fn pre(m: Mnemonic, first: u32, second: Piece, base: u32, offset: i64) -> Pieces
-    requires { ((known m).fits ≡ true) × (first < 32) × Fit second × (base < 32) × (nat_abs offset < 10000000) }
+    requires { ((known m).fits ≡ true) × (first < 32) × (base < 32) × (nat_abs offset < 10000000) }
     ensures { Made (front_in m first ++ text_in second ++ asc "[" ++ base_text base ++ pre_tail offset) result }
 {
     let sign = Piece {
@@ -143,7 +143,7 @@ pub fn pre(m: Mnemonic, first: u32, second: Piece, base: u32, offset: i64) -> Pi
 }
 
 pub fn post(m: Mnemonic, first: u32, second: Piece, base: u32, offset: i64) -> Pieces
-    requires { ((known m).fits ≡ true) × (first < 32) × Fit second × (base < 32) × (nat_abs offset < 10000000) }
+    requires { ((known m).fits ≡ true) × (first < 32) × (base < 32) × (nat_abs offset < 10000000) }
     ensures { Made (front_in m first ++ text_in second ++ asc "[" ++ base_text base ++ post_tail offset) result }
 {
     let sign = Piece {

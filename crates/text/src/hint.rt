@@ -2,11 +2,10 @@
 ghost use Rattle.std.specs.Prelude.{◌≡◌, ◌++◌, ◌+◌, ◌^◌, ◌<◌, ◌≤◌};
 ghost use Rattle.ascii.specs.Ascii.{asc};
 ghost use Rattle.text.specs.Hints.{unnamed};
-ghost use Rattle.text.specs.route.Pieces.{Low, Leads, Shows};
+ghost use Rattle.text.specs.route.Pieces.{Leads, Shows};
 ghost use Rattle.text.specs.route.Hints.{kind_bytes, policy_bytes};
 ghost use Rattle.text.specs.route.Lines.{hint_front, hint_rest};
 
-use crate::piece;
 use crate::piece::Piece;
 
 // Behind its space, the kind and the level; or all of a hint without a name.
@@ -19,18 +18,18 @@ pub fn front(n: u32) -> Piece
             bytes: 0x202c,
             length: 2,
         };
-        return piece::led(b' ', piece::led(b'#', piece::digits(n, comma)));
+        return comma.numbered(n).led(b'#').led(b' ');
     }
     // A space, three letters of the kind, and l1, to whose digit the level is added.
     Piece {
-        bytes: 0x316c_0000_0020 + kind(n / 8) * 256 + (n / 2 % 4) as u64 * 0x100_0000_0000,
+        bytes: 0x316c_0000_0020 + kind(n / 8) * 256 + u64::from(n / 2 % 4) * 0x100_0000_0000,
         length: 6,
     }
 }
 
 // Whether to keep it, and the comma, before a piece.
 pub fn rest(n: u32, behind: Piece) -> Piece
-    requires { (n < 32) × (behind.length ≤ 2) × Low behind }
+    requires { (n < 32) × (behind.length ≤ 2) }
     ensures { Leads (hint_rest n) behind result × (result.length ≤ behind.length + 6) }
 {
     if is_unnamed(n) {

@@ -1,5 +1,5 @@
 // The form of a line with an index.
-ghost use Rattle.std.specs.Prelude.{◌≡◌, true, ◌++◌, ◌+◌, ◌%◌, ◌<◌};
+ghost use Rattle.std.specs.Prelude.{◌≡◌, true, ◌++◌, ◌+◌, ◌%◌, ◌^◌, ◌<◌};
 ghost use Rattle.ascii.specs.Ascii.{asc};
 ghost use Rattle.mnemonic.specs.route.Named.{known};
 ghost use Rattle.text.specs.Texts.{register_text, base_text, extend_text};
@@ -7,7 +7,7 @@ ghost use Rattle.text.specs.route.Pieces.{Shows};
 ghost use Rattle.text.specs.route.Lines.{Made, rest_part, front_in, extend_part, amount_part};
 
 use crate::piece::{Piece, Pieces};
-use crate::{form, piece, register};
+use crate::{form, register};
 use instruction::IndexOperands;
 use mnemonic::Mnemonic;
 
@@ -21,7 +21,7 @@ pub fn indexed(m: Mnemonic, o: IndexOperands, size: u32) -> Pieces
     };
     let option = o.option;
     let index = register::register((119 + option % 2) as u8, o.index, form::none());
-    let base = register::base(o.base, piece::led(b',', piece::led(b' ', index)));
+    let base = register::base(o.base, index.led(b' ').led(b','));
     form::line_of(
         m,
         o.target,
@@ -36,25 +36,19 @@ pub fn indexed(m: Mnemonic, o: IndexOperands, size: u32) -> Pieces
 fn extend(option: u32, scaled: u32) -> Piece
     ensures { Shows (extend_part option scaled) result }
 {
-    if option == 0b011 {
-        return shift(scaled);
+    match option {
+        0b011 => shift(scaled),
+        0b010 => six(0x7774_7875_202c), // , uxtw
+        0b110 => six(0x7774_7873_202c), // , sxtw
+        _ => six(0x7874_7873_202c), // , sxtx
     }
-    if option == 0b010 {
-        return Piece {
-            bytes: 0x7774_7875_202c, // , uxtw
-            length: 6,
-        };
-    }
-    if option == 0b110 {
-        return Piece {
-            bytes: 0x7774_7873_202c, // , sxtw
-            length: 6,
-        };
-    }
-    Piece {
-        bytes: 0x7874_7873_202c, // , sxtx
-        length: 6,
-    }
+}
+
+fn six(bytes: u64) -> Piece
+    requires { bytes < 256 ^ 6 }
+    ensures { (result.bytes ≡ bytes) × (result.length ≡ 6) }
+{
+    Piece { bytes, length: 6 }
 }
 
 fn shift(scaled: u32) -> Piece
@@ -76,7 +70,7 @@ fn amount(scaled: u32, size: u32) -> Piece
 {
     if scaled == 1 {
         return Piece {
-            bytes: 0x5d30_2320 + size as u64 * 0x1_0000, // #0]
+            bytes: 0x5d30_2320 + u64::from(size) * 0x1_0000, // #0]
             length: 4,
         };
     }

@@ -6,7 +6,7 @@ ghost use Rattle.mnemonic.specs.Mnemonics.{plain_name, sized_name};
 ghost use Rattle.mnemonic.specs.Operands.{letter_of, access_operand};
 ghost use Rattle.mnemonic.specs.route.Named.{known};
 ghost use Rattle.text.specs.Texts.{base_text, offset_tail, pre_tail, post_tail, pair_tail, index_tail, literal_text, pair_text, sized_text, exclusive_text, store_exclusive_text, family_text};
-ghost use Rattle.text.specs.route.Pieces.{text_in, Fit};
+ghost use Rattle.text.specs.route.Pieces.{text_in};
 ghost use Rattle.text.specs.route.Lines.{Made, front_in};
 
 use crate::piece::{Piece, Pieces};
@@ -70,7 +70,7 @@ fn pair(op: PairOp, o: PairOperands) -> Pieces
 }
 
 fn in_mode(mode: PairMode, m: Mnemonic, first: u32, second: Piece, base: u32, offset: i64) -> Pieces
-    requires { ((known m).fits ≡ true) × (first < 32) × Fit second × (base < 32) × (nat_abs offset < 10000000) }
+    requires { ((known m).fits ≡ true) × (first < 32) × (base < 32) × (nat_abs offset < 10000000) }
     ensures { Made (front_in m first ++ text_in second ++ asc "[" ++ base_text base ++ pair_tail mode offset) result }
 {
     match mode {
@@ -139,9 +139,7 @@ fn data_letter(size: AccessSize) -> u8
     ensures { result ≡ letter_of (access_operand size) }
 {
     match size {
-        AccessSize::Byte => b'w',
-        AccessSize::Half => b'w',
-        AccessSize::Word => b'w',
+        AccessSize::Byte | AccessSize::Half | AccessSize::Word => b'w',
         AccessSize::Double => b'x',
     }
 }

@@ -2,9 +2,8 @@
 // are made, and the zeros in front are dropped.
 ghost use Rattle.std.specs.Prelude.{◌≡◌, ◌+◌, ◌%◌, ◌<◌, ◌≤◌, nat_abs};
 ghost use Rattle.ascii.specs.Ascii.{dec, signed_dec};
-ghost use Rattle.text.specs.route.Pieces.{Spells, Shows, padded, count_to, reaches_of};
+ghost use Rattle.text.specs.route.Pieces.{Shows, padded, count_to, reaches_of};
 
-use crate::piece;
 use crate::piece::Piece;
 
 pub fn signed(n: i64) -> Piece
@@ -13,14 +12,14 @@ pub fn signed(n: i64) -> Piece
 {
     let far = number(bits::magnitude(n));
     if n < 0 {
-        return piece::led(b'-', far);
+        return far.led(b'-');
     }
     far
 }
 
 fn number(n: u64) -> Piece
     requires { n < 10000000 }
-    ensures { Spells (dec n) result × (result.length ≤ 7) }
+    ensures { Shows (dec n) result × (result.length ≤ 7) }
 {
     let all = seven(n);
     let length = count(n);
@@ -32,18 +31,19 @@ fn number(n: u64) -> Piece
 
 // Seven digits, with zeros in front.
 fn seven(n: u64) -> Piece
-    ensures { Spells (padded 7 n) result }
+    ensures { Shows (padded 7 n) result }
 {
     let none = Piece {
         bytes: 0,
         length: 0,
     };
-    let three = piece::led(
-        digit(n / 100),
-        piece::led(digit(n / 10), piece::led(digit(n), none)),
-    );
-    let five = piece::led(digit(n / 10000), piece::led(digit(n / 1000), three));
-    piece::led(digit(n / 1000000), piece::led(digit(n / 100000), five))
+    none.led(digit(n))
+        .led(digit(n / 10))
+        .led(digit(n / 100))
+        .led(digit(n / 1000))
+        .led(digit(n / 10000))
+        .led(digit(n / 100000))
+        .led(digit(n / 1000000))
 }
 
 // The last digit of a number.

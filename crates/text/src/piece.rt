@@ -1,13 +1,13 @@
 // Short texts, each in one number, so that each is put into a line by one store, however long it is.
-ghost use Rattle.std.specs.Prelude.{[], ◌∷◌, ◌+◌, ◌<◌, ◌≤◌};
-ghost use Rattle.ascii.specs.Ascii.{dec};
-ghost use Rattle.text.specs.route.Pieces.{Low, Leads};
+ghost use Rattle.std.specs.Prelude.{◌^◌, ◌<◌, ◌≤◌};
 
 // Up to eight bytes, the first lowest, with zeros above them.
 #[derive(Clone, Copy)]
 pub struct Piece {
     pub bytes: u64,
     pub length: usize,
+    pub ghost short: { length ≤ 8 },
+    pub ghost low: { bytes < 256 ^ length },
 }
 
 // A line of text in six pieces, of which some may be empty.
@@ -21,25 +21,31 @@ pub struct Pieces {
     pub last: Piece,
 }
 
-// A byte before a piece.
-pub fn led(byte: u8, rest: Piece) -> Piece
-    requires { (rest.length ≤ 7) × Low rest }
-    ensures { Leads (byte ∷ []) rest result }
-{
-    Piece {
-        bytes: byte as u64 + rest.bytes * 256,
-        length: rest.length + 1,
-    }
-}
+impl Piece {
+    ghost use Rattle.std.specs.Prelude.{[], ◌∷◌, ◌+◌};
+    ghost use Rattle.ascii.specs.Ascii.{dec};
+    ghost use Rattle.text.specs.route.Pieces.{Leads};
 
-// A number of one digit or two before a piece.
-pub fn digits(n: u32, rest: Piece) -> Piece
-    requires { (n < 100) × (rest.length ≤ 6) × Low rest }
-    ensures { Leads (dec n) rest result × (result.length ≤ rest.length + 2) }
-{
-    let ones = led((48 + n % 10) as u8, rest);
-    if n < 10 {
-        return ones;
+    // With a byte before it.
+    pub fn led(self, byte: u8) -> Piece
+        requires { self.length ≤ 7 }
+        ensures { Leads (byte ∷ []) self result }
+    {
+        Piece {
+            bytes: u64::from(byte) + self.bytes * 256,
+            length: self.length + 1,
+        }
     }
-    led((48 + n / 10) as u8, ones)
+
+    // With a number of one digit or two before it.
+    pub fn numbered(self, n: u32) -> Piece
+        requires { (n < 100) × (self.length ≤ 6) }
+        ensures { Leads (dec n) self result × (result.length ≤ self.length + 2) }
+    {
+        let ones = self.led((48 + n % 10) as u8);
+        if n < 10 {
+            return ones;
+        }
+        ones.led((48 + n / 10) as u8)
+    }
 }

@@ -8,9 +8,6 @@ returns-then-has_no_text c =
     let spell = c.spell-spelled.ensures in
     (spell.0, rw (no_text _ spell.0 c.has_no_text.ensures c.if-has_no_text.true) (nothing _ _))
 
-pub put_pieces-requires : goal.put_pieces-requires
-put_pieces-requires c = c.spell-spelled.ensures.1.sound
-
 pub returns : goal.returns
 returns c =
     let spell = c.spell-spelled.ensures in

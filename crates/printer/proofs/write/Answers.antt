@@ -5,9 +5,6 @@ use Rattle.printer.proofs.write.Goals as goal
 pub returns-then-has_no_text-clause-exact : goal.returns-then-has_no_text-clause-exact
 returns-then-has_no_text-clause-exact c = write_refused _ c.spell-spelling.ensures.0 c.has_no_text.ensures _ c.if-has_no_text.true
 
-pub write_pieces-requires : goal.write_pieces-requires
-write_pieces-requires c = c.spell-spelling.ensures.1.sound
-
 pub returns-clause-exact : goal.returns-clause-exact
 returns-clause-exact c =
     let spell = c.spell-spelling.ensures in

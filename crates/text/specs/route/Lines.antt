@@ -7,22 +7,13 @@ use Rattle.text.specs.Texts.{register_text, extend_name, amount_text}
 use Rattle.mnemonic.specs.declared.Mnemonic.{Mnemonic}
 use Rattle.mnemonic.specs.route.Named.{known}
 use Rattle.text.specs.declared.piece.Pieces.{Pieces}
-use Rattle.text.specs.route.Pieces.{text_in, Fit}
-
-pub record Sound (p : Pieces) : Type 0 where
-  pub name : Fit p.name
-  pub first : Fit p.first
-  pub second : Fit p.second
-  pub third : Fit p.third
-  pub fourth : Fit p.fourth
-  pub last : Fit p.last
+use Rattle.text.specs.route.Pieces.{text_in}
 
 abbrev pub whole : Pieces → List ℕ
 whole p = text_in p.name ++ text_in p.first ++ text_in p.second ++ text_in p.third ++ text_in p.fourth ++ text_in p.last
 
 pub record Made (t : List ℕ) (p : Pieces) : Type 0 where
   pub text : whole p ≡ t
-  pub sound : Sound p
 
 -- the first operand in two pieces, by its letter, w, x or #; only the name of a hint has the second
 abbrev pub hint_front : ℕ → List ℕ

@@ -1,5 +1,5 @@
 -- Short texts that are packed into numbers: the route of the code, not what a line is, which Texts says.
-use Rattle.std.specs.Prelude.{ℕ, zero, suc, ◌+◌, ◌/◌, ◌%◌, ◌^◌, ◌≤◌, ◌<◌, ◌≡◌, List, [], ◌∷◌, ◌++◌, ltb, length}
+use Rattle.std.specs.Prelude.{ℕ, zero, suc, ◌+◌, ◌/◌, ◌%◌, ◌^◌, ◌≡◌, List, [], ◌∷◌, ◌++◌, ltb, length}
 use Rattle.bits.specs.Choice.{pick}
 use Rattle.bits.specs.Bytes.{bytes_of}
 use Rattle.text.specs.declared.piece.Piece.{Piece}
@@ -8,28 +8,14 @@ use Rattle.text.specs.declared.piece.Piece.{Piece}
 unfoldable pub text_in : Piece → List ℕ
 text_in p = bytes_of p.length p.bytes
 
--- nothing stands above its bytes
-abbrev pub Low : Piece → Type 0
-Low p = p.bytes < 256 ^ p.length
-
-pub record Spells (t : List ℕ) (p : Piece) : Type 0 where
+pub record Shows (t : List ℕ) (p : Piece) : Type 0 where
   pub text : text_in p ≡ t
-  pub low : Low p
+  pub long : p.length ≡ length t
 
 -- a piece with a text before another
 pub record Leads (t : List ℕ) (rest p : Piece) : Type 0 where
   pub text : text_in p ≡ t ++ text_in rest
   pub longer : p.length ≡ length t + rest.length
-  pub low : Low p
-
--- it has at most eight bytes
-pub record Fit (p : Piece) : Type 0 where
-  pub short : p.length ≤ 8
-  pub low : Low p
-
-pub record Shows (t : List ℕ) (p : Piece) : Type 0 where
-  pub text : text_in p ≡ t
-  pub fit : Fit p
 
 -- the last k digits of a number, with zeros in front
 abbrev pub padded : ℕ → ℕ → List ℕ

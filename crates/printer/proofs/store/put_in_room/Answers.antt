@@ -6,4 +6,4 @@ use Rattle.printer.proofs.store.put_in_room.Goals as goal
 pub returns : goal.returns
 returns c =
     let e = c.total.ensures.0 in
-    restored _ c.spill_pieces.ensures (omega (arith, e, whole_length c.args.p)) (omega (arith, e, c.requires.1)) c.eight_at-behind.ensures.are c.put_number.ensures
+    restored _ c.spill_pieces.ensures (omega (arith, e, whole_length c.args.p)) (omega (arith, e, c.requires)) c.eight_at-behind.ensures.are c.put_number.ensures

@@ -4,4 +4,4 @@ use Rattle.printer.proofs.Spilling.{spill_is}
 use Rattle.printer.proofs.store.spill.Goals as goal
 
 pub returns : goal.returns
-returns c = (spill_is _ c.requires.0 c.put_number.ensures refl, refl)
+returns c = (spill_is _ c.put_number.ensures refl, refl)

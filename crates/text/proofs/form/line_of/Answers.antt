@@ -3,4 +3,4 @@ use Rattle.text.proofs.Forms.{made}
 use Rattle.text.proofs.form.line_of.Goals as goal
 
 pub returns : goal.returns
-returns c = made _ _ _ _ _ _ c.name-letters.ensures c.first_operand-operand.ensures c.requires.2 c.requires.3 c.requires.4 c.requires.5
+returns c = made _ _ _ _ _ _ c.name-letters.ensures c.first_operand-operand.ensures

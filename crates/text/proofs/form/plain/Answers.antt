@@ -1,5 +1,6 @@
 -- `text::form::plain` meets its contract. Assumes nothing.
 use mir.Facts.{to_z-of_z}
+use mathlib.Core.Path.{refl}
 use mathlib.Core.List.{◌++◌}
 use Rattle.text.specs.route.Pieces.{text_in}
 use Rattle.text.specs.route.Lines.{front_in}
@@ -9,4 +10,4 @@ use Rattle.text.proofs.form.plain.Goals as goal
 pub returns : goal.returns
 returns c =
     let e = to_z-of_z c.ranges.offset in
-    ended (front_in c.args.m c.args.first ++ text_in c.args.second) c.bracketed.ensures.0 c.sign_for.ensures.0 (rw e at c.offset_for.ensures) bracket_shown (offset_parts e c.magnitude-far.ensures) c.line_of.ensures
+    ended (front_in c.args.m c.args.first ++ text_in c.args.second) c.bracketed.ensures.0 c.sign_for.ensures.0 (rw e at c.offset_for.ensures) (bracket_shown refl refl) (offset_parts e c.magnitude-far.ensures) c.line_of.ensures

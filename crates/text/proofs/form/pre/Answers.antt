@@ -10,4 +10,4 @@ use Rattle.text.proofs.form.pre.Goals as goal
 
 pub returns : goal.returns
 unfolding pre_tail
-returns c = ended (front_in c.args.m c.args.first ++ text_in c.args.second) c.bracketed.ensures.0 sign_shown (rw (to_z-of_z c.ranges.offset) at c.signed.ensures) close_shown refl c.line_of.ensures
+returns c = ended (front_in c.args.m c.args.first ++ text_in c.args.second) c.bracketed.ensures.0 (sign_shown refl refl) (rw (to_z-of_z c.ranges.offset) at c.signed.ensures) (close_shown refl refl) refl c.line_of.ensures

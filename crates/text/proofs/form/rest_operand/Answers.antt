@@ -11,4 +11,4 @@ returns-then-m-eq35 c = rw c.if-m-eq35.true c.rest.ensures
 
 pub returns : goal.returns
 unfolding rest_part
-returns c = (simp (ne_eqb _ _ c.if-m-eq35.false) (itself_led _ c.requires.2), omega arith)
+returns c = (simp (ne_eqb _ _ c.if-m-eq35.false) (itself_led _), omega arith)

@@ -9,7 +9,7 @@ use Rattle.text.proofs.line.exclusive.Goals as goal
 
 pub plain-requires : goal.plain-requires
 unfolding exclusive_text
-plain-requires c = (fits _ _ (access_operand c.args.o.size) c.exclusive_name-m.ensures, c.requires.target, c.none.ensures.fit, c.requires.base, omega arith)
+plain-requires c = (fits _ _ (access_operand c.args.o.size) c.exclusive_name-m.ensures, c.requires.target, c.requires.base, omega arith)
 
 pub returns : goal.returns
 unfolding exclusive_text

@@ -15,8 +15,7 @@ pub in_mode-requires : goal.in_mode-requires
 unfolding pair_text
 in_mode-requires c =
     let f : SFits w64 c.args.o.offset = search rules in
-    let operand = c.operand-second.ensures in
-    (fits _ _ (pair_operand c.args.op) c.pair_name-m.ensures, c.requires.first, record { short = omega (arith, operand.1); low = operand.0.low }, c.requires.base, rw (to_z-of_z f) (omega (arith, c.requires.offset)))
+    (fits _ _ (pair_operand c.args.op) c.pair_name-m.ensures, c.requires.first, c.requires.base, rw (to_z-of_z f) (omega (arith, c.requires.offset)))
 
 pub returns : goal.returns
 unfolding pair_text

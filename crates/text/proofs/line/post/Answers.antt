@@ -5,21 +5,15 @@ use mir.Facts.{to_z-of_z}
 use native.Mathlib.Omega.{arith}
 use Rattle.mnemonic.specs.Operands.{sized_operand}
 use Rattle.text.specs.Texts.{sized_text}
-use Rattle.text.proofs.Forms.{front_is, fits, rest_alone, shown_length, fit_of}
+use Rattle.text.proofs.Forms.{front_is, fits, rest_alone}
 use borrow.Author.Rules.{rules}
 use Rattle.text.proofs.line.post.Goals as goal
-
-pub rest_operand-rest-requires : goal.rest_operand-rest-requires
-unfolding sized_text
-rest_operand-rest-requires c = (c.requires.target, omega (arith, shown_length c.none.ensures), c.none.ensures.fit.low)
 
 pub post-requires : goal.post-requires
 unfolding sized_text
 post-requires c =
     let f : SFits w64 c.args.o.offset = search rules in
-    let rest = c.rest_operand-rest.ensures in
-    let none = shown_length c.none.ensures in
-    (fits _ _ (sized_operand c.args.op) c.sized_name-m.ensures, c.requires.target, fit_of rest.0 (omega (arith, rest.1, none)), c.requires.base, rw (to_z-of_z f) (omega (arith, c.requires.offset)))
+    (fits _ _ (sized_operand c.args.op) c.sized_name-m.ensures, c.requires.target, c.requires.base, rw (to_z-of_z f) (omega (arith, c.requires.offset)))
 
 pub returns : goal.returns
 unfolding sized_text

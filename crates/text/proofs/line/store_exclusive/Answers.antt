@@ -11,8 +11,7 @@ use Rattle.text.proofs.line.store_exclusive.Goals as goal
 pub plain-requires : goal.plain-requires
 unfolding store_exclusive_text
 plain-requires c =
-    let stored = c.operand-data.ensures in
-    (fits _ _ Narrow c.store_exclusive_name-m.ensures, c.requires.status, record { short = omega (arith, stored.1); low = stored.0.low }, c.requires.base, omega arith)
+    (fits _ _ Narrow c.store_exclusive_name-m.ensures, c.requires.status, c.requires.base, omega arith)
 
 pub returns : goal.returns
 unfolding store_exclusive_text

@@ -11,4 +11,4 @@ returns-then-n-eq31 c = (simp (eq-eqb _ _ c.if-n-eq31.true) (on c.led-then-n-eq3
 
 pub returns : goal.returns
 unfolding base_text
-returns c = (simp (ne_eqb _ _ c.if-n-eq31.false) (on c.led-2.ensures c.digits.ensures.0), omega (arith, c.led-2.ensures.longer, c.digits.ensures.1))
+returns c = (simp (ne_eqb _ _ c.if-n-eq31.false) (on c.led-2.ensures c.numbered.ensures.0), omega (arith, c.led-2.ensures.longer, c.numbered.ensures.1))

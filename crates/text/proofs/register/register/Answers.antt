@@ -11,4 +11,4 @@ returns-then-is_zero c = (rw (sym c.is_zero.ensures ∙ c.if-is_zero.true) (on (
 
 pub returns : goal.returns
 unfolding register_text
-returns c = (rw (sym c.is_zero.ensures ∙ c.if-is_zero.false) (on c.led-2.ensures c.digits.ensures.0), omega (arith, c.led-2.ensures.longer, c.digits.ensures.1))
+returns c = (rw (sym c.is_zero.ensures ∙ c.if-is_zero.false) (on c.led-2.ensures c.numbered.ensures.0), omega (arith, c.led-2.ensures.longer, c.numbered.ensures.1))
