@@ -20,7 +20,7 @@ use Rattle.text.specs.Texts.{register_text, operand_text, offset_tail, extend_na
 use Rattle.text.specs.route.Pieces.{text_in, Leads, Shows}
 use Rattle.text.proofs.Packing.{constant}
 use Rattle.text.proofs.Hinted.{hint_parts}
-use Rattle.text.specs.route.Lines.{Made, first_part, rest_part, front_in, extend_part, amount_part}
+use Rattle.text.specs.route.Lines.{Made, first_part, rest_part, front_in, ahead, extend_part, amount_part}
 
 pub nothing_shown : {q : Piece} → q.bytes ≡ 0 → q.length ≡ 0 → Shows [] q
 unfolding bytes_of
@@ -93,13 +93,12 @@ fits m name o e = ap (λ (k : Known). k.fits) e
 pub made_as : {s t : List ℕ} {p : Pieces} → s ≡ t → Made s p → Made t p
 made_as e a = record { text = a.text ∙ e }
 
-pub made : (m : Mnemonic) (n : ℕ) {a b : Piece} (c d e f : Piece) → Shows (known m).letters a → Shows (asc " " ++ first_part (known m).letter n) b
-    → Made (front_in m n ++ text_in c ++ text_in d ++ text_in e ++ text_in f) (record { name = a; first = b; second = c; third = d; fourth = e; last = f })
+pub front_made : (m : Mnemonic) (n : ℕ) {a b : Piece} → Shows (known m).letters a → Shows (asc " " ++ first_part (known m).letter n) b
+    → ahead (record { name = a; first = b }) ≡ front_in m n
 unfolding front_in
-made m n c d e f p q =
+front_made m n p q =
     let x = (known m).letters in
-    let g = sym (append_assoc x (asc " ") (first_part (known m).letter n)) in
-    record { text = rw (p.text, q.text, g) }
+    rw (p.text, q.text) (sym (append_assoc x (asc " ") (first_part (known m).letter n)))
 
 -- ---- what stands behind the operands
 
@@ -124,18 +123,21 @@ pub ended : (f : List ℕ) {base sign number close tail : List ℕ} {q o n c : P
 ended f {base} {sign} {number} {close} l s n c e m =
     made_as (grouped f (asc "[") base sign number close ∙ ap (λ (t : List ℕ). f ++ asc "[" ++ base ++ t) e) (rw (l.text, s.text, n.text, c.text) at m)
 
-index_grouped : (f rest bracket base comma index extend amount : List ℕ)
-    → f ++ (rest ++ bracket) ++ (base ++ (comma ++ (index ++ []))) ++ extend ++ amount ≡ f ++ rest ++ bracket ++ base ++ (comma ++ index ++ (extend ++ amount))
-index_grouped f rest bracket base comma index extend amount = simp (append_assoc, append-nil)
+index_grouped : (f base comma index extend amount : List ℕ) → f ++ (base ++ (comma ++ (index ++ []))) ++ extend ++ amount ≡ f ++ base ++ (comma ++ index ++ (extend ++ amount))
+index_grouped f base comma index extend amount = simp (append_assoc, append-nil)
 
-pub indexed_by : (f end : List ℕ) {rest base index extend amount : List ℕ} {k s q o r i x a : Piece} {p : Pieces} → Leads rest k s → Shows (asc "[") k → Leads base q o → Leads (asc ", ") i q
-    → Leads index r i → Shows [] r → Shows extend x → Shows amount a → extend ++ amount ≡ end ++ asc "]" → Made (f ++ text_in s ++ text_in o ++ text_in x ++ text_in a) p
-    → Made (f ++ rest ++ asc "[" ++ base ++ (asc ", " ++ index ++ end ++ asc "]")) p
-indexed_by f end {rest} {base} {index} {extend} {amount} s k l q i r x a e m =
+pub indexed_by : (f end : List ℕ) {base index extend amount : List ℕ} {q o r i x a : Piece} {p : Pieces} → Leads base q o → Leads (asc ", ") i q
+    → Leads index r i → Shows [] r → Shows extend x → Shows amount a → extend ++ amount ≡ end ++ asc "]" → Made (f ++ text_in o ++ text_in x ++ text_in a) p
+    → Made (f ++ base ++ (asc ", " ++ index ++ end ++ asc "]")) p
+indexed_by f end {base} {index} {extend} {amount} l q i r x a e m =
     let h : asc ", " ++ index ++ (end ++ asc "]") ≡ asc ", " ++ index ++ end ++ asc "]" = sym (append_assoc (asc ", " ++ index) end (asc "]")) in
-    let g : List ℕ → List ℕ = λ t. f ++ rest ++ asc "[" ++ base ++ t in
-    made_as (index_grouped f rest (asc "[") base (asc ", ") index extend amount ∙ ap (λ (t : List ℕ). g (asc ", " ++ index ++ t)) e ∙ ap g h)
-    (rw (s.text, k.text, l.text, q.text, i.text, r.text, x.text, a.text) at m)
+    let g : List ℕ → List ℕ = λ t. f ++ base ++ t in
+    made_as (index_grouped f base (asc ", ") index extend amount ∙ ap (λ (t : List ℕ). g (asc ", " ++ index ++ t)) e ∙ ap g h)
+    (rw (l.text, q.text, i.text, r.text, x.text, a.text) at m)
+
+-- the rest of an operand, and the bracket before a base
+pub opened : {rest : List ℕ} {k s : Piece} → Leads rest k s → Shows (asc "[") k → text_in s ≡ rest ++ asc "["
+opened {rest} l k = l.text ∙ ap (λ (t : List ℕ). rest ++ t) k.text
 
 -- ---- pieces that are always the same
 
@@ -205,7 +207,7 @@ index_parts option scaled size = by_parts [] (asc ", " ++ extend_name option) (a
 pub rest_alone : {t : List ℕ} {q p : Piece} → Leads t q p → Shows [] q → text_in p ≡ t
 rest_alone {t} l q = l.text ∙ ap (λ (k : List ℕ). t ++ k) q.text ∙ append-nil t
 
--- a literal's offset behind its operand
-pub literal_by : (f : List ℕ) {rest number : List ℕ} {k s h n e : Piece} {p : Pieces} → Leads rest k s → Shows [] k → Shows (asc "#") h → Shows number n → Shows [] e
-    → Made (f ++ text_in s ++ text_in h ++ text_in n ++ text_in e) p → Made (f ++ rest ++ asc "#" ++ number) p
-literal_by f s k h n e m = made_as (simp (append_assoc, append-nil)) (rw (rest_alone s k, h.text, n.text, e.text) at m)
+-- a literal's offset
+pub literal_by : (f : List ℕ) {number : List ℕ} {h n e : Piece} {p : Pieces} → Shows (asc "#") h → Shows number n → Shows [] e
+    → Made (f ++ text_in h ++ text_in n ++ text_in e) p → Made (f ++ asc "#" ++ number) p
+literal_by f h n e m = made_as (simp append-nil) (rw (h.text, n.text, e.text) at m)

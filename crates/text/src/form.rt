@@ -5,30 +5,29 @@ ghost use Rattle.ascii.specs.Ascii.{asc, signed_dec};
 ghost use Rattle.mnemonic.specs.route.Named.{known};
 ghost use Rattle.text.specs.Texts.{base_text, offset_tail, pre_tail, post_tail};
 ghost use Rattle.text.specs.route.Pieces.{text_in, Leads, Shows};
-ghost use Rattle.text.specs.route.Lines.{Made, first_part, rest_part, front_in};
+ghost use Rattle.text.specs.route.Lines.{Made, first_part, rest_part, front_in, ahead};
 
-use crate::piece::{Piece, Pieces};
+use crate::piece::{Front, Piece, Pieces};
 use crate::{hint, number, register};
 use mnemonic::Mnemonic;
 
-// A line by its mnemonic, the first piece of its first operand, and the further pieces. The second is the rest of the
-// first operand, or the second one.
-pub fn line_of(
-    m: Mnemonic,
-    first: u32,
-    second: Piece,
-    third: Piece,
-    fourth: Piece,
-    last: Piece,
-) -> Pieces
-    requires { ((known m).fits ≡ true) × (first < 32) }
-    ensures { Made (front_in m first ++ text_in second ++ text_in third ++ text_in fourth ++ text_in last) result }
+pub fn front(m: Mnemonic, n: u32) -> Front
+    requires { ((known m).fits ≡ true) × (n < 32) }
+    ensures { ahead result ≡ front_in m n }
 {
-    let letters = name(m);
-    let operand = first_operand(m, first);
+    Front {
+        name: name(m),
+        first: first_operand(m, n),
+    }
+}
+
+// A line by its front and the further pieces. The second is the rest of the first operand, or the second one.
+pub fn line_of(front: Front, second: Piece, third: Piece, fourth: Piece, last: Piece) -> Pieces
+    ensures { Made (ahead front ++ text_in second ++ text_in third ++ text_in fourth ++ text_in last) result }
+{
     Pieces {
-        name: letters,
-        first: operand,
+        name: front.name,
+        first: front.first,
         second,
         third,
         fourth,
@@ -77,9 +76,9 @@ pub fn none() -> Piece
     }
 }
 
-pub fn plain(m: Mnemonic, first: u32, second: Piece, base: u32, offset: i64) -> Pieces
-    requires { ((known m).fits ≡ true) × (first < 32) × (base < 32) × (nat_abs offset < 10000000) }
-    ensures { Made (front_in m first ++ text_in second ++ asc "[" ++ base_text base ++ offset_tail offset) result }
+pub fn plain(front: Front, second: Piece, base: u32, offset: i64) -> Pieces
+    requires { (base < 32) × (nat_abs offset < 10000000) }
+    ensures { Made (ahead front ++ text_in second ++ asc "[" ++ base_text base ++ offset_tail offset) result }
 {
     let far = bits::magnitude(offset);
     let close = Piece {
@@ -87,8 +86,7 @@ pub fn plain(m: Mnemonic, first: u32, second: Piece, base: u32, offset: i64) -> 
         length: 1,
     };
     line_of(
-        m,
-        first,
+        front,
         second,
         register::bracketed(base, sign_for(far)),
         offset_for(far, offset),
@@ -120,9 +118,9 @@ fn offset_for(far: u64, offset: i64) -> Piece
     shown
 }
 
-pub fn pre(m: Mnemonic, first: u32, second: Piece, base: u32, offset: i64) -> Pieces
-    requires { ((known m).fits ≡ true) × (first < 32) × (base < 32) × (nat_abs offset < 10000000) }
-    ensures { Made (front_in m first ++ text_in second ++ asc "[" ++ base_text base ++ pre_tail offset) result }
+pub fn pre(front: Front, second: Piece, base: u32, offset: i64) -> Pieces
+    requires { (base < 32) × (nat_abs offset < 10000000) }
+    ensures { Made (ahead front ++ text_in second ++ asc "[" ++ base_text base ++ pre_tail offset) result }
 {
     let sign = Piece {
         bytes: 0x23_202c, // , #
@@ -133,8 +131,7 @@ pub fn pre(m: Mnemonic, first: u32, second: Piece, base: u32, offset: i64) -> Pi
         length: 2,
     };
     line_of(
-        m,
-        first,
+        front,
         second,
         register::bracketed(base, sign),
         number::signed(offset),
@@ -142,17 +139,16 @@ pub fn pre(m: Mnemonic, first: u32, second: Piece, base: u32, offset: i64) -> Pi
     )
 }
 
-pub fn post(m: Mnemonic, first: u32, second: Piece, base: u32, offset: i64) -> Pieces
-    requires { ((known m).fits ≡ true) × (first < 32) × (base < 32) × (nat_abs offset < 10000000) }
-    ensures { Made (front_in m first ++ text_in second ++ asc "[" ++ base_text base ++ post_tail offset) result }
+pub fn post(front: Front, second: Piece, base: u32, offset: i64) -> Pieces
+    requires { (base < 32) × (nat_abs offset < 10000000) }
+    ensures { Made (ahead front ++ text_in second ++ asc "[" ++ base_text base ++ post_tail offset) result }
 {
     let sign = Piece {
         bytes: 0x2320_2c5d, // ], #
         length: 4,
     };
     line_of(
-        m,
-        first,
+        front,
         second,
         register::bracketed(base, sign),
         number::signed(offset),
@@ -160,20 +156,13 @@ pub fn post(m: Mnemonic, first: u32, second: Piece, base: u32, offset: i64) -> P
     )
 }
 
-pub fn literal(m: Mnemonic, first: u32, offset: i64) -> Pieces
-    requires { ((known m).fits ≡ true) × (first < 32) × (nat_abs offset < 10000000) }
-    ensures { Made (front_in m first ++ rest_part (known m).letter first ++ asc "#" ++ signed_dec offset) result }
+pub fn literal(front: Front, rest: Piece, offset: i64) -> Pieces
+    requires { nat_abs offset < 10000000 }
+    ensures { Made (ahead front ++ text_in rest ++ asc "#" ++ signed_dec offset) result }
 {
     let sign = Piece {
         bytes: 0x23, // #
         length: 1,
     };
-    line_of(
-        m,
-        first,
-        rest_operand(m, first, none()),
-        sign,
-        number::signed(offset),
-        none(),
-    )
+    line_of(front, rest, sign, number::signed(offset), none())
 }

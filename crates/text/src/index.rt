@@ -1,31 +1,25 @@
 // The form of a line with an index.
-ghost use Rattle.std.specs.Prelude.{◌≡◌, true, ◌++◌, ◌+◌, ◌%◌, ◌^◌, ◌<◌};
+ghost use Rattle.std.specs.Prelude.{◌≡◌, ◌++◌, ◌+◌, ◌%◌, ◌^◌, ◌<◌};
 ghost use Rattle.ascii.specs.Ascii.{asc};
-ghost use Rattle.mnemonic.specs.route.Named.{known};
 ghost use Rattle.text.specs.Texts.{register_text, base_text, extend_text};
-ghost use Rattle.text.specs.route.Pieces.{Shows};
-ghost use Rattle.text.specs.route.Lines.{Made, rest_part, front_in, extend_part, amount_part};
+ghost use Rattle.text.specs.route.Pieces.{text_in, Shows};
+ghost use Rattle.text.specs.route.Lines.{Made, ahead, extend_part, amount_part};
 
-use crate::piece::{Piece, Pieces};
+use crate::piece::{Front, Piece, Pieces};
 use crate::{form, register};
 use instruction::IndexOperands;
-use mnemonic::Mnemonic;
 
-pub fn indexed(m: Mnemonic, o: IndexOperands, size: u32) -> Pieces
-    requires { ((known m).fits ≡ true) × (o.target < 32) × (o.base < 32) × (o.index < 32) × (size < 5) }
-    ensures { Made (front_in m o.target ++ rest_part (known m).letter o.target ++ asc "[" ++ base_text o.base ++ (asc ", " ++ register_text (119 + o.option % 2) o.index ++ extend_text o.option o.scaled size ++ asc "]")) result }
+// With what stands before the base, its bracket too.
+pub fn indexed(front: Front, second: Piece, o: IndexOperands, size: u32) -> Pieces
+    requires { (o.base < 32) × (o.index < 32) × (size < 5) }
+    ensures { Made (ahead front ++ text_in second ++ base_text o.base ++ (asc ", " ++ register_text (119 + o.option % 2) o.index ++ extend_text o.option o.scaled size ++ asc "]")) result }
 {
-    let bracket = Piece {
-        bytes: 0x5b, // [
-        length: 1,
-    };
     let option = o.option;
     let index = register::register((119 + option % 2) as u8, o.index, form::none());
     let base = register::base(o.base, index.led(b' ').led(b','));
     form::line_of(
-        m,
-        o.target,
-        form::rest_operand(m, o.target, bracket),
+        front,
+        second,
         base,
         extend(option, o.scaled),
         amount(o.scaled, size),

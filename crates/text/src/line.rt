@@ -1,22 +1,21 @@
 // The line of an instruction in pieces.
-ghost use Rattle.std.specs.Prelude.{◌≡◌, true, ◌++◌, ◌<◌, nat_abs};
-ghost use Rattle.instruction.specs.route.Bounds.{LiteralBounds, PairBounds, OffsetBounds, IndexBounds, ExclusiveBounds, StoreExclusiveBounds, Bounded};
+ghost use Rattle.std.specs.Prelude.{◌≡◌, ◌++◌, ◌<◌, nat_abs};
+ghost use Rattle.instruction.specs.route.Bounds.{LiteralBounds, PairBounds, IndexBounds, ExclusiveBounds, StoreExclusiveBounds, Bounded};
 ghost use Rattle.ascii.specs.Ascii.{asc};
 ghost use Rattle.mnemonic.specs.Mnemonics.{plain_name, sized_name};
 ghost use Rattle.mnemonic.specs.Operands.{letter_of, access_operand};
-ghost use Rattle.mnemonic.specs.route.Named.{known};
-ghost use Rattle.text.specs.Texts.{base_text, offset_tail, pre_tail, post_tail, pair_tail, index_tail, literal_text, pair_text, sized_text, exclusive_text, store_exclusive_text, family_text};
+ghost use Rattle.text.specs.Texts.{base_text, pair_tail, index_tail, literal_text, pair_text, sized_text, exclusive_text, store_exclusive_text, family_text};
 ghost use Rattle.text.specs.route.Pieces.{text_in};
-ghost use Rattle.text.specs.route.Lines.{Made, front_in};
+ghost use Rattle.text.specs.route.Lines.{Made, ahead};
 
-use crate::piece::{Piece, Pieces};
+use crate::piece::{Front, Piece, Pieces};
 use crate::{form, index, register};
 use instruction::{
     AccessSize, ExclusiveOp, ExclusiveOperands, Family, IndexOperands, LiteralOp, LiteralOperands,
     OffsetOperands, PairMode, PairOp, PairOperands, SizedOp, StoreExclusiveOp,
     StoreExclusiveOperands,
 };
-use mnemonic::{Mnemonic, Stem};
+use mnemonic::Stem;
 
 pub fn pieces_of(family: Family) -> Pieces
     requires { Bounded family }
@@ -26,12 +25,12 @@ pub fn pieces_of(family: Family) -> Pieces
         Family::Empty => nothing(),
         Family::Literal(op, o) => literal(op, o),
         Family::Pair(op, o) => pair(op, o),
-        Family::Ordered(op, o) => offset(Stem::Order, op, o),
-        Family::Unscaled(op, o) => offset(Stem::Unscale, op, o),
-        Family::PostIndex(op, o) => post(op, o),
-        Family::PreIndex(op, o) => pre(op, o),
+        Family::Ordered(op, o) => sized(Stem::Order, PairMode::Offset, op, o),
+        Family::Unscaled(op, o) => sized(Stem::Unscale, PairMode::Offset, op, o),
+        Family::PostIndex(op, o) => sized(Stem::Plain, PairMode::Post, op, o),
+        Family::PreIndex(op, o) => sized(Stem::Plain, PairMode::Pre, op, o),
         Family::Register(op, o) => indexed(op, o),
-        Family::Unsigned(op, o) => offset(Stem::Plain, op, o),
+        Family::Unsigned(op, o) => sized(Stem::Plain, PairMode::Offset, op, o),
         Family::Exclusive(op, o) => exclusive(op, o),
         Family::StoreExclusive(op, o) => store_exclusive(op, o),
     }
@@ -56,7 +55,9 @@ fn literal(op: LiteralOp, o: LiteralOperands) -> Pieces
     ensures { Made (literal_text op o) result }
 {
     let m = mnemonic::literal_name(op);
-    form::literal(m, o.target, o.offset)
+    let front = form::front(m, o.target);
+    let rest = form::rest_operand(m, o.target, form::none());
+    form::literal(front, rest, o.offset)
 }
 
 fn pair(op: PairOp, o: PairOperands) -> Pieces
@@ -66,46 +67,29 @@ fn pair(op: PairOp, o: PairOperands) -> Pieces
     let mode = o.mode;
     let m = mnemonic::pair_name(mode, op);
     let second = register::operand((m.shape / 256) as u8, o.second);
-    in_mode(mode, m, o.first, second, o.base, o.offset)
+    in_mode(mode, form::front(m, o.first), second, o.base, o.offset)
 }
 
-fn in_mode(mode: PairMode, m: Mnemonic, first: u32, second: Piece, base: u32, offset: i64) -> Pieces
-    requires { ((known m).fits ≡ true) × (first < 32) × (base < 32) × (nat_abs offset < 10000000) }
-    ensures { Made (front_in m first ++ text_in second ++ asc "[" ++ base_text base ++ pair_tail mode offset) result }
+fn in_mode(mode: PairMode, front: Front, second: Piece, base: u32, offset: i64) -> Pieces
+    requires { (base < 32) × (nat_abs offset < 10000000) }
+    ensures { Made (ahead front ++ text_in second ++ asc "[" ++ base_text base ++ pair_tail mode offset) result }
 {
     match mode {
-        PairMode::NoAllocate => form::plain(m, first, second, base, offset),
-        PairMode::Post => form::post(m, first, second, base, offset),
-        PairMode::Offset => form::plain(m, first, second, base, offset),
-        PairMode::Pre => form::pre(m, first, second, base, offset),
+        PairMode::NoAllocate => form::plain(front, second, base, offset),
+        PairMode::Post => form::post(front, second, base, offset),
+        PairMode::Offset => form::plain(front, second, base, offset),
+        PairMode::Pre => form::pre(front, second, base, offset),
     }
 }
 
-fn offset(stem: Stem, op: SizedOp, o: OffsetOperands) -> Pieces
-    requires { OffsetBounds 65520 o }
-    ensures { Made (sized_text (sized_name stem op) op o.target o.base (offset_tail o.offset)) result }
+fn sized(stem: Stem, mode: PairMode, op: SizedOp, o: OffsetOperands) -> Pieces
+    requires { (o.target < 32) × (o.base < 32) × (nat_abs o.offset < 10000000) }
+    ensures { Made (sized_text (sized_name stem op) op o.target o.base (pair_tail mode o.offset)) result }
 {
     let m = mnemonic::sized_name(stem, op);
+    let front = form::front(m, o.target);
     let rest = form::rest_operand(m, o.target, form::none());
-    form::plain(m, o.target, rest, o.base, o.offset)
-}
-
-fn pre(op: SizedOp, o: OffsetOperands) -> Pieces
-    requires { OffsetBounds 256 o }
-    ensures { Made (sized_text (plain_name op) op o.target o.base (pre_tail o.offset)) result }
-{
-    let m = mnemonic::sized_name(Stem::Plain, op);
-    let rest = form::rest_operand(m, o.target, form::none());
-    form::pre(m, o.target, rest, o.base, o.offset)
-}
-
-fn post(op: SizedOp, o: OffsetOperands) -> Pieces
-    requires { OffsetBounds 256 o }
-    ensures { Made (sized_text (plain_name op) op o.target o.base (post_tail o.offset)) result }
-{
-    let m = mnemonic::sized_name(Stem::Plain, op);
-    let rest = form::rest_operand(m, o.target, form::none());
-    form::post(m, o.target, rest, o.base, o.offset)
+    in_mode(mode, front, rest, o.base, o.offset)
 }
 
 fn indexed(op: SizedOp, o: IndexOperands) -> Pieces
@@ -113,7 +97,13 @@ fn indexed(op: SizedOp, o: IndexOperands) -> Pieces
     ensures { Made (sized_text (plain_name op) op o.target o.base (index_tail op o)) result }
 {
     let m = mnemonic::sized_name(Stem::Plain, op);
-    index::indexed(m, o, instruction::scale(op))
+    let bracket = Piece {
+        bytes: 0x5b, // [
+        length: 1,
+    };
+    let front = form::front(m, o.target);
+    let rest = form::rest_operand(m, o.target, bracket);
+    index::indexed(front, rest, o, instruction::scale(op))
 }
 
 fn exclusive(op: ExclusiveOp, o: ExclusiveOperands) -> Pieces
@@ -122,7 +112,7 @@ fn exclusive(op: ExclusiveOp, o: ExclusiveOperands) -> Pieces
 {
     let size = o.size;
     let m = mnemonic::exclusive_name(op, size);
-    form::plain(m, o.target, form::none(), o.base, 0)
+    form::plain(form::front(m, o.target), form::none(), o.base, 0)
 }
 
 fn store_exclusive(op: StoreExclusiveOp, o: StoreExclusiveOperands) -> Pieces
@@ -132,7 +122,7 @@ fn store_exclusive(op: StoreExclusiveOp, o: StoreExclusiveOperands) -> Pieces
     let size = o.size;
     let m = mnemonic::store_exclusive_name(op, size);
     let data = register::operand(data_letter(size), o.target);
-    form::plain(m, o.status, data, o.base, 0)
+    form::plain(form::front(m, o.status), data, o.base, 0)
 }
 
 fn data_letter(size: AccessSize) -> u8

@@ -21,6 +21,13 @@ pub struct Pieces {
     pub last: Piece,
 }
 
+// What a line begins with: a mnemonic, and the first piece of its first operand.
+#[derive(Clone, Copy)]
+pub struct Front {
+    pub name: Piece,
+    pub first: Piece,
+}
+
 impl Piece {
     ghost use Rattle.std.specs.Prelude.{[], ◌∷◌, ◌+◌};
     ghost use Rattle.ascii.specs.Ascii.{dec};

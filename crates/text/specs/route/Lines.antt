@@ -6,11 +6,15 @@ use Rattle.text.specs.Hints.{hint_kind, hint_level, hint_policy, unnamed, hint_t
 use Rattle.text.specs.Texts.{register_text, extend_name, amount_text}
 use Rattle.mnemonic.specs.declared.Mnemonic.{Mnemonic}
 use Rattle.mnemonic.specs.route.Named.{known}
+use Rattle.text.specs.declared.piece.Front.{Front}
 use Rattle.text.specs.declared.piece.Pieces.{Pieces}
 use Rattle.text.specs.route.Pieces.{text_in}
 
 abbrev pub whole : Pieces → List ℕ
 whole p = text_in p.name ++ text_in p.first ++ text_in p.second ++ text_in p.third ++ text_in p.fourth ++ text_in p.last
+
+abbrev pub ahead : Front → List ℕ
+ahead f = text_in f.name ++ text_in f.first
 
 pub record Made (t : List ℕ) (p : Pieces) : Type 0 where
   pub text : whole p ≡ t
