@@ -1,8 +1,9 @@
 -- The law of an answer to a line: it has eleven bytes. Assumes nothing.
-use Rattle.std.proofs.Common.{ℕ, ◌+◌, ◌-◌, ◌^◌, ◌≤◌, ◌<◌, ◌≡◌, List, [], ◌∷◌, length, arith}
+use Rattle.std.proofs.Common.{ℕ, ◌+◌, ◌-◌, ◌^◌, ◌≤◌, ◌<◌, ◌≡◌, List, [], ◌∷◌, length, arith, inl, inr, Ok}
 use Rattle.std.proofs.Math.Nat.{pow-le-pow_right}
 use native.Mathlib.Decide.{dec_lt}
 use Rattle.io.specs.Digits.{IsDigitCount}
+use Rattle.reader.specs.Reading.{told, ReadOf}
 use Rattle.ascii.specs.route.Puts.{Puts}
 use Rattle.ascii.proofs.Pieces.{same, fits}
 
@@ -17,12 +18,14 @@ eight_digits n k (least, room, few) l = by_more (dec_lt 8 k)
         absurd (omega (arith, low, far))
     by_more (no g) = omega arith
 
+-- a word that was read has 32 bits
+pub read_below : (t : List ℕ) (w : ℕ) → ReadOf t (told (Ok w)) → w < 2 ^ 32
+read_below t w (inl (d, l)) = l.below
+read_below t w (inr (d, z, n)) = omega (arith, z)
+
 -- eight digits, a tab, a digit and a newline
-pub eleven : {xs p ys zs us vs : List ℕ} {at m n j r a b c : ℕ} → Puts xs at p ys m → Puts ys m (a ∷ []) zs n → Puts zs n (b ∷ []) us j → Puts us j (c ∷ []) vs r
-    → length p ≡ 8 → at + 11 ≤ length xs → r ≡ at + 11
-eleven {p = p} {at = at} {m = m} {n = n} {j = j} {r = r} text tab digit end e h =
+pub eleven : {xs p ys zs : List ℕ} {at m r a b c : ℕ} → Puts xs at p ys m → Puts ys m (a ∷ b ∷ c ∷ []) zs r → length p ≡ 8 → at + 11 ≤ length xs → r ≡ at + 11
+eleven {p = p} {at = at} {m = m} {r = r} text answer e h =
     let m-is : m ≡ at + length p = fits text (omega arith) in
-    let n-is : n ≡ m + 1 = fits tab (omega (arith, same text)) in
-    let j-is : j ≡ n + 1 = fits digit (omega (arith, same text, same tab)) in
-    let r_is : r ≡ j + 1 = fits end (omega (arith, same text, same tab, same digit)) in
+    let r-is : r ≡ m + 3 = fits answer (omega (arith, same text)) in
     omega arith

@@ -2,5 +2,8 @@
 use Rattle.stream.proofs.Rooms.{close_room}
 use Rattle.list.proofs.close.Goals as goal
 
+pub unwrap-requires : goal.unwrap-requires
+unwrap-requires c = (close_room c.args.lister.now c.args.output.now c.requires.ready c.close.result _ _ c.close.ensures.value c.close.ensures.refused c.requires.room).0
+
 pub returns : goal.returns
-returns c = close_room _ _ c.requires.0 c.close.ensures c.requires.1
+returns c = (close_room c.args.lister.now c.args.output.now c.requires.ready c.close.result _ _ c.close.ensures.value c.close.ensures.refused c.requires.room).1 _ c.unwrap.ensures
