@@ -1,5 +1,5 @@
 -- The taints after a step are those of the taint rule. Assumes nothing.
-use Rattle.std.proofs.Common.{◌≡◌, ℕ, suc, ◌+◌, ◌-◌, ◌*◌, ◌/◌, ◌^◌, ◌<◌, ◌≤◌, false, ◌⊎◌, List, [], ◌∷◌, map, length, get_or, set, refl, ◌∙◌, inl, inr, arith, lit<, get_or-set_other, get_or-set_same, le-ltb}
+use Rattle.std.proofs.Common.{◌≡◌, ℕ, suc, ◌+◌, ◌-◌, ◌*◌, ◌/◌, ◌^◌, ◌<◌, ◌≤◌, false, ◌⊎◌, List, [], ◌∷◌, map, length, get_or, set, refl, ap, ◌∙◌, inl, inr, zero, min, pow-suc, arith, lit<, get_or-set_other, get_or-set_same, le-ltb}
 use native.Mathlib.Nat.{pow-le-pow_right}
 use lib.Seq.{sets}
 use Rattle.bits.proofs.Choices.{pick_by}
@@ -9,7 +9,10 @@ use Rattle.bits.proofs.Spans.{length_span}
 use Rattle.bits.proofs.Extensions.{extended_below}
 use Rattle.memory.specs.Taints.{normal}
 use Rattle.memory.specs.Sources.{loaded_taint}
-use Rattle.memory.proofs.Taints.{normal_length, taints_fit}
+use Rattle.bits.proofs.Bytes.{bytes_cons}
+use Rattle.memory.proofs.Taints.{normal_length, taints_fit, few_taints, span_normal}
+use Rattle.vectors.specs.File.{normal_halves}
+use Rattle.machine.specs.route.Writing.{halves_in}
 use Rattle.memory.proofs.Sources.{extended_taints}
 use Rattle.registers.specs.File.{taint_in}
 use Rattle.access.specs.declared.transfer.Transfer.{Transfer}
@@ -110,3 +113,22 @@ pub loaded_taint_below : (k : List ℕ) (at n extent : ℕ) → n ≤ extent →
 loaded_taint_below k at n extent l e =
     let fits : joined (map normal (span_of k at n)) * 255 < 256 ^ n = rw (length_span k at n) at (taints_fit (span_of k at n)) in
     rw (← extended_taints k at n extent l) (omega (arith, extended_below n extent (joined (map normal (span_of k at n)) * 255) l e fits))
+
+-- the bytes of what bytes make are they
+span_bytes : (k : List ℕ) (at n : ℕ) → ((i : ℕ) → get_or k i 0 < 256) → (joined (span_of k at n) < 256 ^ n) × (bytes_of n (joined (span_of k at n)) ≡ span_of k at n)
+unfolding joined span_of bytes_of
+span_bytes k at zero real = (lit< tt, refl)
+span_bytes k at (suc n) real =
+    let m = 256 ^ n in
+    let b = real at in
+    let rest = span_bytes k (suc at) n real in
+    (rw pow-suc (omega (arith, b, rest.0)), bytes_cons n (get_or k at 0) (joined (span_of k (suc at) n)) b ∙ ap (λ (l : List ℕ). get_or k at 0 ∷ l) rest.1)
+
+normal_span : (k : List ℕ) (at n : ℕ) → ((i : ℕ) → get_or k i 0 < 256) → n ≤ 8 → joined (map normal (bytes_of 8 (joined (span_of k at n)))) ≡ joined (span_of (map normal k) at n)
+normal_span k at n real h =
+    let b = span_bytes k at n real in
+    few_taints n 8 (joined (span_of k at n)) h b.0 ∙ ap (λ (bs : List ℕ). joined (map normal bs)) b.1 ∙ ap joined (span_normal k at n)
+
+-- the taints of two halves that are loaded are two halves that are loaded of taints
+pub normal_loaded : (n at : ℕ) (k : List ℕ) → ((i : ℕ) → get_or k i 0 < 256) → n ≤ 16 → normal_halves (halves_in k at n) ≡ halves_in (map normal k) at n
+normal_loaded n at k real h = rw (normal_span k at (min n 8) real (omega arith), normal_span k (at + 8) (n - 8) real (omega (arith, h)))

@@ -169,18 +169,7 @@ fn load_taints(n: u32, at: usize, taint: &[u8]) -> Halves
     requires { (n ≤ 16) × (at + n ≤ length taint.now) }
     ensures { result ≡ halves_in (map normal taint.now) at n }
 {
-    let first = memory::load_taints(&taint[at..], n as usize);
-    if n <= 8 {
-        return Halves {
-            low: first,
-            high: 0,
-        };
-    }
-    let mid = at + 8;
-    Halves {
-        low: first,
-        high: memory::load_taints(&taint[mid..], (n - 8) as usize),
-    }
+    vectors::normal(load_halves(n, at, taint))
 }
 
 // Memory and taints after a store at an index, with its status.
