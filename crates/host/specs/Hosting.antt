@@ -4,6 +4,7 @@ use Rattle.instruction.specs.Answers.{answer_number}
 use Rattle.plan.specs.declared.window.Window.{Window}
 use Rattle.machine.specs.Machine.{Machine, machine_of}
 use Rattle.execution.specs.Walk.{Log, log, Result}
+use Rattle.execution.specs.declared.Ran.{Ran}
 use Rattle.arm.specs.Choices.{arm_run}
 use Rattle.host.specs.declared.RunReply.{RunReply}
 
@@ -26,6 +27,10 @@ hosted r vectors vector_taint memory taint trace statuses =
       code = r.code;
       address = r.address;
     }
+
+-- what a run returns, as it crosses
+abbrev pub run_reply : Ran → RunReply
+run_reply r = record { session = r.state; steps = r.steps; answer = answer_number r.answer; code = r.shown.code; address = r.shown.address }
 
 abbrev pub hosted_of : Result Machine → Hosted
 hosted_of t =

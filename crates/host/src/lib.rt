@@ -2,20 +2,20 @@
 // lent slices cross: an answer as its number, and a session's record as it is.
 #![tactic(auto)]
 
-ghost use Rattle.std.specs.Prelude.{◌≡◌};
-ghost use Rattle.instruction.specs.Answers.{answer_number};
+ghost use Rattle.std.specs.Prelude.{◌≡◌, ℕ, List};
 ghost use Rattle.machine.specs.Machine.{machine_of};
 ghost use Rattle.execution.specs.Walk.{log};
-ghost use Rattle.printer.specs.Writing.{write_of};
+ghost use Rattle.printer.specs.Writing.{write_of, outcome};
 ghost use Rattle.listing.specs.Listing.{list_of};
-ghost use Rattle.stream.specs.Streams.{push, close, call_of};
+ghost use Rattle.stream.specs.Streams.{push, close, call_of, outcome as lister_told};
 ghost use Rattle.host.specs.Replies.{text_outcome, numbered, ReadAs, lister_outcome, lister_numbered};
-ghost use Rattle.host.specs.Hosting.{hosted, host_run};
+ghost use Rattle.host.specs.Hosting.{hosted, host_run, run_reply};
 
+use execution::Ran;
 use instruction::Answer;
 use machine::State;
 use plan::Window;
-use stream::{Lister, Pushed};
+use stream::Lister;
 
 // What a run returns beside what it leaves in the slices: the record after the steps done, how many they are, and the
 // answer, code and address of the last step tried.
@@ -27,6 +27,20 @@ pub struct RunReply {
     pub answer: u64,
     pub code: u64,
     pub address: u64,
+}
+
+impl From<Ran> for RunReply {
+    ghost from_gives = { λ ran reply. reply ≡ run_reply ran };
+
+    fn from(ran: Ran) -> RunReply {
+        RunReply {
+            session: ran.state,
+            steps: ran.steps as u64,
+            answer: ran.answer.into(),
+            code: ran.shown.code,
+            address: ran.shown.address,
+        }
+    }
 }
 
 // The length is 0 where the answer is not.
@@ -82,38 +96,29 @@ pub fn milestarling_run(
         trace,
         statuses,
     );
-    let answer = ran.answer;
-    let after = ran.state;
-    RunReply {
-        session: after,
-        steps: ran.steps as u64,
-        answer: answer_number(answer),
-        code: ran.shown.code,
-        address: ran.shown.address,
-    }
+    RunReply::from(ran)
 }
 
 // The text of a word, at the start of a buffer.
 pub fn milestarling_text(word: u32, buffer: &mut [u8]) -> TextReply
     ensures { text_outcome result buffer.new ≡ numbered (write_of word buffer.old) }
 {
-    let written = printer::write(word, buffer);
-    let answer = written.answer;
-    TextReply {
-        answer: answer_number(answer),
-        length: written.length as u64,
-    }
+    text_reply(printer::write(word, buffer))
 }
 
 // The word whose line a text is.
 pub fn milestarling_word(text: &[u8]) -> WordReply
     ensures { ReadAs text.now result }
 {
-    let reading = reader::read(text);
-    let answer = reading.answer;
-    WordReply {
-        answer: answer_number(answer),
-        word: reading.word as u64,
+    match reader::read(text) {
+        Ok(word) => WordReply {
+            answer: 0,
+            word: word.into(),
+        },
+        Err(answer) => WordReply {
+            answer: answer.into(),
+            word: 0,
+        },
     }
 }
 
@@ -121,43 +126,50 @@ pub fn milestarling_word(text: &[u8]) -> WordReply
 pub fn milestarling_list(bytes: &[u8], output: &mut [u8]) -> TextReply
     ensures { text_outcome result output.new ≡ numbered (list_of bytes.now output.old) }
 {
-    let listed = listing::list(bytes, output);
-    let answer = listed.answer;
-    TextReply {
-        answer: answer_number(answer),
-        length: listed.length as u64,
-    }
+    text_reply(listing::list(bytes, output))
 }
 
 // The lines of the words that are whole with one more fragment of a stream, at the start of an output.
 pub fn milestarling_lister_push(lister: Lister, fragment: &[u8], output: &mut [u8]) -> ListerReply
     ensures { lister_outcome result output.new ≡ lister_numbered (call_of lister (push fragment.now output.old)) }
 {
-    lister_reply(lister.push(fragment, output))
+    let mut next = lister;
+    let pushed = next.push(fragment, output);
+    lister_reply(next, pushed)
 }
 
 // The line of the bytes over at the end of a stream, at the start of an output.
 pub fn milestarling_lister_close(lister: Lister, output: &mut [u8]) -> ListerReply
     ensures { lister_outcome result output.new ≡ lister_numbered (call_of lister (close output.old)) }
 {
-    lister_reply(lister.close(output))
+    let mut next = lister;
+    let closed = next.close(output);
+    lister_reply(next, closed)
 }
 
-fn lister_reply(pushed: Pushed) -> ListerReply
-    ensures { result ≡ record { lister = pushed.lister; answer = answer_number pushed.answer; length = pushed.length } }
+// A length, or why there is none, as it crosses.
+fn text_reply(returned: Result<usize, Answer>) -> TextReply
+    ensures { (buffer : List ℕ) → text_outcome result buffer ≡ numbered (outcome returned buffer) }
 {
-    let answer = pushed.answer;
-    let lister = pushed.lister;
-    ListerReply {
-        lister,
-        answer: answer_number(answer),
-        length: pushed.length as u64,
+    match returned {
+        Ok(length) => TextReply {
+            answer: 0,
+            length: length as u64,
+        },
+        Err(answer) => TextReply {
+            answer: answer.into(),
+            length: 0,
+        },
     }
 }
 
-// An answer as it crosses.
-pub fn answer_number(answer: Answer) -> u64
-    ensures { result ≡ answer_number answer }
+fn lister_reply(lister: Lister, returned: Result<usize, Answer>) -> ListerReply
+    ensures { (output : List ℕ) → lister_outcome result output ≡ lister_numbered (lister_told lister returned output) }
 {
-    instruction::answer_number(answer) as u64
+    let reply = text_reply(returned);
+    ListerReply {
+        lister,
+        answer: reply.answer,
+        length: reply.length,
+    }
 }

@@ -43,13 +43,5 @@ pub fn milestarling_turn(
         trace,
         statuses,
     );
-    let answer = ran.answer;
-    let after = ran.state;
-    RunReply {
-        session: after,
-        steps: ran.steps as u64,
-        answer: host::answer_number(answer),
-        code: ran.shown.code,
-        address: ran.shown.address,
-    }
+    RunReply::from(ran)
 }
