@@ -119,9 +119,9 @@ fn signed(bits: u32, half: u32, scale: u32) -> i64
     ensures { result ≡ signed_of half scale bits }
 {
     if bits < half {
-        (bits * scale) as i64
+        i64::from(bits * scale)
     } else {
-        -(((2 * half - bits) * scale) as i64)
+        -i64::from((2 * half - bits) * scale)
     }
 }
 
@@ -129,10 +129,9 @@ fn signed(bits: u32, half: u32, scale: u32) -> i64
 fn literal_operands(word: u32) -> LiteralOperands
     ensures { result ≡ literal_in word }
 {
-    let offset = signed(word / 32 % 0x8_0000, 0x4_0000, 4);
     LiteralOperands {
         target: word / 1 % 32,
-        offset,
+        offset: signed(word / 32 % 0x8_0000, 0x4_0000, 4),
     }
 }
 
@@ -140,14 +139,12 @@ fn literal_operands(word: u32) -> LiteralOperands
 fn pair_operands(op: PairOp, word: u32) -> PairOperands
     ensures { result ≡ pair_in op word }
 {
-    let offset = signed(word / 0x8000 % 128, 64, instruction::pair_bytes(op));
-    let mode = instruction::mode_at(word / 0x80_0000 % 4);
     PairOperands {
         first: word / 1 % 32,
         second: word / 0x400 % 32,
         base: word / 32 % 32,
-        mode,
-        offset,
+        mode: instruction::mode_at(word / 0x80_0000 % 4),
+        offset: signed(word / 0x8000 % 128, 64, instruction::pair_bytes(op)),
     }
 }
 
@@ -155,11 +152,10 @@ fn pair_operands(op: PairOp, word: u32) -> PairOperands
 fn signed_operands(word: u32) -> OffsetOperands
     ensures { result ≡ signed_in word }
 {
-    let offset = signed(word / 0x1000 % 512, 256, 1);
     OffsetOperands {
         target: word / 1 % 32,
         base: word / 32 % 32,
-        offset,
+        offset: signed(word / 0x1000 % 512, 256, 1),
     }
 }
 
@@ -181,11 +177,10 @@ fn unsigned_operands(op: SizedOp, word: u32) -> OffsetOperands
     ensures { result ≡ unsigned_in op word }
 {
     let scale = instruction::sized_bytes(op);
-    let offset = (word / 0x400 % 4096 * scale) as i64;
     OffsetOperands {
         target: word / 1 % 32,
         base: word / 32 % 32,
-        offset,
+        offset: i64::from(word / 0x400 % 4096 * scale),
     }
 }
 
@@ -193,9 +188,8 @@ fn unsigned_operands(op: SizedOp, word: u32) -> OffsetOperands
 fn exclusive_operands(word: u32) -> ExclusiveOperands
     ensures { result ≡ exclusive_in word }
 {
-    let size = instruction::size_at(word / 0x4000_0000 % 4);
     ExclusiveOperands {
-        size,
+        size: instruction::size_at(word / 0x4000_0000 % 4),
         target: word / 1 % 32,
         base: word / 32 % 32,
     }
@@ -205,9 +199,8 @@ fn exclusive_operands(word: u32) -> ExclusiveOperands
 fn store_exclusive_operands(word: u32) -> StoreExclusiveOperands
     ensures { result ≡ store_exclusive_in word }
 {
-    let size = instruction::size_at(word / 0x4000_0000 % 4);
     StoreExclusiveOperands {
-        size,
+        size: instruction::size_at(word / 0x4000_0000 % 4),
         status: word / 0x1_0000 % 32,
         target: word / 1 % 32,
         base: word / 32 % 32,

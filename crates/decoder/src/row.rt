@@ -27,11 +27,11 @@ fn literal_or_ordered(word: u32) -> Row
     let literal = word / 0x100_0000 % 2;
     let form = word / 0x400_0000 % 2 * 8 + word / 0x20_0000 % 2 * 4 + word / 0x400 % 4;
     if literal == 0 {
-        return Row::LiteralRow;
-    }
-    match form {
-        0b0_000 => Row::OrderedRow,
-        _ => Row::NoRow,
+        Row::LiteralRow
+    } else if form == 0b0_000 {
+        Row::OrderedRow
+    } else {
+        Row::NoRow
     }
 }
 
@@ -42,10 +42,8 @@ fn with_size(word: u32) -> Row
 {
     let unsigned = word / 0x100_0000 % 2;
     let form = word / 0x20_0000 % 2 * 4 + word / 0x400 % 4;
-    if unsigned == 1 {
-        return Row::UnsignedRow;
-    }
     match form {
+        _ if unsigned == 1 => Row::UnsignedRow,
         0b000 => Row::UnscaledRow,
         0b001 => Row::PostRow,
         0b011 => Row::PreRow,
@@ -59,23 +57,13 @@ fn exclusive(word: u32) -> Row
     requires { field 29 27 word * 2 + field 25 25 word ≡ 0b001_0 }
     ensures { result ≡ row_of word }
 {
+    let fixed = word / 0x400_0000 % 2 * 4 + word / 0x100_0000 % 2 * 2 + word / 0x20_0000 % 2;
     let form = word / 0x80_0000 % 2 * 4 + word / 0x40_0000 % 2 * 2 + word / 0x8000 % 2;
-    if word / 0x400_0000 % 2 == 1 {
-        return Row::NoRow;
-    }
-    if word / 0x100_0000 % 2 == 1 {
-        return Row::NoRow;
-    }
-    if word / 0x20_0000 % 2 == 1 {
-        return Row::NoRow;
-    }
     match form {
-        0b000 => Row::StoreExclusiveRow,
-        0b001 => Row::StoreExclusiveRow,
-        0b010 => Row::LoadExclusiveRow,
-        0b011 => Row::LoadExclusiveRow,
-        0b101 => Row::AcquireReleaseRow,
-        0b111 => Row::AcquireReleaseRow,
+        _ if fixed != 0 => Row::NoRow,
+        0b000 | 0b001 => Row::StoreExclusiveRow,
+        0b010 | 0b011 => Row::LoadExclusiveRow,
+        0b101 | 0b111 => Row::AcquireReleaseRow,
         _ => Row::NoRow,
     }
 }

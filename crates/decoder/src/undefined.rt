@@ -7,17 +7,17 @@ pub(crate) fn in_size(word: u32) -> bool
     ensures { result ≡ undefined_size word }
 {
     let code = word / 0x400_0000 % 2 * 16 + word / 0x4000_0000 % 4 * 4 + word / 0x40_0000 % 4;
-    match code {
-        0b0_10_11 => true,
-        0b0_11_11 => true,
-        0b1_01_10 => true,
-        0b1_01_11 => true,
-        0b1_10_10 => true,
-        0b1_10_11 => true,
-        0b1_11_10 => true,
-        0b1_11_11 => true,
-        _ => false,
-    }
+    matches!(
+        code,
+        0b0_10_11
+            | 0b0_11_11
+            | 0b1_01_10
+            | 0b1_01_11
+            | 0b1_10_10
+            | 0b1_10_11
+            | 0b1_11_10
+            | 0b1_11_11
+    )
 }
 
 #[tactic(auto, unfolding(instruction::specs::Undefined::undefined_prefetch, bits::specs::Fields::part))]

@@ -11,8 +11,7 @@ use instruction::{Answer, Decoded, Family, Instruction, Row};
 pub fn examine(word: u32) -> Decoded
     ensures { (result.answer ≡ class_of word) × (result.instruction ≡ (decode_of word).instruction) }
 {
-    let row = row::row_of(word);
-    match row {
+    match row::row_of(word) {
         Row::NoRow => refused(Answer::NotInSet),
         Row::LiteralRow => {
             let family = family::literal(family::literal_op_in(word), word);
@@ -49,7 +48,7 @@ pub fn examine(word: u32) -> Decoded
             let family = family::unsigned(family::sized_op_in(word), word);
             viewed(undefined::in_size(word), false, family)
         }
-        Row::LoadExclusiveRow => {
+        Row::LoadExclusiveRow | Row::AcquireReleaseRow => {
             let family = family::exclusive(family::exclusive_op_in(word), word);
             viewed(undefined::in_exclusive(word), false, family)
         }
@@ -57,10 +56,6 @@ pub fn examine(word: u32) -> Decoded
             let family = family::store_exclusive(family::store_exclusive_op_in(word), word);
             let undefined = undefined::in_store_exclusive(word);
             viewed(undefined, unpredictable::in_store_exclusive(word), family)
-        }
-        Row::AcquireReleaseRow => {
-            let family = family::exclusive(family::exclusive_op_in(word), word);
-            viewed(undefined::in_exclusive(word), false, family)
         }
     }
 }
@@ -72,19 +67,15 @@ pub fn viewed(undefined: bool, unpredictable: bool, family: Family) -> Decoded
     if undefined {
         return refused(Answer::Undefined);
     }
+    let answer = if unpredictable {
+        Answer::Unpredictable
+    } else {
+        Answer::Done
+    };
     Decoded {
-        answer: allocated_answer(unpredictable),
+        answer,
         instruction: Instruction { family },
     }
-}
-
-fn allocated_answer(unpredictable: bool) -> Answer
-    ensures { result ≡ pick unpredictable Answer.Unpredictable Answer.Done }
-{
-    if unpredictable {
-        return Answer::Unpredictable;
-    }
-    Answer::Done
 }
 
 // A word without an instruction.

@@ -37,13 +37,10 @@ fn signed_bits(offset: i64, half: u32, scale: u32) -> Option<u32>
     requires { (0 < scale) × (half ≤ 262144) }
     ensures { result ≡ bits_of half scale offset }
 {
-    let far = bits::magnitude(offset);
+    let far = offset.unsigned_abs();
     if offset < 0 {
-        let field = quotient(far, scale, half + 1);
-        match field {
-            Some(q) => Some(2 * half - q),
-            None => None,
-        }
+        let q = quotient(far, scale, half + 1)?;
+        Some(2 * half - q)
     } else {
         quotient(far, scale, half)
     }
@@ -55,10 +52,7 @@ fn plain_bits(offset: i64, limit: u32, scale: u32) -> Option<u32>
     requires { 0 < scale }
     ensures { result ≡ plain_bits_of limit scale offset }
 {
-    let far = bits::magnitude(offset);
-    if offset < 0 {
-        return None;
-    }
+    let far = u64::try_from(offset).ok()?;
     quotient(far, scale, limit)
 }
 
@@ -68,12 +62,11 @@ fn quotient(magnitude: u64, scale: u32, limit: u32) -> Option<u32>
     requires { 0 < scale }
     ensures { result ≡ quotient_of magnitude scale limit }
 {
-    let scale = scale as u64;
+    let scale = u64::from(scale);
     let whole = magnitude / scale;
-    if magnitude % scale == 0 {
-        if whole < limit as u64 {
-            return Some(whole as u32);
-        }
+    if magnitude % scale == 0 && whole < u64::from(limit) {
+        Some(whole as u32)
+    } else {
+        None
     }
-    None
 }

@@ -24,13 +24,12 @@ pub fn word_of(family: Family) -> Option<u32>
         Family::Register(op, o) => index_word(op, o),
         Family::Unsigned(op, o) => unsigned_word(op, o),
         Family::Exclusive(op, o) => {
-            let size = o.size;
-            exclusive_word(instruction::exclusive_code(op), size, 31, o.target, o.base)
+            let code = instruction::exclusive_code(op);
+            exclusive_word(code, o.size, 31, o.target, o.base)
         }
         Family::StoreExclusive(op, o) => {
-            let size = o.size;
             let code = instruction::store_exclusive_code(op);
-            exclusive_word(code, size, o.status, o.target, o.base)
+            exclusive_word(code, o.size, o.status, o.target, o.base)
         }
     }
 }
@@ -39,12 +38,8 @@ pub fn word_of(family: Family) -> Option<u32>
 fn literal_word(op: LiteralOp, o: LiteralOperands) -> Option<u32>
     ensures { result ≡ literal_word op o }
 {
-    let target = o.target;
-    let field = offset::imm19(o.offset);
-    match field {
-        Some(imm19) => literal_sum(op, target, imm19),
-        None => None,
-    }
+    let imm19 = offset::imm19(o.offset)?;
+    literal_sum(op, o.target, imm19)
 }
 
 #[tactic(auto, using(instruction::proofs::Codes::lettered), unfolding(crate::specs::Encoding::word_with))]
@@ -52,7 +47,7 @@ fn literal_sum(op: LiteralOp, target: u32, imm19: u32) -> Option<u32>
     requires { imm19 < 524288 }
     ensures { result ≡ word_with (fixed Row.LiteralRow) (literal_fields op target imm19) }
 {
-    if 32 <= target {
+    if target >= 32 {
         return None;
     }
     let code = instruction::literal_opc(op) * 0x4000_0000
@@ -64,11 +59,8 @@ fn literal_sum(op: LiteralOp, target: u32, imm19: u32) -> Option<u32>
 fn pair_word(op: PairOp, o: PairOperands) -> Option<u32>
     ensures { result ≡ pair_word op o }
 {
-    let field = offset::imm7(o.offset, op);
-    match field {
-        Some(imm7) => pair_sum(op, o, imm7),
-        None => None,
-    }
+    let imm7 = offset::imm7(o.offset, op)?;
+    pair_sum(op, o, imm7)
 }
 
 #[tactic(auto, using(instruction::proofs::Codes::paired, instruction::proofs::Codes::mode_below), unfolding(crate::specs::Encoding::word_with))]
@@ -76,23 +68,13 @@ fn pair_sum(op: PairOp, o: PairOperands, imm7: u32) -> Option<u32>
     requires { imm7 < 128 }
     ensures { result ≡ word_with (fixed Row.PairRow) (pair_fields op o imm7) }
 {
-    let base = o.base;
-    let first = o.first;
-    let second = o.second;
-    let mode = o.mode;
-    if 32 <= base {
+    if o.base >= 32 || o.first >= 32 || o.second >= 32 {
         return None;
     }
-    if 32 <= first {
-        return None;
-    }
-    if 32 <= second {
-        return None;
-    }
-    let registers = base * 32 + first + second * 0x400;
+    let registers = o.base * 32 + o.first + o.second * 0x400;
     let code = instruction::pair_opc(op) * 0x4000_0000
         + instruction::pair_vector(op) * 0x400_0000
-        + instruction::mode_code(mode) * 0x80_0000
+        + instruction::mode_code(o.mode) * 0x80_0000
         + instruction::pair_load(op) * 0x40_0000;
     Some(0x2800_0000 + code + registers + imm7 * 0x8000)
 }
@@ -103,10 +85,7 @@ fn sized_word(op: SizedOp, base: u32, target: u32, own: u32) -> Option<u32>
     requires { own < 0x3a00_0000 }
     ensures { result ≡ sized_word op base target own }
 {
-    if 32 <= base {
-        return None;
-    }
-    if 32 <= target {
+    if base >= 32 || target >= 32 {
         return None;
     }
     let size = instruction::size_field(op);
@@ -122,9 +101,10 @@ fn ordered_word(op: SizedOp, o: OffsetOperands) -> Option<u32>
     ensures { result ≡ ordered_word op o }
 {
     if instruction::vector_field(op) == 0 {
-        return signed_word(0x1900_0000, op, o);
+        signed_word(0x1900_0000, op, o)
+    } else {
+        None
     }
-    None
 }
 
 #[tactic(auto, using(crate::proofs::Words::signed_below, crate::proofs::Words::signed_is), unfolding(crate::specs::Encoding::signed_word))]
@@ -132,32 +112,18 @@ fn signed_word(row: u32, op: SizedOp, o: OffsetOperands) -> Option<u32>
     requires { row ≤ 0x3900_0000 }
     ensures { result ≡ signed_word row op o }
 {
-    let base = o.base;
-    let target = o.target;
-    let field = offset::imm9(o.offset);
-    match field {
-        Some(imm9) => sized_word(op, base, target, row + imm9 * 0x1000),
-        None => None,
-    }
+    let imm9 = offset::imm9(o.offset)?;
+    sized_word(op, o.base, o.target, row + imm9 * 0x1000)
 }
 
 #[tactic(auto, using(instruction::proofs::Codes::sized), unfolding(crate::specs::Encoding::index_word, crate::specs::Encoding::word_with, crate::specs::route::Sized::sized_word))]
 fn index_word(op: SizedOp, o: IndexOperands) -> Option<u32>
     ensures { result ≡ index_word op o }
 {
-    let index = o.index;
-    let option = o.option;
-    let scaled = o.scaled;
-    if 32 <= index {
+    if o.index >= 32 || o.option >= 8 || o.scaled >= 2 {
         return None;
     }
-    if 8 <= option {
-        return None;
-    }
-    if 2 <= scaled {
-        return None;
-    }
-    let own = 0x3820_0800 + index * 0x1_0000 + option * 0x2000 + scaled * 0x1000;
+    let own = 0x3820_0800 + o.index * 0x1_0000 + o.option * 0x2000 + o.scaled * 0x1000;
     sized_word(op, o.base, o.target, own)
 }
 
@@ -165,13 +131,8 @@ fn index_word(op: SizedOp, o: IndexOperands) -> Option<u32>
 fn unsigned_word(op: SizedOp, o: OffsetOperands) -> Option<u32>
     ensures { result ≡ unsigned_word op o }
 {
-    let base = o.base;
-    let target = o.target;
-    let field = offset::imm12(o.offset, op);
-    match field {
-        Some(imm12) => sized_word(op, base, target, 0x3900_0000 + imm12 * 0x400),
-        None => None,
-    }
+    let imm12 = offset::imm12(o.offset, op)?;
+    sized_word(op, o.base, o.target, 0x3900_0000 + imm12 * 0x400)
 }
 
 // A code has bit 23, L and bit 15.
@@ -180,18 +141,10 @@ fn exclusive_word(code: u32, size: AccessSize, status: u32, target: u32, base: u
     requires { code < 8 }
     ensures { result ≡ exclusive_word code size status target base }
 {
-    if 32 <= status {
-        return None;
-    }
-    if 32 <= base {
-        return None;
-    }
-    if 32 <= target {
+    if status >= 32 || base >= 32 || target >= 32 {
         return None;
     }
     let registers = status * 0x1_0000 + base * 32 + target;
     let operation = code / 4 * 0x80_0000 + code / 2 % 2 * 0x40_0000 + code % 2 * 0x8000;
-    Some(
-        0x0800_7c00 + instruction::access_scale(size) * 0x4000_0000 + operation + registers,
-    )
+    Some(0x0800_7c00 + instruction::access_scale(size) * 0x4000_0000 + operation + registers)
 }

@@ -14,8 +14,7 @@ pub fn finish(entry: u32, word: u32) -> Decoded
 {
     let code = entry % 32;
     let op = instruction::sized_at(code);
-    let row = row_in(entry / 32, word);
-    match row {
+    match row_in(entry / 32, word) {
         Row::NoRow => view::refused(Answer::NotInSet),
         Row::LiteralRow => {
             let family = family::literal(instruction::literal_at(code), word);
@@ -31,29 +30,22 @@ pub fn finish(entry: u32, word: u32) -> Decoded
         }
         Row::UnscaledRow => view::viewed(code == 31, false, family::unscaled(op, word)),
         Row::PostRow => {
+            let undefined = (code == 31) | (code == 14);
             let base = unpredictable::over_base(word / 1 % 32, word);
-            view::viewed(
-                (code == 31) | (code == 14),
-                base,
-                family::post_index(op, word),
-            )
+            view::viewed(undefined, base, family::post_index(op, word))
         }
         Row::PreRow => {
+            let undefined = (code == 31) | (code == 14);
             let base = unpredictable::over_base(word / 1 % 32, word);
-            view::viewed(
-                (code == 31) | (code == 14),
-                base,
-                family::pre_index(op, word),
-            )
+            view::viewed(undefined, base, family::pre_index(op, word))
         }
         Row::RegisterRow => {
             let undefined = (code == 31) | (word / 0x4000 % 2 == 0);
             view::viewed(undefined, false, family::register(op, word))
         }
         Row::UnsignedRow => view::viewed(code == 31, false, family::unsigned(op, word)),
-        Row::LoadExclusiveRow => exclusive(code, word),
+        Row::LoadExclusiveRow | Row::AcquireReleaseRow => exclusive(code, word),
         Row::StoreExclusiveRow => store_exclusive(code, word),
-        Row::AcquireReleaseRow => exclusive(code, word),
     }
 }
 
@@ -105,10 +97,7 @@ fn ordered_row(word: u32) -> Row
     ensures { result ≡ row_in 3 word }
 {
     let form = word / 0x20_0000 % 2 * 4 + word / 0x400 % 4;
-    match form {
-        0b000 => Row::OrderedRow,
-        _ => Row::NoRow,
-    }
+    row_where(form == 0b000, Row::OrderedRow)
 }
 
 #[tactic(auto, unfolding(crate::specs::Lookup::row_in, bits::specs::Fields::part))]
@@ -128,8 +117,5 @@ fn sized_row(word: u32) -> Row
 fn row_where(kept: bool, row: Row) -> Row
     ensures { result ≡ pick kept row Row.NoRow }
 {
-    if kept {
-        return row;
-    }
-    Row::NoRow
+    if kept { row } else { Row::NoRow }
 }

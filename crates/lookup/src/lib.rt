@@ -17,8 +17,8 @@ use instruction::{Answer, Decoded, Instruction};
 pub fn examine_in(lent: &[u16; 1024], word: u32) -> Decoded
     ensures { result ≡ examine_in lent.now word }
 {
-    let at = (word / 0x40_0000 % 1024) as usize;
-    finish::finish(wide(lent[at]), word)
+    let entry = lent[(word / 0x40_0000 % 1024) as usize];
+    finish::finish(u32::from(entry), word)
 }
 
 // What the entry of a word in a lent table gives: an instruction, or answer 2 or 3.
@@ -35,10 +35,4 @@ pub fn decode_by_table(word: u32) -> Result<Instruction, Answer>
     ensures { as_decoded result ≡ decode_of word }
 {
     decode_in(&table(), word)
-}
-
-fn wide(entry: u16) -> u32
-    ensures { result ≡ entry }
-{
-    entry as u32
 }
