@@ -7,7 +7,7 @@ pub mod undefined;
 pub mod unpredictable;
 pub mod view;
 
-ghost use Rattle.std.specs.Prelude.{◌≡◌, Ok, Err};
+ghost use Rattle.std.specs.Prelude.{◌≡◌, Ok, Err, IfErr};
 ghost use Rattle.instruction.specs.Table.{allocated};
 ghost use Rattle.decoder.specs.Decoding.{decode_of, decoded_from, as_decoded, class_of};
 
@@ -16,7 +16,8 @@ pub use view::examine;
 
 // The instruction of a word, or answer 2 or 3.
 pub fn decode(word: u32) -> Result<Instruction, Answer>
-    ensures { as_decoded result ≡ decode_of word }
+    ensures exact { as_decoded result ≡ decode_of word }
+    ensures refusal { IfErr result (λ answer. ¬ (answer ≡ Answer.Done)) }
 {
     let examined = examine(word);
     found(decoded(examined))
@@ -26,6 +27,7 @@ pub fn decode(word: u32) -> Result<Instruction, Answer>
 pub fn found(decoded: Decoded) -> Result<Instruction, Answer>
     ensures done { decoded.answer ≡ Answer.Done → result ≡ Ok decoded.instruction }
     ensures refused { ¬ (decoded.answer ≡ Answer.Done) → result ≡ Err decoded.answer }
+    ensures refusal { IfErr result (λ answer. ¬ (answer ≡ Answer.Done)) }
 {
     match decoded.answer {
         Answer::Done => Ok(decoded.instruction),

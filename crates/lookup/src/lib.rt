@@ -5,7 +5,7 @@
 mod constant;
 mod finish;
 
-ghost use Rattle.std.specs.Prelude.{◌≡◌};
+ghost use Rattle.std.specs.Prelude.{◌≡◌, IfErr};
 ghost use Rattle.decoder.specs.Decoding.{decode_of, as_decoded};
 ghost use Rattle.lookup.specs.Lookup.{examine_in, decode_in};
 
@@ -23,7 +23,8 @@ pub fn examine_in(lent: &[u16; 1024], word: u32) -> Decoded
 
 // What the entry of a word in a lent table gives: an instruction, or answer 2 or 3.
 pub fn decode_in(lent: &[u16; 1024], word: u32) -> Result<Instruction, Answer>
-    ensures { as_decoded result ≡ decode_in lent.now word }
+    ensures exact { as_decoded result ≡ decode_in lent.now word }
+    ensures refusal { IfErr result (λ answer. ¬ (answer ≡ Answer.Done)) }
 {
     let examined = examine_in(lent, word);
     decoder::found(decoder::decoded(examined))
@@ -32,7 +33,8 @@ pub fn decode_in(lent: &[u16; 1024], word: u32) -> Result<Instruction, Answer>
 // The same as decoding without a table.
 #[tactic(auto, using(crate::proofs::Same::decode_same))]
 pub fn decode_by_table(word: u32) -> Result<Instruction, Answer>
-    ensures { as_decoded result ≡ decode_of word }
+    ensures exact { as_decoded result ≡ decode_of word }
+    ensures refusal { IfErr result (λ answer. ¬ (answer ≡ Answer.Done)) }
 {
     decode_in(&table(), word)
 }

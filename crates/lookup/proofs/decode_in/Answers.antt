@@ -5,7 +5,7 @@ use Rattle.decoder.proofs.Arms.{found_is}
 use Rattle.lookup.proofs.Refused.{refused_empty}
 use Rattle.lookup.proofs.decode_in.Goals as goal
 
-pub returns : goal.returns
-returns c =
+pub returns-clause-exact : goal.returns-clause-exact
+returns-clause-exact c =
     found_is (c.decoded.ensures ∙ ap decoded_from c.examine_in-examined.ensures) (refused_empty c.args.lent.now c.args.word)
     c.found.ensures.done c.found.ensures.refused
