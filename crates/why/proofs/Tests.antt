@@ -1,5 +1,5 @@
 -- A question that no test refuses, and what is said of any. Assumes nothing.
-use Rattle.std.proofs.Common.{◌≡◌, ℕ, ◌+◌, ◌-◌, ◌*◌, ◌/◌, ◌%◌, ◌^◌, ◌<◌, ◌≤◌, Bool, true, false, eqb, ltb, List, [], ◌∷◌, length, sym, refl, ap, ◌∙◌, arith, ltb-false, le-ltb, lt-ltb, ne_eqb}
+use Rattle.std.proofs.Common.{◌≡◌, ℕ, ◌+◌, ◌-◌, ◌*◌, ◌/◌, ◌%◌, ◌^◌, ◌<◌, ◌≤◌, Bool, true, false, not, eqb, Result, Ok, Err, is_err, ltb, List, [], ◌∷◌, length, sym, refl, ap, ◌∙◌, arith, ltb-false, le-ltb, lt-ltb, ne_eqb}
 use borrow.Author.Tests.{eqb-false}
 use lib.Seq.{sets}
 use Rattle.bits.specs.Choice.{pick}
@@ -8,7 +8,8 @@ use Rattle.instruction.specs.declared.answer.Answer.TheVariants.{Done, BadWindow
 use Rattle.instruction.specs.Answers.{answer_number}
 use Rattle.plan.specs.declared.window.Window.{Window}
 use Rattle.plan.specs.Window.{bad_window}
-use Rattle.plan.specs.Refusals.{answer_in}
+use Rattle.plan.specs.Refusals.{answer_in, verdict_in}
+use Rattle.plan.proofs.Refusals.{refused_at, by_verdict, verdict_refused}
 use Rattle.machine.specs.Origins.{of_register, of_memory}
 use Rattle.why.specs.declared.Question.{Question}
 use Rattle.why.specs.declared.Reply.{Reply}
@@ -16,40 +17,12 @@ use Rattle.why.specs.Trail.{Past, Link, Trail, told}
 use Rattle.why.specs.Trace.{wrong_trace}
 use Rattle.why.specs.Reply.{slot_of, place_of, no_byte, no_part, no_register, links_of, early_refusals, why_refusals, flat, said, said_of}
 use Rattle.why.specs.route.Came.{spot_place, Steps, steps_of, past_of, access_at, index_at, total_in, Asks}
-use Rattle.why.specs.route.Reached.{listed_of, put_all, Written, written_of, spot_of}
+use Rattle.why.specs.route.Reached.{listed_of, put_all, Written, written_of}
 use Rattle.why.proofs.Traces.{passes, Long, long, good, inside}
 use Rattle.why.proofs.Said.{Accepted}
 use Rattle.why.proofs.Walked.{all_fits}
 
 -- ---- a question that is not refused
-
-part_at : (q : Question) (a b : Bool) → pick a (no_part 7 q) (pick b (no_part 15 q) true) ≡ false → (q.number ≤ 31) × (q.byte ≤ 15)
-part_at q true b e =
-    let s = passes (ltb 31 q.number) e in
-    (ltb-false 31 q.number s.0, omega (arith, ltb-false 7 q.byte s.1))
-part_at q false true e =
-    let s = passes (ltb 31 q.number) e in
-    (ltb-false 31 q.number s.0, ltb-false 15 q.byte s.1)
-part_at q false false e = absurd (let z : ◌≡◌ {A = ℕ} 0 1 = cc in omega arith)
-
-pub part_there : (q : Question) → no_register q ≡ false → ¬ (q.kind ≡ 1) → (q.number ≤ 31) × (q.byte ≤ 15)
-part_there q e n = part_at q (eqb q.kind 0) (eqb q.kind 2) (rw (ne_eqb q.kind 1 n) at e)
-
-place_at : (q : Question) (origin : ℕ) → no_register q ≡ false → (b : Bool) → eqb q.kind 1 ≡ b
-    → spot_place (spot_of b (pick b (q.number - origin) (16 * slot_of q + q.byte))) ≡ pick b (of_memory (q.number - origin)) (of_register (slot_of q) q.byte)
-place_at q origin e true z = refl
-place_at q origin e false z = divided (slot_of q) q.byte (part_there q e (eqb-false q.kind 1 z)).1
-  where
-    divided : (slot byte : ℕ) → byte ≤ 15 → of_register ((16 * slot + byte) / 16) ((16 * slot + byte) % 16) ≡ of_register slot byte
-    divided slot byte h =
-        let a : (16 * slot + byte) / 16 ≡ slot = omega arith in
-        let c : (16 * slot + byte) % 16 ≡ byte = omega arith in
-        rw (a, c)
-
--- the place by the code's number
-pub place_of_lem : (q : Question) (origin : ℕ) (n : ℕ) → no_register q ≡ false → n ≡ pick (eqb q.kind 1) (q.number - origin) (16 * slot_of q + q.byte)
-    → spot_place (spot_of (eqb q.kind 1) n) ≡ place_of origin q
-place_of_lem q origin n e f = rw f (place_at q origin e (eqb q.kind 1) refl)
 
 pub asks : (w : Window) (len : ℕ) (ws trace statuses : List ℕ) (u k : List ℕ) (steps step : ℕ) (q : Question)
     → Accepted w len (past_of (steps_of ws trace statuses w.origin) u k) steps step q → length k < 2 ^ 64 → length trace < 2 ^ 64 → Asks (steps_of ws trace statuses w.origin) step 0
@@ -77,6 +50,14 @@ told_by origin false xs before after n some room e f = absurd (some refl)
 links_told : (origin : ℕ) (t : Trail) (before after : List ℕ) (n : ℕ) → ¬ (length (told t) ≡ 0) → length (told t) * 3 ≤ length before → record { links = after; count = n } ≡ written_of origin 0 t before
     → (n ≡ length (told t)) × (after ≡ sets before 0 (flat origin (told t)))
 links_told origin t before after n some room h = told_by origin t.marked t.links before after n some room (ap (λ (x : Written). x.links) h) (ap (λ (x : Written). x.count) h)
+
+-- how many there are, whatever room there was for them
+pub found : (origin : ℕ) (t : Trail) (before after : List ℕ) (n : ℕ) → record { links = after; count = n } ≡ written_of origin 0 t before → n ≡ length (told t)
+found origin t before after n h = ap (λ (x : Written). x.count) h ∙ counted t.marked t.links
+  where
+    counted : (b : Bool) (xs : List Link) → pick b (0 + length xs) 0 ≡ length (pick b xs [])
+    counted true xs = omega arith
+    counted false xs = refl
 
 module _ (origin : ℕ) (t : Trail) (before : List ℕ) where
   listed_room : length (told t) * 3 ≤ length before → listed_of origin (told t) before ≡ record { answer = 0; count = length (told t); links = sets before 0 (flat origin (told t)) }
@@ -106,6 +87,10 @@ module _ (origin : ℕ) (t : Trail) (before : List ℕ) where
       let k = links_told origin t before after n some room h in
       rw (f, listed_room room, k.0, k.1)
 
+not-true : (b : Bool) → not b ≡ true → b ≡ false
+not-true true e = absurd (cc)
+not-true false e = refl
+
 module _ (w : Window) (len : ℕ) (g : Past) (steps step : ℕ) (q : Question) (before : List ℕ) where
   abbrev ls : List Link
   ls = links_of g w.origin step q
@@ -127,17 +112,29 @@ module _ (w : Window) (len : ℕ) (g : Past) (steps step : ℕ) (q : Question) (
       go false false false false true f = refl
       go false false false false false f = refl
 
-  -- refused early
-  pub said_early : (r : Reply) (answer : Answer) → ¬ (answer_number answer ≡ 0) → answer ≡ early → r ≡ record { answer = answer_number answer; links = 0 }
-      → said r before ≡ said_of w len g steps step q before
-  unfolding said_of
-  said_early r answer n e f =
-      let z : eqb (answer_number answer) 0 ≡ false = ne_eqb (answer_number answer) 0 n in
-      rw (f, both_lists (length before), ← e, z, z)
+  abbrev verdict : Result (Unit {0}) Answer
+  verdict = verdict_in (early_refusals w len g steps step q)
 
-  -- by the number of the answer that the tests gave
-  pub passed : (answer : Answer) (n : ℕ) → answer ≡ early → n ≡ answer_number answer → n ≡ 0 → answer_number early ≡ 0
-  passed answer n e f z = ap answer_number (sym e) ∙ sym f ∙ z
+  refused : is_err verdict ≡ not (eqb (answer_number early) 0)
+  refused = verdict_refused (early_refusals w len g steps step q) ((λ h. omega arith), ((λ h. omega arith), ((λ h. omega arith), ((λ h. omega arith), ((λ h. omega arith), tt)))))
+
+  answer_is : early ≡ refused_at (λ answer address. answer) Done 0 verdict
+  answer_is =
+      by_verdict (λ answer address. answer) Done 0 (early_refusals w len g steps step q)
+      ((refl, (λ h. omega arith)), ((refl, (λ h. omega arith)), ((refl, (λ h. omega arith)), ((refl, (λ h. omega arith)), ((refl, (λ h. omega arith)), tt)))))
+
+  -- refused early
+  pub said_early : (r : Reply) (answer : Answer) → Err answer ≡ verdict → r ≡ record { answer = answer_number answer; links = 0 } → said r before ≡ said_of w len g steps step q before
+  unfolding said_of
+  said_early r answer e f =
+      let same : early ≡ answer = answer_is ∙ rw (← e) in
+      let some : eqb (answer_number early) 0 ≡ false = not-true (eqb (answer_number early) 0) (sym refused ∙ rw (← e)) in
+      rw (f, both_lists (length before), some, ← same, some)
+
+  pub passed : Ok tt ≡ verdict → answer_number early ≡ 0
+  passed e =
+      let done : early ≡ Done = answer_is ∙ rw (← e) in
+      rw done
 
   -- and otherwise the links
   pub said_listed : answer_number early ≡ 0 → said_of w len g steps step q before ≡ listed_of w.origin ls before

@@ -2,18 +2,17 @@
 use Rattle.std.proofs.Common.{◌≡◌, ℕ, zero, suc, ◌+◌, ◌-◌, ◌*◌, ◌/◌, ◌<◌, ◌≤◌, Bool, true, false, List, [], ◌∷◌, ◌++◌, length, sym, refl, ap, ◌∙◌, subst, arith, lt-ltb}
 use lib.Seq.{sets, length-sets}
 use Rattle.bits.specs.Choice.{pick}
-use Rattle.machine.specs.Origins.{Place, of_register, of_memory}
+use Rattle.machine.specs.Origins.{Place, of_register, of_memory, taint_of}
 use Rattle.why.specs.declared.source.Spot.{Spot}
 use Rattle.why.specs.declared.source.Spot.TheVariants.{Part, Cell}
 use Rattle.why.specs.declared.source.Came.{Came}
 use Rattle.why.specs.declared.source.Came.TheVariants.{Kept, Cleared, Copied}
 use Rattle.why.specs.declared.source.LastSet.{LastSet}
 use Rattle.why.specs.declared.source.LastSet.TheVariants.{Never, Clearing, Copying}
-use Rattle.why.specs.declared.Asked.{Asked}
 use Rattle.why.specs.Trail.{Past, Link, link, place_numbers, numbers_of, Trail, begun, lost, ahead, follow, trail_of}
 use Rattle.why.specs.Reply.{flat}
 use Rattle.why.specs.route.Came.{spot_place, across, origin_by, is_kept, Steps, past_of, came_at, set_by, last_of, InRange, Asks}
-use Rattle.why.specs.route.Reached.{put_one, put_all, written_of, ended_at, spot_of, Reached}
+use Rattle.why.specs.route.Reached.{put_one, put_all, written_of}
 use Rattle.why.proofs.Spots.{origin_came}
 
 -- ---- a trail, by what last set its byte
@@ -89,72 +88,38 @@ before g q (suc j) = before_at j (last_of g j q) (came_at g j q) (before g q j)
 pub copied_before : (g : Steps) (q : Spot) (j m i : ℕ) → Copying m i ≡ last_of g j q → i < j
 copied_before g q j m i e = subst (Before j) (sym e) (before g q j)
 
--- ---- what a question has come to
+-- ---- what is written of a trail, by what last set its byte
 
--- a link, and those that come after it
-ahead_written : (origin d : ℕ) (l : Link) (t : Trail) (b m : List ℕ) → m ≡ put_one d (numbers_of origin l) b → written_of origin (d + 1) t m ≡ written_of origin d (ahead l t) b
-unfolding put_all
-ahead_written origin d l t b m e =
-    let q : d + 1 + length t.links ≡ d + suc (length t.links) = omega arith in
-    rw (e, q)
+module _ (g : Steps) (u k : List ℕ) (d j : ℕ) (q : Spot) (b a : List ℕ) where
+  abbrev R : Past
+  R = past_of g u k
 
-module _ (P : Past) (d j : ℕ) (q : Spot) (b : List ℕ) where
-  pub reached_start : (t : Bool) (r : Asked) (a : List ℕ) → trail_of P j (spot_place q) ≡ record { links = link (spot_place q) 0 ∷ []; marked = t } → r ≡ ended_at (pick t (d + 1) 0)
-      → a ≡ put_one d (numbers_of P.origin (link (spot_place q) 0)) b → Reached P d j q b r a
+  pub written_start : (t : Bool) (r : ℕ) → Never ≡ last_of g j q → t ≡ taint_of R.start (spot_place q) → r ≡ pick t (d + 1) 0 → a ≡ put_one d (place_numbers R.origin (spot_place q) 0) b
+      → record { links = a; count = r } ≡ written_of R.origin d (trail_of R j (spot_place q)) b
   unfolding put_all
-  reached_start t r a e f h = rw f (record { whole = rw (e, h); nearer = omega arith; small = omega arith })
+  written_start t r e f n h = rw (trail_start g u k q j e, n, f, h)
 
-  pub reached_lost : (r : Asked) → trail_of P j (spot_place q) ≡ lost → r ≡ ended_at 0 → Reached P d j q b r b
+  pub written_lost : Clearing ≡ last_of g j q → record { links = b; count = 0 } ≡ written_of R.origin d (trail_of R j (spot_place q)) b
   unfolding put_all
-  reached_lost r e f = rw f (record { whole = rw e; nearer = omega arith; small = omega arith })
+  written_lost e = rw (trail_cleared g u k q j e)
 
-  module _ (m i : ℕ) (l : i < j) (mid : List ℕ) (e : trail_of P j (spot_place q) ≡ ahead (link (spot_place q) (suc i)) (trail_of P i (spot_place (across q m)))) (h : mid ≡ put_one d (numbers_of P.origin (link (spot_place q) (i + 1))) b) where
-    put : mid ≡ put_one d (numbers_of P.origin (link (spot_place q) (suc i))) b
-    put =
-        let next : i + 1 ≡ suc i = omega arith in
-        rw (← next) h
+  -- a link, and those that come after it
+  pub written_ahead : (m i : ℕ) (s : Spot) → Copying m i ≡ last_of g j q → s ≡ across q m → a ≡ put_one d (place_numbers R.origin (spot_place q) (i + 1)) b
+      → written_of R.origin (d + 1) (trail_of R i (spot_place s)) a ≡ written_of R.origin d (trail_of R j (spot_place q)) b
+  unfolding put_all
+  written_ahead m i s e f h =
+      let t = trail_of R i (spot_place (across q m)) in
+      let n : i + 1 ≡ suc i = omega arith in
+      let c : d + 1 + length t.links ≡ d + suc (length t.links) = omega arith in
+      rw (trail_copied g u k q j m i e, f, h, n, c)
 
-    -- a link, with the next question left
-    pub reached_link : (r : Asked) (byte : Bool) → spot_of byte m ≡ across q m → r ≡ record { byte = byte; number = m; step = i; depth = d + 1; done = false } → Reached P d j q b r mid
-    reached_link r byte k f =
-        rw f (record { whole = rw (k, e) (ahead_written P.origin d (link (spot_place q) (suc i)) (trail_of P i (spot_place (across q m))) b mid put); nearer = omega arith; small = omega arith })
-
-    -- and with what the next question has come to
-    pub reached_ahead : (r : Asked) (a : List ℕ) → Reached P (d + 1) i (across q m) mid r a → Reached P d j q b r a
-    reached_ahead r a w =
-        record {
-          whole = w.whole ∙ rw e (ahead_written P.origin d (link (spot_place q) (suc i)) (trail_of P i (spot_place (across q m))) b mid put);
-          nearer = omega (arith, w.nearer);
-          small = omega (arith, w.small);
-        }
-
--- ---- the loop that passes over steps
-
-pub last_kept : (g : Steps) (q : Spot) (j : ℕ) (s : Came) → 0 < j → s ≡ came_at g (j - 1) q → is_kept s ≡ true → last_of g (j - 1) q ≡ last_of g j q
+pub last_kept : (g : Steps) (q : Spot) (j : ℕ) → 0 < j → Kept ≡ came_at g (j - 1) q → last_of g (j - 1) q ≡ last_of g j q
 unfolding last_of
-last_kept g q zero s h e f = absurd (omega arith)
-last_kept g q (suc i) s h e f =
+last_kept g q zero h e = absurd (omega arith)
+last_kept g q (suc i) h e =
     let d : suc i - 1 ≡ i = omega arith in
-    let k : s ≡ came_at g i q = rw d at e in
-    rw (d, ← k) (kept_set s f)
-  where
-    kept_set : (s : Came) → is_kept s ≡ true → last_of g i q ≡ set_by i (last_of g i q) s
-    kept_set Kept f = refl
-    kept_set Cleared f = absurd (let z : ◌≡◌ {A = ℕ} 0 1 = cc in omega arith)
-    kept_set (Copied m) f = absurd (let z : ◌≡◌ {A = ℕ} 0 1 = cc in omega arith)
-
-pub last_set : (g : Steps) (q : Spot) (j : ℕ) (s : Came) → 0 < j → s ≡ came_at g (j - 1) q → is_kept s ≡ false → set_by (j - 1) Never s ≡ last_of g j q
-unfolding last_of
-last_set g q zero s h e f = absurd (omega arith)
-last_set g q (suc i) s h e f =
-    let d : suc i - 1 ≡ i = omega arith in
-    let k : s ≡ came_at g i q = rw d at e in
-    rw (d, ← k) (other_set s f)
-  where
-    other_set : (s : Came) → is_kept s ≡ false → set_by i Never s ≡ set_by i (last_of g i q) s
-    other_set Kept f = absurd (let z : ◌≡◌ {A = ℕ} 0 1 = cc in omega arith)
-    other_set Cleared f = refl
-    other_set (Copied m) f = refl
+    let k : Kept ≡ came_at g i q = rw d at e in
+    rw (d, ← k)
 
 pub range_less : (g : Steps) (s j : ℕ) → InRange g j → s ≤ j → InRange g s
 range_less g s j r l =

@@ -13,42 +13,36 @@ pub fn register_start(register_taint: &[u64; 32], vector_taint: &[[u64; 2]; 32],
     vectors::held(*vector_taint);
     let slot = part / 16;
     if slot < 32 {
-        return byte_start(register_taint[slot as usize], part % 16);
-    }
-    if slot < 64 {
-        return halves_start(
+        byte_start(register_taint[slot as usize], part % 16)
+    } else if slot < 64 {
+        halves_start(
             vectors::halves_in(vector_taint, (slot - 32) as u32),
             part % 16,
-        );
+        )
+    } else {
+        false
     }
-    false
 }
 
 fn halves_start(h: Halves, k: u64) -> bool
     ensures { result ≡ tainted (byte_at k (number_of h)) }
 {
     if k < 8 {
-        return byte_start(h.low, k);
+        byte_start(h.low, k)
+    } else {
+        byte_start(h.high, k - 8)
     }
-    byte_start(h.high, k - 8)
 }
 
 // A number of taints has a byte for each byte.
 fn byte_start(taints: u64, k: u64) -> bool
     ensures { result ≡ tainted (byte_at k taints) }
 {
-    if k < 8 {
-        return (taints >> (8 * k)) % 256 != 0;
-    }
-    false
+    k < 8 && (taints >> (8 * k)) % 256 != 0
 }
 
 pub fn cell_start(taint: &[u8], i: u64) -> bool
     ensures { result ≡ tainted (slice_index taint.now i) }
 {
-    let k = i as usize;
-    if k < taint.len() {
-        return taint[k] != 0;
-    }
-    false
+    bits::byte_at(taint, i as usize) != 0
 }

@@ -3,8 +3,10 @@ ghost use Rattle.std.specs.Prelude.{◌≡◌, ◌+◌, ◌-◌, ◌*◌, ◌%�
 ghost use Rattle.bits.specs.Choice.{pick};
 ghost use Rattle.access.specs.Accesses.{word_access};
 ghost use Rattle.machine.specs.Origins.{among};
-ghost use Rattle.why.specs.route.Came.{loaded_from, written_came, part_came, cell_came, part_in, cell_in, total_in, came_of, is_kept, steps_of, came_at, set_by, last_of, InRange};
+ghost use Rattle.why.specs.route.Came.{across, loaded_from, written_came, part_came, cell_came, part_in, cell_in, total_in, came_of, came_at, last_of, InRange};
+ghost use Rattle.why.specs.route.Lent.{steps_in};
 
+use crate::history::History;
 use access::{Access, Transfer};
 
 // A byte of a register, 16 times its slot plus the byte, or the index of a byte in memory. Vector registers have the slots from
@@ -13,6 +15,18 @@ use access::{Access, Transfer};
 pub enum Spot {
     Part(u64),
     Cell(u64),
+}
+
+impl Spot {
+    // The byte that a step copied to this one, by its number: a load copies from memory, and a store from a register.
+    pub fn across(self, number: u64) -> Spot
+        ensures { result ≡ across self number }
+    {
+        match self {
+            Spot::Part(n) => Spot::Cell(number),
+            Spot::Cell(i) => Spot::Part(number),
+        }
+    }
 }
 
 // Where a step takes a byte's taint from: it keeps its own, has none, or has that of the byte copied.
@@ -33,55 +47,29 @@ pub enum LastSet {
 
 // What last set a byte before a step.
 #[tactic(auto, unfolding(crate::specs::route::Came::last_of))]
-pub fn last_set(
-    words: &[u32],
-    trace: &[u64],
-    statuses: &[u8],
-    origin: u64,
-    step: usize,
-    spot: Spot,
-) -> LastSet
-    requires { InRange (steps_of words.now trace.now statuses.now origin) step }
-    ensures { result ≡ last_of (steps_of words.now trace.now statuses.now origin) step spot }
+pub fn last_set(history: &History, step: usize, spot: Spot) -> LastSet
+    requires { InRange (steps_in history.now) step }
+    ensures { result ≡ last_of (steps_in history.now) step spot }
 {
-    let mut j = step;
-    while 0 < j {
-        let i = j - 1;
-        let came = came_at(words, trace, statuses, origin, i, spot);
-        if !kept(came) {
-            return set_at(came, i);
+    for at in (0..step).rev() {
+        match came_at(history, at, spot) {
+            Came::Kept => {}
+            Came::Cleared => return LastSet::Clearing,
+            Came::Copied(from) => return LastSet::Copying(from, at),
         }
-        j = i;
     }
     LastSet::Never
 }
 
-fn set_at(came: Came, step: usize) -> LastSet
-    ensures { result ≡ set_by step LastSet.Never came }
-{
-    match came {
-        Came::Kept => LastSet::Never,
-        Came::Cleared => LastSet::Clearing,
-        Came::Copied(from) => LastSet::Copying(from, step),
-    }
-}
-
 // Where a step takes a byte's taint from.
-fn came_at(
-    words: &[u32],
-    trace: &[u64],
-    statuses: &[u8],
-    origin: u64,
-    step: usize,
-    spot: Spot,
-) -> Came
-    requires { InRange (steps_of words.now trace.now statuses.now origin) (step + 1) }
-    ensures { result ≡ came_at (steps_of words.now trace.now statuses.now origin) step spot }
+fn came_at(history: &History, step: usize, spot: Spot) -> Came
+    requires { InRange (steps_in history.now) (step + 1) }
+    ensures { result ≡ came_at (steps_in history.now) step spot }
 {
     came_of(
-        access_at(words[step]),
-        statuses[step],
-        index(trace[step * 2 + 1], origin),
+        access_at(history.words[step]),
+        history.statuses[step],
+        history.trace[step * 2 + 1].saturating_sub(history.origin),
         spot,
     )
 }
@@ -111,9 +99,10 @@ fn any_part(part: u64) -> Came
     ensures { result ≡ pick (nat_lt 1023 part) Came.Cleared Came.Kept }
 {
     if 1023 < part {
-        return Came::Cleared;
+        Came::Cleared
+    } else {
+        Came::Kept
     }
-    Came::Kept
 }
 
 fn part_came(t: Transfer, written: u32, at: u64, part: u64) -> Came
@@ -127,10 +116,10 @@ fn part_came(t: Transfer, written: u32, at: u64, part: u64) -> Came
     if t.store {
         return written_came(slot, written);
     }
-    if slot == t.second as u64 {
-        return loaded_from(at + t.bytes as u64, t.more, t.extent, part % 16);
+    if slot == u64::from(t.second) {
+        return loaded_from(at + u64::from(t.bytes), t.more, t.extent, part % 16);
     }
-    if slot == t.target as u64 {
+    if slot == u64::from(t.target) {
         return loaded_from(at, t.bytes, t.extent, part % 16);
     }
     written_came(slot, written)
@@ -139,26 +128,24 @@ fn part_came(t: Transfer, written: u32, at: u64, part: u64) -> Came
 fn written_came(slot: u64, written: u32) -> Came
     ensures { result ≡ written_came slot written }
 {
-    if slot == written as u64 {
-        return Came::Cleared;
+    if slot == u64::from(written) {
+        Came::Cleared
+    } else {
+        Came::Kept
     }
-    Came::Kept
 }
 
 fn loaded_from(at: u64, n: u32, extent: u32, k: u64) -> Came
     requires { at + n < 2 ^ 64 }
     ensures { result ≡ loaded_from at n extent k }
 {
-    if k < n as u64 {
+    if k < u64::from(n) {
         return Came::Copied(at + k);
     }
-    if extent as u64 <= k {
+    if u64::from(extent) <= k || n == 0 {
         return Came::Cleared;
     }
-    if n == 0 {
-        return Came::Cleared;
-    }
-    Came::Copied(at + (n as u64 - 1))
+    Came::Copied(at + (u64::from(n) - 1))
 }
 
 fn cell_in(x: Access, status: u8, at: u64, i: u64) -> Came
@@ -181,12 +168,12 @@ fn cell_came(t: Transfer, status: u8, at: u64, i: u64) -> Came
     if machine::fails(t, status) {
         return Came::Kept;
     }
-    let behind = at + t.bytes as u64;
-    if within(i, behind, t.more as u64) {
-        return Came::Copied(part(t.second, index(i, behind)));
+    let behind = at + u64::from(t.bytes);
+    if within(i, behind, u64::from(t.more)) {
+        return Came::Copied(part(t.second, i.saturating_sub(behind)));
     }
-    if within(i, at, t.bytes as u64) {
-        return Came::Copied(part(t.target, index(i, at)));
+    if within(i, at, u64::from(t.bytes)) {
+        return Came::Copied(part(t.target, i.saturating_sub(at)));
     }
     Came::Kept
 }
@@ -195,42 +182,17 @@ fn within(i: u64, at: u64, n: u64) -> bool
     requires { at + n < 2 ^ 64 }
     ensures { result ≡ among i at n }
 {
-    if at <= i {
-        return i < at + n;
-    }
-    false
+    at <= i && i < at + n
 }
 
 fn part(slot: u32, k: u64) -> u64
     ensures { result ≡ 16 * slot + k % 16 }
 {
-    16 * (slot as u64) + k % 16
-}
-
-// a - b, and 0 where b is larger
-pub fn index(a: u64, b: u64) -> u64
-    ensures { result ≡ a - b }
-{
-    if a < b {
-        return 0;
-    }
-    a - b
+    16 * u64::from(slot) + k % 16
 }
 
 fn access_at(word: u32) -> Access
     ensures { result ≡ word_access word }
 {
-    let decoded = decoder::decode(word);
-    let instruction = decoded.instruction;
-    access::access_of(instruction)
-}
-
-fn kept(s: Came) -> bool
-    ensures { result ≡ is_kept s }
-{
-    match s {
-        Came::Kept => true,
-        Came::Cleared => false,
-        Came::Copied(n) => false,
-    }
+    access::access_of(decoder::examine(word).instruction)
 }

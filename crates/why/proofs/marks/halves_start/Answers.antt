@@ -9,8 +9,8 @@ returns-then-k-lt8 c =
     let a = c.args in
     c.byte_start.ensures ∙ ap tainted (sym (byte_low 8 a.k a.h.low a.h.high c.if-k-lt8.true))
 
-pub returns : goal.returns
-returns c =
+pub returns-else-k-lt8 : goal.returns-else-k-lt8
+returns-else-k-lt8 c =
     let a = c.args in
-    let upper : c.byte_start-2.result ≡ tainted (byte_at (a.k - 8) a.h.high) = c.byte_start-2.ensures in
+    let upper : c.byte_start-else-k-lt8.result ≡ tainted (byte_at (a.k - 8) a.h.high) = c.byte_start-else-k-lt8.ensures in
     upper ∙ ap tainted (sym (byte_high 8 a.k a.h.low a.h.high (omega arith) c.if-k-lt8.false))

@@ -1,10 +1,8 @@
--- The loop of `why::source::last_set`: what the steps below j say is what all of them do.
-use Rattle.std.proofs.Common.{◌≡◌, ◌≤◌}
-use Rattle.why.specs.route.Came.{steps_of, last_of}
+-- The loop of `why::source::last_set`: no step from where it has come to on has set the byte.
+use Rattle.std.proofs.Common.{◌≡◌}
+use Rattle.why.specs.route.Came.{last_of}
+use Rattle.why.specs.route.Lent.{steps_in}
 use Rattle.why.proofs.source.last_set.Given as goal
 
-abbrev pub invariant-loop-j : goal.invariant-loop-j
-invariant-loop-j l = (l.j ≤ l.step) × (last_of (steps_of l.words l.trace l.statuses l.origin) l.j l.spot ≡ last_of (steps_of l.words l.trace l.statuses l.origin) l.step l.spot)
-
-abbrev pub decreases-loop-j : goal.decreases-loop-j
-decreases-loop-j l = l.j
+abbrev pub invariant-loop-at : goal.invariant-loop-at
+invariant-loop-at l = last_of (steps_in l.history) l.at l.spot ≡ last_of (steps_in l.history) l.step l.spot

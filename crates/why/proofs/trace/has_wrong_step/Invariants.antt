@@ -1,11 +1,8 @@
--- The loop of `why::trace::has_wrong_step`: whether a step below j is wrong says whether one of all is.
-use Rattle.std.proofs.Common.{◌≡◌, ◌≤◌}
+-- The loop of `why::trace::has_wrong_step`: no step up to where it has come to is wrong.
+use Rattle.std.proofs.Common.{◌≡◌, false}
 use Rattle.execution.specs.Walk.{log}
 use Rattle.why.specs.Trace.{some_step, wrong_at}
 use Rattle.why.proofs.trace.has_wrong_step.Given as goal
 
-abbrev pub invariant-loop-j : goal.invariant-loop-j
-invariant-loop-j l = (l.j ≤ l.steps) × (some_step (wrong_at l.window l.len l.words (log l.trace l.statuses)) l.j ≡ some_step (wrong_at l.window l.len l.words (log l.trace l.statuses)) l.steps)
-
-abbrev pub decreases-loop-j : goal.decreases-loop-j
-decreases-loop-j l = l.j
+abbrev pub invariant-loop-i : goal.invariant-loop-i
+invariant-loop-i l = some_step (wrong_at l.window l.len l.history.words.now (log l.history.trace.now l.history.statuses.now)) l.i ≡ false
