@@ -1,6 +1,5 @@
 -- A question that no test refuses, and what is said of any. Assumes nothing.
-use Rattle.std.proofs.Common.{◌≡◌, ℕ, ◌+◌, ◌-◌, ◌*◌, ◌/◌, ◌%◌, ◌^◌, ◌<◌, ◌≤◌, Bool, true, false, not, eqb, Result, Ok, Err, is_err, ltb, List, [], ◌∷◌, length, sym, refl, ap, ◌∙◌, arith, ltb-false, le-ltb, lt-ltb, ne_eqb}
-use borrow.Author.Tests.{eqb-false}
+use Rattle.std.proofs.Common.{◌≡◌, ℕ, ◌+◌, ◌*◌, ◌^◌, ◌<◌, ◌≤◌, Bool, true, false, not, eqb, Result, Ok, Err, is_err, ltb, List, [], ◌∷◌, length, sym, refl, ap, ◌∙◌, arith, ltb-false, le-ltb, lt-ltb}
 use lib.Seq.{sets}
 use Rattle.bits.specs.Choice.{pick}
 use Rattle.instruction.specs.declared.answer.Answer.{Answer}
@@ -10,30 +9,30 @@ use Rattle.plan.specs.declared.window.Window.{Window}
 use Rattle.plan.specs.Window.{bad_window}
 use Rattle.plan.specs.Refusals.{answer_in, verdict_in}
 use Rattle.plan.proofs.Refusals.{refused_at, by_verdict, verdict_refused}
-use Rattle.machine.specs.Origins.{of_register, of_memory}
 use Rattle.why.specs.declared.Question.{Question}
 use Rattle.why.specs.declared.Reply.{Reply}
 use Rattle.why.specs.Trail.{Past, Link, Trail, told}
 use Rattle.why.specs.Trace.{wrong_trace}
-use Rattle.why.specs.Reply.{slot_of, place_of, no_byte, no_part, no_register, links_of, early_refusals, why_refusals, flat, said, said_of}
-use Rattle.why.specs.route.Came.{spot_place, Steps, steps_of, past_of, access_at, index_at, total_in, Asks}
+use Rattle.why.specs.Reply.{no_byte, no_register, links_of, early_refusals, why_refusals, flat, said, said_of}
+use Rattle.why.specs.route.Came.{Steps, access_at, index_at, total_in, Asks}
 use Rattle.why.specs.route.Reached.{listed_of, put_all, Written, written_of}
-use Rattle.why.proofs.Traces.{passes, Long, long, good, inside}
-use Rattle.why.proofs.Said.{Accepted}
+use Rattle.why.proofs.Traces.{Long, long, good, inside}
+use Rattle.why.proofs.Said.{Accepted, early_passed}
+use Rattle.why.specs.declared.history.History.{History}
+use Rattle.why.specs.route.Lent.{past_in, steps_in}
 use Rattle.why.proofs.Walked.{all_fits}
 
 -- ---- a question that is not refused
 
-pub asks : (w : Window) (len : ℕ) (ws trace statuses : List ℕ) (u k : List ℕ) (steps step : ℕ) (q : Question)
-    → Accepted w len (past_of (steps_of ws trace statuses w.origin) u k) steps step q → length k < 2 ^ 64 → length trace < 2 ^ 64 → Asks (steps_of ws trace statuses w.origin) step 0
-asks w len ws trace statuses u k steps step q a small far =
-    let g = steps_of ws trace statuses w.origin in
-    let l : Long ws g.log steps = long w len ws g.log steps a.trace in
-    let size : length k ≡ len = (good w len (length k) a.window).taints in
-    let h : step ≤ steps = ltb-false steps step a.begun in
-    let i = inside w len (past_of g u k) steps refl size a.trace in
+pub asks : (w : Window) (len : ℕ) (h : History) (steps step : ℕ) (q : Question) → h.origin ≡ w.origin → Accepted w len (past_in h) steps step q → length h.taint.now < 2 ^ 64 → length h.trace.now < 2 ^ 64 → Asks (steps_in h) step 0
+asks w len h steps step q o a small far =
+    let g = steps_in h in
+    let l : Long h.words.now g.log steps = long w len h.words.now g.log steps a.trace in
+    let size : length h.taint.now ≡ len = (good w len (length h.taint.now) a.window).taints in
+    let e : step ≤ steps = ltb-false steps step a.begun in
+    let i = inside w len (past_in h) steps o size a.trace in
     record {
-      range = record { words = omega (arith, l.words); trace = omega (arith, l.trace); statuses = omega (arith, l.statuses); inside = λ j m. fits g k j (i j (omega arith)) small };
+      range = record { words = omega (arith, l.words); trace = omega (arith, l.trace); statuses = omega (arith, l.statuses); inside = λ j m. fits g h.taint.now j (i j (omega arith)) small };
       small = omega (arith, l.trace);
     }
   where
@@ -131,15 +130,20 @@ module _ (w : Window) (len : ℕ) (g : Past) (steps step : ℕ) (q : Question) (
       let some : eqb (answer_number early) 0 ≡ false = not-true (eqb (answer_number early) 0) (sym refused ∙ rw (← e)) in
       rw (f, both_lists (length before), some, ← same, some)
 
-  pub passed : Ok tt ≡ verdict → answer_number early ≡ 0
+  passed : Ok tt ≡ verdict → answer_number early ≡ 0
   passed e =
       let done : early ≡ Done = answer_is ∙ rw (← e) in
       rw done
 
+  pub accepted_by : Ok tt ≡ verdict → Accepted w len g steps step q
+  accepted_by e = early_passed w len g steps step q (passed e)
+
   -- and otherwise the links
-  pub said_listed : answer_number early ≡ 0 → said_of w len g steps step q before ≡ listed_of w.origin ls before
+  pub said_listed : Ok tt ≡ verdict → said_of w len g steps step q before ≡ listed_of w.origin ls before
   unfolding said_of listed_of
-  said_listed e = rw (both_lists (length before), e, number_of (ltb (length before) (length ls * 3)))
+  said_listed v =
+      let e = passed v in
+      rw (both_lists (length before), e, number_of (ltb (length before) (length ls * 3)))
     where
       number_of : (b : Bool) → answer_number (pick b NoRoom Done) ≡ pick b 10 0
       number_of true = refl

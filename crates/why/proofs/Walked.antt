@@ -1,5 +1,5 @@
 -- Laws of trails, as they are written and by what last set a byte. Assumes nothing.
-use Rattle.std.proofs.Common.{◌≡◌, ℕ, zero, suc, ◌+◌, ◌-◌, ◌*◌, ◌/◌, ◌<◌, ◌≤◌, Bool, true, false, List, [], ◌∷◌, ◌++◌, length, sym, refl, ap, ◌∙◌, subst, arith, lt-ltb}
+use Rattle.std.proofs.Common.{◌≡◌, ℕ, zero, suc, ◌+◌, ◌-◌, ◌*◌, ◌/◌, ◌<◌, ◌≤◌, Bool, List, [], ◌∷◌, ◌++◌, map, length, sym, refl, ap, ◌∙◌, subst, arith, lt-ltb}
 use lib.Seq.{sets, length-sets}
 use Rattle.bits.specs.Choice.{pick}
 use Rattle.machine.specs.Origins.{Place, of_register, of_memory, taint_of}
@@ -9,9 +9,12 @@ use Rattle.why.specs.declared.source.Came.{Came}
 use Rattle.why.specs.declared.source.Came.TheVariants.{Kept, Cleared, Copied}
 use Rattle.why.specs.declared.source.LastSet.{LastSet}
 use Rattle.why.specs.declared.source.LastSet.TheVariants.{Never, Clearing, Copying}
+use Rattle.vectors.specs.File.{wide}
+use Rattle.why.specs.declared.history.History.{History}
+use Rattle.why.specs.route.Lent.{past_in, steps_in}
 use Rattle.why.specs.Trail.{Past, Link, link, place_numbers, numbers_of, Trail, begun, lost, ahead, follow, trail_of}
 use Rattle.why.specs.Reply.{flat}
-use Rattle.why.specs.route.Came.{spot_place, across, origin_by, is_kept, Steps, past_of, came_at, set_by, last_of, InRange, Asks}
+use Rattle.why.specs.route.Came.{spot_place, across, origin_by, Steps, past_of, came_at, set_by, last_of, InRange, Asks}
 use Rattle.why.specs.route.Reached.{put_one, put_all, written_of}
 use Rattle.why.proofs.Spots.{origin_came}
 
@@ -90,28 +93,34 @@ copied_before g q j m i e = subst (Before j) (sym e) (before g q j)
 
 -- ---- what is written of a trail, by what last set its byte
 
-module _ (g : Steps) (u k : List ℕ) (d j : ℕ) (q : Spot) (b a : List ℕ) where
+module _ (h : History) (d j : ℕ) (q : Spot) (b a : List ℕ) where
   abbrev R : Past
-  R = past_of g u k
+  R = past_in h
+
+  abbrev g : Steps
+  g = steps_in h
+
+  abbrev u : List ℕ
+  u = h.register_taint.now ++ map wide h.vector_taint.now
 
   pub written_start : (t : Bool) (r : ℕ) → Never ≡ last_of g j q → t ≡ taint_of R.start (spot_place q) → r ≡ pick t (d + 1) 0 → a ≡ put_one d (place_numbers R.origin (spot_place q) 0) b
       → record { links = a; count = r } ≡ written_of R.origin d (trail_of R j (spot_place q)) b
   unfolding put_all
-  written_start t r e f n h = rw (trail_start g u k q j e, n, f, h)
+  written_start t r e f n p = rw (trail_start g u h.taint.now q j e, n, f, p)
 
   pub written_lost : Clearing ≡ last_of g j q → record { links = b; count = 0 } ≡ written_of R.origin d (trail_of R j (spot_place q)) b
   unfolding put_all
-  written_lost e = rw (trail_cleared g u k q j e)
+  written_lost e = rw (trail_cleared g u h.taint.now q j e)
 
   -- a link, and those that come after it
   pub written_ahead : (m i : ℕ) (s : Spot) → Copying m i ≡ last_of g j q → s ≡ across q m → a ≡ put_one d (place_numbers R.origin (spot_place q) (i + 1)) b
       → written_of R.origin (d + 1) (trail_of R i (spot_place s)) a ≡ written_of R.origin d (trail_of R j (spot_place q)) b
   unfolding put_all
-  written_ahead m i s e f h =
+  written_ahead m i s e f p =
       let t = trail_of R i (spot_place (across q m)) in
       let n : i + 1 ≡ suc i = omega arith in
       let c : d + 1 + length t.links ≡ d + suc (length t.links) = omega arith in
-      rw (trail_copied g u k q j m i e, f, h, n, c)
+      rw (trail_copied g u h.taint.now q j m i e, f, p, n, c)
 
 pub last_kept : (g : Steps) (q : Spot) (j : ℕ) → 0 < j → Kept ≡ came_at g (j - 1) q → last_of g (j - 1) q ≡ last_of g j q
 unfolding last_of

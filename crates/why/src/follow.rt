@@ -23,7 +23,11 @@ pub fn follow(history: &History, step: usize, spot: Spot, links: &mut [u64]) -> 
         match last_set(history, before, byte) {
             LastSet::Never => {
                 put(links, depth, numbers(history.origin, byte, 0));
-                return if started_tainted(history, byte) { depth + 1 } else { 0 };
+                return if started_tainted(history, byte) {
+                    depth + 1
+                } else {
+                    0
+                };
             }
             LastSet::Clearing => return 0,
             LastSet::Copying(from, at) => {

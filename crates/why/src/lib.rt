@@ -18,7 +18,7 @@ ghost use Rattle.why.specs.route.Lent.{past_in, steps_in};
 ghost use Rattle.why.specs.route.Reached.{listed_of};
 
 use follow::follow;
-use history::History;
+pub use history::History;
 use instruction::Answer;
 use plan::Window;
 use source::Spot;
@@ -61,52 +61,44 @@ pub fn milestarling_why(
 ) -> Reply
     ensures { said result links.new ≡ said_of (record { origin = origin; readonly = readonly }) memory_length (lent words.now trace.now statuses.now origin register_taint.now vector_taint.now taint.now) steps step (record { kind = kind; number = number; byte = byte }) links.old }
 {
-    explain(
+    let history = History {
         words,
         trace,
         statuses,
-        steps as usize,
+        origin,
         register_taint,
         vector_taint,
         taint,
-        Window { origin, readonly },
+    };
+    let question = Question { kind, number, byte };
+    explain(
+        &history,
+        steps as usize,
+        readonly,
         memory_length,
         step as usize,
-        Question { kind, number, byte },
+        question,
         links,
     )
 }
 
-// Why a place is tainted just before a step of a run, by the words, the trace and the statuses of its steps, and the taints
-// that it started with. The links are put into the list from its start, the latest first; where the answer is not 0, none is.
+// Why a place is tainted just before a step of a run. The links are put into the list from its start, the latest first; where
+// the answer is not 0, none is.
 pub fn explain(
-    words: &[u32],
-    trace: &[u64],
-    statuses: &[u8],
+    history: &History,
     steps: usize,
-    register_taint: &[u64; 32],
-    vector_taint: &[[u64; 2]; 32],
-    taint: &[u8],
-    window: Window,
+    readonly: u64,
     len: u64,
     step: usize,
     q: Question,
     links: &mut [u64],
 ) -> Reply
-    ensures { said result links.new ≡ said_of window len (lent words.now trace.now statuses.now window.origin register_taint.now vector_taint.now taint.now) steps step q links.old }
+    ensures { said result links.new ≡ said_of (record { origin = history.now.origin; readonly = readonly }) len (past_in history.now) steps step q links.old }
 {
-    let history = History {
-        words,
-        trace,
-        statuses,
-        origin: window.origin,
-        register_taint,
-        vector_taint,
-        taint,
-    };
-    match refusal::first(&history, steps, window, len, step, q) {
+    let origin = history.origin;
+    match refusal::first(history, steps, Window { origin, readonly }, len, step, q) {
         Err(answer) => replied(answer, 0),
-        Ok(()) => listed(&history, step, refusal::spot(q, window.origin), links),
+        Ok(()) => listed(history, step, refusal::spot(q, origin), links),
     }
 }
 

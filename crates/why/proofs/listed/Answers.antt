@@ -1,9 +1,8 @@
 -- `why::listed` meets its contract. Assumes nothing.
-use Rattle.std.proofs.Common.{sym, ap, ◌∙◌, arith}
+use Rattle.std.proofs.Common.{sym, ◌∙◌, arith}
 use Rattle.why.specs.Trail.{trail_of}
 use Rattle.why.specs.route.Came.{spot_place}
 use Rattle.why.specs.route.Lent.{past_in}
-use Rattle.why.specs.route.Reached.{Written}
 use Rattle.why.proofs.Tests.{found, listed_short, listed_none, listed_links}
 use Rattle.why.proofs.listed.Goals as goal
 

@@ -1,11 +1,11 @@
 -- What the code has written.
-use Rattle.std.specs.Prelude.{◌≡◌, ℕ, suc, ◌+◌, ◌*◌, ◌/◌, ◌≤◌, Bool, true, false, List, [], ◌∷◌, length, nat_lt}
+use Rattle.std.specs.Prelude.{ℕ, ◌+◌, ◌*◌, ◌/◌, List, [], ◌∷◌, length, nat_lt}
 use Rattle.std.proofs.lemmas.List.Edits.{sets}
 use Rattle.bits.specs.Choice.{pick}
 use Rattle.instruction.specs.declared.answer.Answer.TheVariants.{NoRoom}
 use Rattle.instruction.specs.Answers.{answer_number}
 use Rattle.why.specs.Reply.{Said, said_from}
-use Rattle.why.specs.Trail.{Past, Link, numbers_of, Trail, trail_of}
+use Rattle.why.specs.Trail.{Link, numbers_of, Trail}
 
 -- one link behind d others; what has no room is dropped
 unfoldable pub put_one : ℕ → List ℕ → List ℕ → List ℕ
