@@ -1,4 +1,5 @@
-// The operations of the families, and the bytes that each moves.
+// The operations of the families, and the bytes that each moves. A code and its operation lead to each other by two matches for
+// each type: a trait would gather them and save none, since no function here is the same for two types.
 ghost use Rattle.std.specs.Prelude.{◌≡◌, ◌<◌};
 ghost use Rattle.instruction.specs.Operations.{sized_code, vector_of, size_of, opc_of, scale_of, sized_stores, sized_bytes, sized_at, literal_code, literal_vector, literal_opc, literal_at, pair_code, pair_vector, pair_opc, pair_load, pair_bytes, pair_at, mode_code, mode_at};
 
@@ -156,10 +157,10 @@ pub fn opc_field(op: SizedOp) -> u32
 pub fn scale(op: SizedOp) -> u32
     ensures { (result ≡ scale_of op) × (result < 5) }
 {
-    if sized_code(op) / 2 == 0b1_00_1 {
-        return 4;
+    match op {
+        SizedOp::StoreVectorQuad | SizedOp::LoadVectorQuad => 4,
+        _ => size_field(op),
     }
-    size_field(op)
 }
 
 // Whether it stores.
@@ -167,9 +168,10 @@ pub fn sized_stores(op: SizedOp) -> bool
     ensures { result ≡ sized_stores op }
 {
     if vector_field(op) == 1 {
-        return opc_field(op) % 2 == 0;
+        opc_field(op) % 2 == 0
+    } else {
+        opc_field(op) == 0b00
     }
-    opc_field(op) == 0b00
 }
 
 // The bytes of an access.
@@ -288,13 +290,11 @@ pub fn pair_load(op: PairOp) -> u32
 pub fn pair_bytes(op: PairOp) -> u32
     ensures { result ≡ pair_bytes op }
 {
-    if pair_vector(op) == 1 {
-        return 4 << pair_opc(op);
+    match pair_opc(op) {
+        opc if pair_vector(op) == 1 => 4 << opc,
+        0b10 => 8,
+        _ => 4,
     }
-    if pair_opc(op) == 0b10 {
-        return 8;
-    }
-    4
 }
 
 // The mode field of a pair.
