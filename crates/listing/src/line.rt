@@ -16,7 +16,7 @@ pub fn put_line(output: &mut [u8], at: usize, word: u32) -> usize
     let text = ascii::put_byte(output, tab, b'\t');
     let shown = put_content(output, text, word);
     let number = instruction::answer_number(shown.answer);
-    ascii::put_three(output, shown.end, b'\t', (48 + number) as u8, b'\n')
+    ascii::put_bytes(output, shown.end, [b'\t', (48 + number) as u8, b'\n'])
 }
 
 // Eight digits.
@@ -67,8 +67,8 @@ pub fn put_short(output: &mut [u8], at: usize, count: usize) -> usize
         return at;
     }
     let dash = ascii::put_text(output, at, b"short");
-    let digit = ascii::put_three(output, dash, b'\t', b'-', b'\t');
-    ascii::put_two(output, digit, (48 + n) as u8, b'\n')
+    let digit = ascii::put_bytes(output, dash, [b'\t', b'-', b'\t']);
+    ascii::put_bytes(output, digit, [(48 + n) as u8, b'\n'])
 }
 
 pub fn line_length(word: u32) -> usize

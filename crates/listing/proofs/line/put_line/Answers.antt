@@ -8,4 +8,4 @@ pub returns : goal.returns
 unfolding line_text answer_text
 returns c =
     let content = c.put_content-shown.ensures in
-    ends (after (after c.put_hex-tab.ensures c.put_byte-text.ensures) content.1) (rw (c.answer_number-number.ensures.0, content.0) at c.put_three.ensures)
+    ends (after (after c.put_hex-tab.ensures c.put_byte-text.ensures) content.1) (rw (c.answer_number-number.ensures.0, content.0) at c.put_bytes.ensures)

@@ -12,4 +12,4 @@ pub returns : goal.returns
 unfolding short_text
 returns c =
     simp (ne_eqb _ _ c.if-n-eq0.false)
-    (after (after c.put_text-dash.ensures c.put_three-digit.ensures) c.put_two.ensures)
+    (after (after c.put_text-dash.ensures c.put_bytes-digit.ensures) c.put_bytes.ensures)
