@@ -27,18 +27,6 @@ pub fn put_bytes<const N: usize>(line: &mut [u8], at: usize, bytes: [u8; N]) -> 
     put_text(line, at, &bytes)
 }
 
-pub fn put_two(line: &mut [u8], at: usize, a: u8, b: u8) -> usize
-    ensures { Puts line.old at (a ∷ b ∷ []) line.new result }
-{
-    put_bytes(line, at, [a, b])
-}
-
-pub fn put_three(line: &mut [u8], at: usize, a: u8, b: u8, c: u8) -> usize
-    ensures { Puts line.old at (a ∷ b ∷ c ∷ []) line.new result }
-{
-    put_bytes(line, at, [a, b, c])
-}
-
 pub fn put_four(line: &mut [u8], at: usize, a: u8, b: u8, c: u8, d: u8) -> usize
     ensures { Puts line.old at (a ∷ b ∷ c ∷ d ∷ []) line.new result }
 {
