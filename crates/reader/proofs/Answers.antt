@@ -21,14 +21,14 @@ use Rattle.reader.specs.route.Build.{build_of}
 use Rattle.reader.specs.Reading.{LineOf, ReadOf}
 use Rattle.reader.proofs.RoundTrip.{line_encodes}
 
-never : {b : Bool} → b ≡ true → b ≡ false → ⊥
+pub never : {b : Bool} → b ≡ true → b ≡ false → ⊥
 never p q = let z : ◌≡◌ {A = ℕ} 0 1 = cc in omega arith
 
 -- a text that is longer than any line
 pub read_long : (t : List ℕ) → text_most < length t → ReadOf t (record { answer = NoSuchText; word = 0 })
 read_long t h = inr (refl, refl, λ w l. absurd (omega (arith, h, text_short w l.defined, ap length l.line)))
 
-nothing_at_0 : allocated 0 ≡ false
+pub nothing_at_0 : allocated 0 ≡ false
 unfolding allocated in_set row_of part
 nothing_at_0 = refl
 

@@ -3,7 +3,7 @@ use Prim.Native.Nat.{ℕ, zero, suc, ◌+◌, ◌^◌, ◌≤◌, ◌<◌}
 use mathlib.Core.Path.{◌≡◌, refl, sym, ap, ◌∙◌, subst}
 use mathlib.Core.Bool.{true, not, ◌||◌}
 use mathlib.Core.List.{List, [], ◌∷◌, ◌++◌}
-use mathlib.Core.Logic.{◌↔◌}
+use mathlib.Core.Logic.{◌↔◌, inr}
 use native.Mathlib.Omega.{arith}
 use borrow.Author.Tests.{ne_eqb, not-true}
 use lib.Dec.{eqb}
@@ -17,8 +17,10 @@ use Rattle.instruction.specs.Answers.{answer_number}
 use Rattle.instruction.specs.Operations.{exclusive_code, store_exclusive_code}
 use Rattle.instruction.specs.Table.{columns_of, in_set, row_of, undefined, allocated, instruction_of}
 use Rattle.instruction.proofs.Rows.{row_has}
+use Rattle.instruction.specs.declared.answer.Answer.TheVariants.{Unpredictable}
+use Rattle.instruction.proofs.Answers.{number_once}
 use Rattle.decoder.specs.Decoding.{class_of}
-use Rattle.decoder.proofs.Arms.{allocated_is}
+use Rattle.decoder.proofs.Arms.{allocated_when}
 use Rattle.mnemonic.specs.Operands.{Operand, Narrow, sized_operand, literal_operand, pair_operand, access_operand}
 use Rattle.mnemonic.specs.Mnemonics.{plain_name, unscaled_name, ordered_name, literal_name, pair_name, exclusive_name}
 use Rattle.text.specs.Texts.{base_text, operand_text, offset_tail, pre_tail, post_tail, pair_tail, index_tail, front_text, literal_text, pair_text, sized_text, exclusive_text, store_exclusive_text, family_text, text_of, word_text}
@@ -113,7 +115,7 @@ restored_is line w = (text_line line w, back)
 pub answer_4_restored : (a b : List ℕ) (w : ℕ) → Without 9 a → Without 9 b → ¬ Digits a → w < 2 ^ 32 → answer_number (class_of w) ≡ 4
     → (f : Fate) → FateOf (a ++ (9 ∷ (word_text w ++ (9 ∷ b)))) f → line_out f ≡ line_text w
 answer_4_restored a b w h k n below answer f x =
-    let defined : allocated w ≡ true = sym (allocated_is w refl refl) ∙ ap (λ (m : ℕ). eqb m 0 || eqb m 4) answer in
+    let defined : allocated w ≡ true = sym (allocated_when w refl (inr (number_once (class_of w) Unpredictable answer))) in
     ap line_out (fate_once (a ++ (9 ∷ (word_text w ++ (9 ∷ b)))) f (Restored w) x (restored_as a b w h k n below defined))
 
 pub digits_not_restored : (line a : List ℕ) (rest : List (List ℕ)) → fields_of line ≡ a ∷ rest → Digits a → (w : ℕ) → ¬ FateOf line (Restored w)

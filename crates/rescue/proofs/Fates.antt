@@ -14,8 +14,7 @@ use Rattle.instruction.specs.Answers.{answer_number}
 use Rattle.instruction.specs.Table.{allocated}
 use Rattle.decoder.specs.Decoding.{class_of}
 use Rattle.text.specs.Texts.{word_text}
-use Rattle.reader.specs.declared.Reading.{Reading}
-use Rattle.reader.specs.Reading.{LineOf, ReadOf}
+use Rattle.reader.specs.Reading.{Reading, LineOf, ReadOf}
 use Rattle.reader.proofs.RoundTrip.{text_injective, read_some}
 use Rattle.listing.specs.Listing.{hex8, content_text, answer_text, line_text}
 use Rattle.rescue.specs.Lines.{fields_of}

@@ -15,12 +15,11 @@ use lib.Seq.{sets-eq, take_at, take_all, take-suc, get_or-take}
 use Rattle.bits.proofs.Choices.{tested}
 use Rattle.ascii.specs.route.Puts.{Puts}
 use Rattle.ascii.proofs.Pieces.{fits}
-use Rattle.listing.specs.Listing.{hex_digit, line_text, line_most}
+use Rattle.listing.specs.Listing.{hex8, hex_digit, line_text, line_most}
 use Rattle.listing.proofs.Steps.{line_short}
 use Rattle.rescue.specs.Rescue.{Digits}
 use Rattle.rescue.specs.route.Search.{digit_of, hex_n}
 use Rattle.rescue.specs.Whole.{LowerDigit, EightDigits}
-use Rattle.rescue.specs.route.Steps.{DigitsAre}
 use Rattle.rescue.proofs.Hex.{digit_back, digit_is, hex_same, hex_length}
 use Rattle.rescue.proofs.Fates.{body_of, line_is, line_length, no_newline}
 
@@ -79,11 +78,10 @@ module _ {xs : List ℕ} {i w : ℕ} (s : Sofar xs i w) where
         shown = rw (add-one i, q, r, s.shown, f) (sym (take-suc xs i 0 h));
       }
 
-  pub sofar_end : i ≡ 8 → DigitsAre (take 8 xs) w
-  sofar_end e =
-      let b : w < 16 ^ 8 = rw e at s.below in
+  pub sofar_end : i ≡ 8 → length xs ≡ 8 → hex8 w ≡ xs
+  sofar_end e h =
       let g : hex_n 8 w ≡ take 8 xs = rw e at s.shown in
-      inl (omega (arith, b), hex_same w ∙ g)
+      hex_same w ∙ g ∙ take_all 8 xs (omega (arith, h))
 
 data Hexed : List ℕ → Type 0 where
   none : Hexed []
@@ -102,15 +100,15 @@ hexed_at none i h = absurd (not-suc-le-zero h)
 hexed_at (next k p) zero h = k
 hexed_at (next k p) (suc i) h = hexed_at p i (omega arith)
 
-pub not_digits : (xs : List ℕ) (i : ℕ) → i < 8 → {d : ℕ} → d ≡ digit_of (get_or xs i 0) → d ≡ 16 → DigitsAre (take 8 xs) 4294967296
-not_digits xs i h e k =
-    inr (
-      refl,
-      λ d.
-          let g = hexed_at (hexed 8 d.0) i h in
-          let f : get_or (hex_n 8 d.0) i 0 ≡ get_or xs i 0 = ap (λ (l : List ℕ). get_or l i 0) (sym (hex_same d.0) ∙ d.2) ∙ get_or-take 8 xs i 0 h in
-          omega (arith, g, ap digit_of f),
-    )
+pub not_digits : (xs : List ℕ) (i : ℕ) → i < 8 → digit_of (get_or xs i 0) ≡ 16 → ¬ Digits xs
+not_digits xs i h k d =
+    let g = hexed_at (hexed 8 d.0) i h in
+    let f : get_or (hex_n 8 d.0) i 0 ≡ get_or xs i 0 = ap (λ (l : List ℕ). get_or l i 0) (sym (hex_same d.0) ∙ d.2) in
+    omega (arith, g, ap digit_of f)
+
+-- a field of another length
+pub not_eight : (xs : List ℕ) → ¬ (length xs ≡ 8) → ¬ Digits xs
+not_eight xs h d = h (ap length (sym d.2) ∙ hex_length d.0)
 
 -- such digits, byte by byte
 lower_digit : (b : ℕ) → digit_of b < 16 → LowerDigit b

@@ -56,43 +56,20 @@ module _ {input : List ℕ} {at w long : ℕ} (s : Stands input at w long) where
         };
       }
 
-pub stands_not : {input : List ℕ} {at w long : ℕ} → (long ≡ 0) ⊎ Stands input at w long → 0 < long → Stands input at w long
-stands_not (inl e) h = absurd (omega (arith, e, h))
-stands_not (inr s) h = s
+-- all that is behind a place
+pub to_end : (xs : List ℕ) (n : ℕ) → take (length xs - n) (drop n xs) ≡ drop n xs
+to_end xs n = take_all (length xs - n) (drop n xs) (omega (arith, length-drop n xs))
 
--- what stands in a buffer is compared with the input
-pub stands_told : {input xs ys : List ℕ} {at w r : ℕ} → Puts xs 0 (line_text w) ys r → line_most + 1 ≤ length xs → {b : Bool} (n m : ℕ)
-    → (b ≡ true) ↔ (take n ys ≡ take m (drop at input)) → n ≡ r → m ≡ r → b ≡ true → Stands input at w r
-stands_told {input} {xs} {ys} {at} {w} {r} p h n m e a c t =
+-- what stands in a buffer is what an input begins with
+pub stands_told : {input xs ys s : List ℕ} {at w r : ℕ} → Puts xs 0 (line_text w) ys r → line_most + 1 ≤ length xs → (n : ℕ) → n ≡ r → s ≡ drop at input
+    → s ≡ take n ys ++ drop (length (take n ys)) s → Stands input at w r
+stands_told {input} {xs} {ys} {s} {at} {w} {r} p h n a e t =
     let room : 0 + length (line_text w) ≤ length xs = omega (arith, line_short w) in
     let all : r ≡ length (line_text w) = omega (arith, fits p room) in
     let front : take (length (line_text w)) ys ≡ line_text w =
     ap (take (length (line_text w))) (p.text ∙ sets-eq (line_text w) xs 0 room) ∙ take_at (line_text w) (drop (0 + length (line_text w)) xs) (length (line_text w)) refl in
+    let line : take n ys ≡ line_text w = ap (λ (k : ℕ). take k ys) (a ∙ all) ∙ front in
     record {
       all = all;
-      is = ap (λ (k : ℕ). take k (drop at input)) (sym c) ∙ sym (e.0 t) ∙ ap (λ (k : ℕ). take k ys) (a ∙ all) ∙ front;
+      is = ap (take r) (sym e ∙ t) ∙ take_at (take n ys) (drop (length (take n ys)) s) r (ap length line ∙ sym all) ∙ line;
     }
-
--- ---- a copy
-
-span_take : (p : List ℕ) (i n : ℕ) → i + n ≤ length p → take i p ++ span_of p i n ≡ take (i + n) p
-unfolding span_of
-span_take p i zero h = let e : i ≡ i + 0 = omega arith in append-nil (take i p) ∙ ap (λ (k : ℕ). take k p) e
-span_take p i (suc n) h =
-    let e : suc i + n ≡ i + suc n = omega arith in
-    sym (append_assoc (take i p) (get_or p i 0 ∷ []) (span_of p (suc i) n))
-    ∙ ap (λ (t : List ℕ). t ++ span_of p (suc i) n) (sym (take-suc p i 0 (omega arith)))
-    ∙ span_take p (suc i) n (omega arith)
-    ∙ ap (λ (k : ℕ). take k p) e
-
--- eight bytes more
-pub eight_more : {xs ys zs : List ℕ} {at m n r : ℕ} (p : List ℕ) (i : ℕ) → i + 8 ≤ length p → Joins p i 8 r → Puts xs at (take i p) ys m → Puts ys m (bytes_of 8 r) zs n
-    → Puts xs at (take (i + 8) p) zs n
-eight_more {xs} {ys} {zs} {at} {m} {n} p i h j a b =
-    subst (λ t. Puts xs at t zs n) (span_take p i 8 h) (after a (subst (λ t. Puts ys m t zs n) j.are b))
-
--- and the rest
-pub copied : {xs ys zs : List ℕ} {at m n : ℕ} (p : List ℕ) (i k : ℕ) → i ≤ length p → k ≡ length p - i → Puts xs at (take i p) ys m → Puts ys m (take k (drop i p)) zs n → Puts xs at p zs n
-copied {xs} {ys} {zs} {at} {m} {n} p i k h e a b =
-    let all : take k (drop i p) ≡ drop i p = take_all k (drop i p) (omega (arith, length-drop i p)) in
-    subst (λ t. Puts xs at t zs n) (take-append-drop i p) (after a (subst (λ t. Puts ys m t zs n) all b))

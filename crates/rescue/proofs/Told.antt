@@ -12,14 +12,16 @@ use lib.Seq.{drop-drop, take_all, length-take-le}
 use native.Mathlib.Decide.{dec_lt}
 use Rattle.bits.specs.Choice.{pick}
 use Rattle.instruction.specs.Answers.{answer_number}
-use Rattle.reader.specs.declared.Reading.{Reading}
-use Rattle.reader.specs.Reading.{ReadOf}
+use Rattle.std.proofs.Common.{Ok, Err}
+use Rattle.instruction.specs.declared.answer.Answer.{Answer}
+use Rattle.reader.specs.Reading.{told, ReadOf}
+use Rattle.reader.proofs.Answers.{never, nothing_at_0}
 use Rattle.listing.specs.Listing.{hex8, line_text}
 use Rattle.rescue.specs.Lines.{lead, fields_of}
-use Rattle.rescue.specs.Rescue.{KeptAs, RestoredAs, FateOf}
+use Rattle.rescue.specs.Rescue.{Digits, KeptAs, RestoredAs, FateOf}
 use Rattle.rescue.specs.declared.Fate.TheVariants.{Dropped}
 use Rattle.rescue.specs.route.Search.{until}
-use Rattle.rescue.specs.route.Steps.{DigitsAre, WordFirst, OtherFirst}
+use Rattle.rescue.specs.route.Steps.{WordFirst, OtherFirst}
 use Rattle.rescue.proofs.Parts.{fields_until, fields_only, until_most}
 use Rattle.rescue.proofs.Hex.{hex_length}
 use Rattle.rescue.proofs.Fates.{count_dropped, word_dropped, text_dropped}
@@ -56,17 +58,14 @@ module _ (X : List ℕ) where
   first_field : (n : ℕ) → n ≡ until 9 X → (rest : List (List ℕ)) × (fields_of X ≡ take n X ∷ rest)
   first_field n e = first_by n e (dec_lt n (length X))
 
-  -- a first field of eight digits
-  pub word_first : (n : ℕ) → n ≡ until 9 X → n ≡ 8 → {w : ℕ} → DigitsAre (take 8 X) w → w < 4294967296 → WordFirst X w
-  word_first n e k (inl (b, d)) h =
+  -- a first field of eight digits, and one of others
+  pub word_first : (n : ℕ) → n ≡ until 9 X → {w : ℕ} → hex8 w ≡ take n X → WordFirst X w
+  word_first n e d =
       let f = first_field n e in
-      record { rest = f.0; fields = f.1 ∙ ap (λ (t : List ℕ). t ∷ f.0) (ap (λ (m : ℕ). take m X) k ∙ sym d) }
-  word_first n e k (inr (b, d)) h = absurd (omega (arith, b, h))
+      record { rest = f.0; fields = f.1 ∙ ap (λ (t : List ℕ). t ∷ f.0) (sym d) }
 
-  -- a field of another length
-  pub other_length : (n : ℕ) → n ≡ until 9 X → ¬ (n ≡ 8) → OtherFirst X n
-  other_length n e k =
-      record { ends = e; other = λ d. k (sym (length-take-le n X (omega (arith, e, until_most 9 X))) ∙ ap length (sym d.2) ∙ hex_length d.0) }
+  pub other_first : (n : ℕ) → n ≡ until 9 X → ¬ Digits (take n X) → OtherFirst X n
+  other_first n e d = record { ends = e; other = d }
 
   -- ---- kept, or dropped
 
@@ -128,12 +127,12 @@ module _ (X : List ℕ) where
             two_fields ∙ ap (λ (t : List (List ℕ)). take n X ∷ take (m - (n + 1)) (drop (n + 1) X) ∷ t) (fields_only 9 (drop (m + 1) X) l)
 
         module _ {t : ℕ} (q : t ≡ m + 1 + until 9 (drop (m + 1) X)) (r : length X ≤ t) where
-          pub restores : (s : Reading) {a : ℕ} → ReadOf (take (m - (n + 1)) (drop (n + 1) X)) s → a ≡ answer_number s.answer → a ≡ 0 → RestoredAs X s.word
-          restores s (inl (d, l)) p z =
+          pub restores : {w : ℕ} → ReadOf (take (m - (n + 1)) (drop (n + 1) X)) (told (Ok w)) → RestoredAs X w
+          restores (inl (d, l)) =
               record { first = take n X; second = take (m - (n + 1)) (drop (n + 1) X); third = drop (m + 1) X; fields = three_fields q r; other = o.other; text = l }
-          restores s (inr (d, w, l)) p z = absurd (omega (arith, p, d, z))
+          restores (inr (d, w, l)) = absurd (omega (arith, d))
 
-          pub restores_not : (s : Reading) {a : ℕ} → ReadOf (take (m - (n + 1)) (drop (n + 1) X)) s → a ≡ answer_number s.answer → ¬ (a ≡ 0) → FateOf X Dropped
-          restores_not s (inl (d, l)) p z = absurd (z (p ∙ d))
-          restores_not s (inr (d, w, l)) p z =
+          pub restores_not : (a : Answer) → ReadOf (take (m - (n + 1)) (drop (n + 1) X)) (told (Err a)) → FateOf X Dropped
+          restores_not a (inl (d, l)) = absurd (never l.defined nothing_at_0)
+          restores_not a (inr (d, w, l)) =
               text_dropped X (take n X) (take (m - (n + 1)) (drop (n + 1) X)) (drop (m + 1) X) (three_fields q r) o.other l

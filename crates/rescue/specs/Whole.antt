@@ -6,8 +6,7 @@ use Rattle.instruction.specs.Answers.{answer_number}
 use Rattle.instruction.specs.Table.{allocated}
 use Rattle.decoder.specs.Decoding.{class_of}
 use Rattle.text.specs.Texts.{word_text}
-use Rattle.reader.specs.declared.Reading.{Reading}
-use Rattle.reader.specs.Reading.{ReadOf}
+use Rattle.reader.specs.Reading.{Reading, ReadOf}
 use Rattle.listing.specs.Listing.{hex8, line_text}
 use Rattle.rescue.specs.Lines.{fields_of}
 

@@ -1,9 +1,9 @@
 // What becomes of a line.
-ghost use Rattle.std.specs.Prelude.{◌≡◌, true, [], ◌∷◌, ◌++◌, ◌↔◌, ◌⊎◌, ◌+◌, ◌≤◌, ◌<◌, length, take, drop};
-ghost use Rattle.listing.specs.Listing.{line_text};
-ghost use Rattle.rescue.specs.Rescue.{FateOf};
+ghost use Rattle.std.specs.Prelude.{◌≡◌, true, [], ◌∷◌, ◌++◌, ◌↔◌, ◌+◌, ◌≤◌, ◌<◌, length, drop, MatchOption, IfSome};
+ghost use Rattle.listing.specs.Listing.{hex8, line_text};
+ghost use Rattle.rescue.specs.Rescue.{Digits, FateOf};
 ghost use Rattle.rescue.specs.route.Search.{until, digit_of};
-ghost use Rattle.rescue.specs.route.Steps.{DigitsAre, WordFirst, OtherFirst, LineAt, Stands};
+ghost use Rattle.rescue.specs.route.Steps.{WordFirst, OtherFirst, LineAt, Stands};
 
 use crate::Fate;
 use listing::LINE_MAX;
@@ -23,52 +23,39 @@ fn find(bytes: &[u8], from: usize, byte: u8) -> usize
     requires { from ≤ length bytes.now }
     ensures { (result ≡ from + until byte (drop from bytes.now)) × (result ≤ length bytes.now) }
 {
-    let mut i = from;
-    while i < bytes.len() {
+    for i in from..bytes.len() {
         if bytes[i] == byte {
             return i;
         }
-        i += 1;
     }
-    i
+    bytes.len()
 }
 
-// The number of a digit in lower case, or 16.
-fn digit(byte: u8) -> u64
-    ensures { (result ≡ digit_of byte) × (result < 17) }
+// The number of a digit in lower case.
+#[tactic(auto, using(std::proofs::lemmas::Bool::Decides::nat_tests), unfolding(crate::specs::route::Search::digit_of))]
+fn digit(byte: u8) -> Option<u32>
+    ensures { MatchOption result (digit_of byte ≡ 16) (λ d. (d ≡ digit_of byte) × (d < 16)) }
 {
-    let b = bits::wide(byte);
-    if b < 48 {
-        return 16;
+    match byte {
+        b'0'..=b'9' => Some(u32::from(byte - b'0')),
+        b'a'..=b'f' => Some(u32::from(byte - b'a') + 10),
+        _ => None,
     }
-    if b <= 57 {
-        return b - 48;
-    }
-    if b < 97 {
-        return 16;
-    }
-    if b <= 102 {
-        return b - 87;
-    }
-    16
 }
 
-// The word of the eight digits that a line begins with, or a number that is none.
-fn digits_at(line: &[u8]) -> u64
-    requires { 8 ≤ length line.now }
-    ensures { DigitsAre (take 8 line.now) result }
+// The word of a field of eight digits.
+fn digits(field: &[u8]) -> Option<u32>
+    ensures { MatchOption result (¬ Digits field.now) (λ word. hex8 word ≡ field.now) }
 {
-    let mut word = 0u64;
-    let mut i = 0;
-    while i < 8 {
-        let d = digit(line[i]);
-        if d == 16 {
-            return 0x1_0000_0000;
-        }
-        word = word * 16 + d;
-        i += 1;
+    if field.len() != 8 {
+        return None;
     }
-    word
+    let mut word = 0;
+    for byte in field {
+        let number = digit(*byte)?;
+        word = word * 16 + number;
+    }
+    Some(word)
 }
 
 // Whether a line, with a newline, is the line of a word.
@@ -78,7 +65,7 @@ fn is_line(line: &[u8], word: u32) -> bool
     let mut buffer = [0u8; BUFFER];
     let end = listing::put_line(&mut buffer, 0, word);
     let body = end - 1;
-    reader::same(&buffer[0..body], line)
+    &buffer[..body] == line
 }
 
 // The line at an index. Where a word's line stands there, with its newline, nothing is searched for.
@@ -86,17 +73,14 @@ pub fn line_at(input: &[u8], at: usize) -> Line
     requires { at ≤ length input.now }
     ensures { LineAt input.now at result.end result.fate }
 {
-    if input.len() - at >= 8 {
-        let word = digits_at(&input[at..]);
-        if word < 0x1_0000_0000 {
-            let long = standing(input, at, word as u32);
-            if long > 0 {
-                return Line {
-                    end: at + (long - 1),
-                    fate: Fate::Kept(word as u32),
-                };
-            }
-        }
+    if input.len() - at >= 8
+        && let Some(word) = digits(&input[at..at + 8])
+        && let Some(long) = standing(input, at, word)
+    {
+        return Line {
+            end: at + (long - 1),
+            fate: Fate::Kept(word),
+        };
     }
     let end = find(input, at, b'\n');
     Line {
@@ -105,34 +89,28 @@ pub fn line_at(input: &[u8], at: usize) -> Line
     }
 }
 
-// How many bytes the line of a word has, with its newline, where it stands at an index; else 0.
-fn standing(input: &[u8], at: usize, word: u32) -> usize
+// How many bytes the line of a word has, with its newline, where it stands at an index.
+fn standing(input: &[u8], at: usize, word: u32) -> Option<usize>
     requires { at ≤ length input.now }
-    ensures { (result ≡ 0) ⊎ Stands input.now at word result }
+    ensures { IfSome result (λ long. (0 < long) × Stands input.now at word long) }
 {
     let mut buffer = [0u8; BUFFER];
     let long = listing::put_line(&mut buffer, 0, word);
-    if input.len() - at < long {
-        return 0;
+    if input[at..].starts_with(&buffer[..long]) {
+        Some(long)
+    } else {
+        None
     }
-    if reader::same(&buffer[0..long], &input[at..at + long]) {
-        return long;
-    }
-    0
 }
 
 fn fate(line: &[u8]) -> Fate
     ensures { FateOf line.now result }
 {
     let first = find(line, 0, b'\t');
-    if first != 8 {
-        return restore(line, first);
+    match digits(&line[..first]) {
+        Some(word) => keep(line, word),
+        None => restore(line, first),
     }
-    let word = digits_at(line);
-    if word < 0x1_0000_0000 {
-        return keep(line, word as u32);
-    }
-    restore(line, first)
 }
 
 // A line whose first field is the digits of a word.
@@ -141,9 +119,10 @@ fn keep(line: &[u8], word: u32) -> Fate
     ensures { FateOf line.now result }
 {
     if is_line(line, word) {
-        return Fate::Kept(word);
+        Fate::Kept(word)
+    } else {
+        Fate::Dropped
     }
-    Fate::Dropped
 }
 
 // A line whose first field is other than eight digits, and ends at an index.
@@ -162,10 +141,8 @@ fn restore(line: &[u8], first: usize) -> Fate
     if find(line, second + 1, b'\t') < line.len() {
         return Fate::Dropped;
     }
-    let reading = reader::read(&line[start..second]);
-    let answer = reading.answer;
-    if instruction::answer_number(answer) == 0 {
-        return Fate::Restored(reading.word);
+    match reader::read(&line[start..second]) {
+        Ok(word) => Fate::Restored(word),
+        Err(_) => Fate::Dropped,
     }
-    Fate::Dropped
 }

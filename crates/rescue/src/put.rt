@@ -22,21 +22,8 @@ pub fn put_out(output: &mut [u8], at: usize, line: &[u8], fate: Fate) -> usize
 fn put_ended(output: &mut [u8], at: usize, line: &[u8]) -> usize
     ensures { Puts output.old at (line.now ++ (10 ∷ [])) output.new result }
 {
-    let end = put_copy(output, at, line);
+    let end = ascii::put_text(output, at, line);
     ascii::put_byte(output, end, b'\n')
-}
-
-// Eight bytes at a time, and then those left over.
-fn put_copy(output: &mut [u8], at: usize, line: &[u8]) -> usize
-    ensures { Puts output.old at line.now output.new result }
-{
-    let mut next = at;
-    let mut i = 0;
-    while line.len() - i >= 8 {
-        next = ascii::put_eight(output, next, bits::eight_at(line, i));
-        i += 8;
-    }
-    ascii::put_text(output, next, &line[i..])
 }
 
 pub fn put_row(report: &mut [u8], at: usize, number: u64, fate: Fate) -> usize
@@ -52,7 +39,7 @@ fn put_name(report: &mut [u8], at: usize, fate: Fate) -> usize
     ensures { Puts report.old at (fate_name fate) report.new result }
 {
     match fate {
-        Fate::Kept(_) => ascii::put_four(report, at, b'k', b'e', b'p', b't'),
+        Fate::Kept(_) => ascii::put_text(report, at, b"kept"),
         Fate::Restored(_) => ascii::put_text(report, at, b"restored"),
         Fate::Dropped => ascii::put_text(report, at, b"dropped"),
     }

@@ -8,10 +8,6 @@ use Rattle.rescue.specs.Rescue.{Digits, FateOf, Fates, output_of, report_of}
 use Rattle.rescue.specs.declared.Fate.{Fate}
 use Rattle.rescue.specs.declared.Fate.TheVariants.{Kept, Restored, Dropped}
 
--- the word of eight digits, or 2 ^ 32
-abbrev pub DigitsAre : List ℕ → ℕ → Type 0
-DigitsAre t r = ((r < 2 ^ 32) × (hex8 r ≡ t)) ⊎ ((r ≡ 2 ^ 32) × (¬ Digits t))
-
 -- whether both texts have room
 pub record FitsAs (input : List ℕ) (room reportRoom : ℕ) (r : Bool) : Type 0 where
   pub fates : List Fate

@@ -26,24 +26,22 @@ returns-then-find-line c =
     let second = second_in _ other first _ found.0 found.1 c.if-second-line.false in
     three_tabs _ other first _ found.0 second c.find.ensures.0 c.if-find-line.true
 
-pub returns-then-answer_number-eq0 : goal.returns-then-answer_number-eq0
-returns-then-answer_number-eq0 c =
+pub returns-in-Ok : goal.returns-in-Ok
+returns-in-Ok c =
     let other = c.requires in
     let first = tab_in _ other c.if-first-line.false in
     let found = c.find-second.ensures in
     let second = second_in _ other first _ found.0 found.1 c.if-second-line.false in
     let third = c.find.ensures.0 in
     let last = c.if-find-line.false in
-    let read = c.read-reading in
-    restores _ other first _ found.0 second third last read.result read.ensures c.answer_number.ensures.0 c.if-answer_number-eq0.true
+    restores _ other first _ found.0 second third last c.in-Ok.ensures
 
-pub returns : goal.returns
-returns c =
+pub returns-in-Err : goal.returns-in-Err
+returns-in-Err c =
     let other = c.requires in
     let first = tab_in _ other c.if-first-line.false in
     let found = c.find-second.ensures in
     let second = second_in _ other first _ found.0 found.1 c.if-second-line.false in
     let third = c.find.ensures.0 in
     let last = c.if-find-line.false in
-    let read = c.read-reading in
-    restores_not _ other first _ found.0 second third last read.result read.ensures c.answer_number.ensures.0 c.if-answer_number-eq0.false
+    restores_not _ other first _ found.0 second third last _ c.in-Err.ensures
