@@ -13,7 +13,7 @@ use instruction::Answer;
 use machine::{Shown, State};
 use plan::{Ranges, Reach, Window};
 
-// What a run returns: how many steps were done, the answer, code and address of the last step tried, and the
+// What a run returns, refused or not: how many steps were done, the answer, code and address of the last step tried, and the
 // state after the steps done.
 #[derive(Drop)]
 pub struct Ran {
@@ -93,7 +93,8 @@ pub fn turn(
     )
 }
 
-// A run by what it may reach.
+// A run by what it may reach. What is lent comes one by one: a struct of so many `&mut` has to promise at every call that it holds the
+// same ones afterwards.
 fn reaching(
     words: &[u32],
     state: State,

@@ -144,10 +144,6 @@ admit_later : (w : Window) (len : ℕ) (t : Transfer) (a : ℕ) → Each (Number
 unfolding admit_of
 admit_later w len t a = ((omega arith, omega arith), ((omega arith, omega arith), ((omega arith, omega arith), ((omega arith, omega arith), tt))))
 
-pub word_later : (w : Window) (word : ℕ) (m : Machine) → Each (Numbered Later) (word_refusals (admit_of w (length m.memory)) word m)
-word_later w word m =
-    word_numbers Later (omega arith, omega arith) (omega arith, omega arith) (omega arith, omega arith) (omega arith, omega arith) (omega arith, omega arith) (admit_of w (length m.memory)) (admit_later w (length m.memory)) word m
-
 -- and by what may be reached, 12 too
 abbrev pub Late : ℕ → Type 0
 Late n = Later n ⊎ (n ≡ 12)
@@ -183,9 +179,6 @@ refuses_in w reach word m =
     moves : (origin : ℕ) (x : Access) (m : Machine) → Refuses (perform_of origin x m)
     moves origin Nothing m = tt
     moves origin (Moves t a) m = tt
-
-pub step_refuses : (w : Window) (word : ℕ) (m : Machine) → Refuses (step_of w word m)
-step_refuses w = refuses_in w Alone
 
 -- ---- the stack pointer (02, CR 1)
 

@@ -26,7 +26,8 @@ pub struct Start<'a> {
     pub files: Files<'a>,
 }
 
-// Memory and its taints, for a load.
+// Memory and its taints, for a load. A store takes the two apart: a struct of two `&mut` has to promise at every call that it holds
+// the same two afterwards.
 #[derive(Clone, Copy)]
 pub struct Bytes<'a> {
     pub memory: &'a [u8],

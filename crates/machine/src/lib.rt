@@ -82,7 +82,7 @@ impl Effect {
     }
 }
 
-// What a step returns: 01's answer, code and address, and the state after it; and what it writes to the vector registers,
+// What a step returns, refused or not: 01's answer, code and address, and the state after it; and what it writes to the vector registers,
 // which `vectors::written` puts into them.
 #[derive(Drop)]
 pub struct Stepped {
@@ -205,7 +205,7 @@ pub fn next_pc(pc: u64) -> u64
 }
 
 // The first half, by what may be reached: what is left to be set, or the refusal. The arrays of the register file are lent, so that
-// reading a register copies nothing.
+// reading a register copies nothing. They come one by one, since a struct that says how long each is would ask a caller to show it.
 pub fn decide<'a>(
     word: u32,
     pc: u64,
