@@ -1,134 +1,149 @@
-// Fields put into an output at a position, each behind its tab. They answer the position behind the field.
+// The lines of a case, put together in a fixed buffer before they are written: a program allocates nothing.
+ghost use Rattle.std.specs.Prelude.{◌≡◌, ◌<◌, ◌≤◌, true, [], ◌∷◌, length, take};
+ghost use Rattle.std.specs.Result.{IsErr};
+ghost use Rattle.ascii.specs.route.Puts.{Puts};
+
+use console::Failed;
 use machine::Monitor;
 use registers::Registers;
-use vectors::Halves;
 
-// A line that says something of a case.
-pub fn remark(rt: &(impl Print + Eprint), output: &mut [u8], number: u64, what: &[u8]) -> bool {
-    let number_end = put_name(output, number);
-    let tab_end = ascii::put_byte(output, number_end, b'\t');
-    let what_end = ascii::put_text(output, tab_end, what);
-    let end = ascii::put_byte(output, what_end, b'\n');
-    console::write(rt, output, end)
+// The bytes up to an end. What there is no room for is left out.
+#[derive(Drop)]
+pub struct Lines {
+    bytes: [u8; 65536],
+    end: usize,
 }
 
-// The start of a line about a case.
-pub fn put_name(output: &mut [u8], number: u64) -> usize {
-    let name_end = ascii::put_text(output, 0, b"case");
-    put_field(output, name_end, number)
-}
-
-pub fn put_field(output: &mut [u8], at: usize, number: u64) -> usize {
-    let tab_end = ascii::put_byte(output, at, b'\t');
-    ascii::put_decimal(output, tab_end, number)
-}
-
-// A line of one field, two digits for each byte.
-pub fn put_bytes(output: &mut [u8], at: usize, name: &[u8], bytes: &[u8]) -> usize {
-    let name_end = ascii::put_text(output, at, name);
-    let mut end = ascii::put_byte(output, name_end, b'\t');
-    let mut i = 0;
-    while i < bytes.len() {
-        end = put_hex(output, end, bits::wide(bytes[i]), 2);
-        i += 1;
+impl Lines {
+    pub fn new() -> Lines
+        ensures { result.end ≡ 0 }
+    {
+        Lines {
+            bytes: io::large_buffer(),
+            end: 0,
+        }
     }
-    ascii::put_byte(output, end, b'\n')
-}
 
-// A line of as many fields as there are numbers.
-pub fn put_numbers(output: &mut [u8], at: usize, name: &[u8], numbers: &[u64]) -> usize {
-    let mut end = ascii::put_text(output, at, name);
-    let mut i = 0;
-    while i < numbers.len() {
-        end = put_field(output, end, numbers[i]);
-        i += 1;
+    pub fn clear(&mut self)
+        ensures { self.new.end ≡ 0 }
+    {
+        self.end = 0;
     }
-    ascii::put_byte(output, end, b'\n')
-}
 
-// A line of 32 fields, with a star and its taints behind what is tainted.
-pub fn put_registers(output: &mut [u8], at: usize, file: Registers) -> usize {
-    let mut end = ascii::put_text(output, at, b"registers");
-    let mut n = 0;
-    while n < 32 {
-        end = put_register(output, end, file.get(n), file.taints(n));
-        n += 1;
+    // Whether two have the same bytes.
+    pub fn is_same(&self, other: &Lines) -> bool
+        ensures { result ≡ true → (self.now.end ≡ other.now.end) × (self.now.end ≤ length self.now.bytes → self.now.end ≤ length other.now.bytes → take self.now.end self.now.bytes ≡ take self.now.end other.now.bytes) }
+    {
+        self.end == other.end && self.bytes.get(..self.end) == other.bytes.get(..other.end)
     }
-    ascii::put_byte(output, end, b'\n')
-}
 
-pub fn put_register(output: &mut [u8], at: usize, value: u64, taints: u64) -> usize {
-    let tab_end = ascii::put_byte(output, at, b'\t');
-    let value_end = put_hex(output, tab_end, value, 16);
-    if taints == 0 {
-        return value_end;
+    pub fn write(&self, rt: &(impl Print + Eprint)) -> Result<(), Failed>
+        ensures { length self.now.bytes < self.now.end → IsErr result }
+    {
+        console::write(rt, &self.bytes, self.end)
     }
-    let star_end = ascii::put_byte(output, value_end, b'*');
-    put_taints(output, star_end, taints)
-}
 
-// A line of 32 fields likewise, the high half first.
-pub fn put_vectors(
-    output: &mut [u8],
-    at: usize,
-    vectors: [[u64; 2]; 32],
-    vector_taint: [[u64; 2]; 32],
-) -> usize {
-    let mut end = ascii::put_text(output, at, b"vectors");
-    let mut n = 0;
-    while n < 32 {
-        end = put_vector(
-            output,
-            end,
-            vectors::get(vectors, n),
-            vectors::get(vector_taint, n),
-        );
-        n += 1;
+    pub fn put_byte(&mut self, byte: u8)
+        ensures { Puts self.old.bytes self.old.end (byte ∷ []) self.new.bytes self.new.end }
+    {
+        self.end = ascii::put_byte(&mut self.bytes, self.end, byte);
     }
-    ascii::put_byte(output, end, b'\n')
-}
 
-pub fn put_vector(output: &mut [u8], at: usize, value: Halves, taint: Halves) -> usize {
-    let tab_end = ascii::put_byte(output, at, b'\t');
-    let high_end = put_hex(output, tab_end, value.high, 16);
-    let low_end = put_hex(output, high_end, value.low, 16);
-    if taint.high == 0 && taint.low == 0 {
-        return low_end;
+    pub fn put_text(&mut self, text: &[u8])
+        ensures { Puts self.old.bytes self.old.end text.now self.new.bytes self.new.end }
+    {
+        self.end = ascii::put_text(&mut self.bytes, self.end, text);
     }
-    let star_end = ascii::put_byte(output, low_end, b'*');
-    let high_taints_end = put_taints(output, star_end, taint.high);
-    put_taints(output, high_taints_end, taint.low)
-}
 
-// A digit for each byte, 1 where it is tainted, byte 7 first.
-fn put_taints(output: &mut [u8], at: usize, taints: u64) -> usize {
-    let mut end = at;
-    let mut rest = taints;
-    let mut i = 0u32;
-    while i < 8 {
-        end = ascii::put_byte(output, end, taint_digit(rest / 0x100_0000_0000_0000));
-        rest = rest % 0x100_0000_0000_0000 * 256;
-        i += 1;
+    // The start of the first line about a case.
+    pub fn put_name(&mut self, number: u64) {
+        self.clear();
+        self.put_text(b"case");
+        self.put_field(number);
     }
-    end
-}
 
-fn taint_digit(taint: u64) -> u8 {
-    if taint == 0 {
-        return b'0';
+    // A number behind its tab.
+    pub fn put_field(&mut self, number: u64) {
+        self.put_byte(b'\t');
+        self.end = ascii::put_decimal(&mut self.bytes, self.end, number);
     }
-    b'1'
-}
 
-pub fn put_monitor(output: &mut [u8], at: usize, monitor: Monitor) -> usize {
-    let name_end = ascii::put_text(output, at, b"monitor");
-    let address_end = put_field(output, name_end, monitor.address);
-    let size_end = put_field(output, address_end, monitor.size);
-    ascii::put_byte(output, size_end, b'\n')
-}
+    // A line of one field, two digits for each byte.
+    pub fn put_bytes(&mut self, name: &[u8], bytes: &[u8]) {
+        self.put_text(name);
+        self.put_byte(b'\t');
+        for byte in bytes {
+            self.put_hex(u64::from(*byte), 2);
+        }
+        self.put_byte(b'\n');
+    }
 
-fn put_hex(output: &mut [u8], at: usize, number: u64, width: usize) -> usize {
-    let mut digits = [0u8; 16];
-    let n = io::hex(number, width, &mut digits);
-    ascii::put_text(output, at, &digits[..n])
+    // A line of as many fields as there are numbers.
+    pub fn put_numbers(&mut self, name: &[u8], numbers: &[u64]) {
+        self.put_text(name);
+        for number in numbers {
+            self.put_field(*number);
+        }
+        self.put_byte(b'\n');
+    }
+
+    // A line of 32 fields, with a star and its taints behind what is tainted.
+    pub fn put_registers(&mut self, file: &Registers) {
+        self.put_text(b"registers");
+        for (value, taints) in file.value.iter().zip(file.taint.iter()) {
+            self.put_register(*value, *taints);
+        }
+        self.put_byte(b'\n');
+    }
+
+    pub fn put_register(&mut self, value: u64, taints: u64) {
+        self.put_byte(b'\t');
+        self.put_hex(value, 16);
+        if taints != 0 {
+            self.put_byte(b'*');
+            self.put_taints(taints);
+        }
+    }
+
+    // A line of 32 fields likewise, the high half first.
+    pub fn put_vectors(&mut self, vectors: &[[u64; 2]; 32], vector_taint: &[[u64; 2]; 32]) {
+        self.put_text(b"vectors");
+        for (value, taints) in vectors.iter().zip(vector_taint.iter()) {
+            self.put_vector(*value, *taints);
+        }
+        self.put_byte(b'\n');
+    }
+
+    pub fn put_vector(&mut self, value: [u64; 2], taints: [u64; 2]) {
+        let [low, high] = value;
+        self.put_byte(b'\t');
+        self.put_hex(high, 16);
+        self.put_hex(low, 16);
+        if taints != [0, 0] {
+            let [low_taints, high_taints] = taints;
+            self.put_byte(b'*');
+            self.put_taints(high_taints);
+            self.put_taints(low_taints);
+        }
+    }
+
+    // A digit for each byte, 1 where it is tainted, byte 7 first.
+    fn put_taints(&mut self, taints: u64) {
+        for taint in taints.to_be_bytes() {
+            self.put_byte(if taint == 0 { b'0' } else { b'1' });
+        }
+    }
+
+    pub fn put_monitor(&mut self, monitor: Monitor) {
+        self.put_text(b"monitor");
+        self.put_field(monitor.address);
+        self.put_field(monitor.size);
+        self.put_byte(b'\n');
+    }
+
+    fn put_hex(&mut self, number: u64, width: usize) {
+        let mut digits = [0u8; 16];
+        let n = io::hex(number, width, &mut digits);
+        self.put_text(&digits[..n]);
+    }
 }
