@@ -1,53 +1,48 @@
 // Listings by the library, whole and in fragments.
-use crate::head;
+use crate::head::Head;
+use fields::Lines;
 use host::ListerReply;
 use stream::Lister;
 
-pub fn put_list(output: &mut [u8], at: usize, bytes: &[u8], buffer: &mut [u8]) -> usize {
+pub fn put_list(lines: &mut Lines, bytes: &[u8], buffer: &mut [u8]) {
     let reply = host::milestarling_list(bytes, buffer);
-    let said = [reply.answer, reply.length];
-    let said_end = fields::put_numbers(output, at, b"list", &said);
-    fields::put_bytes(output, said_end, b"buffer", buffer)
+    lines.put_numbers(b"list", &[reply.answer, reply.length]);
+    lines.put_bytes(b"buffer", buffer);
 }
 
-pub fn put_push(
-    output: &mut [u8],
-    at: usize,
-    start: &[u8],
-    fragment: &[u8],
-    buffer: &mut [u8],
-) -> usize {
-    let reply = host::milestarling_lister_push(lister_of(start), fragment, buffer);
-    let said_end = put_lister(output, at, b"push", reply);
-    fields::put_bytes(output, said_end, b"buffer", buffer)
+pub fn put_push(lines: &mut Lines, head: &Head, fragment: &[u8], buffer: &mut [u8]) {
+    let reply = host::milestarling_lister_push(lister_of(head), fragment, buffer);
+    put_lister(lines, b"push", reply);
+    lines.put_bytes(b"buffer", buffer);
 }
 
-pub fn put_close(output: &mut [u8], at: usize, start: &[u8], buffer: &mut [u8]) -> usize {
-    let reply = host::milestarling_lister_close(lister_of(start), buffer);
-    let said_end = put_lister(output, at, b"close", reply);
-    fields::put_bytes(output, said_end, b"buffer", buffer)
+pub fn put_close(lines: &mut Lines, head: &Head, buffer: &mut [u8]) {
+    let reply = host::milestarling_lister_close(lister_of(head), buffer);
+    put_lister(lines, b"close", reply);
+    lines.put_bytes(b"buffer", buffer);
 }
 
-fn lister_of(start: &[u8]) -> Lister {
+fn lister_of(head: &Head) -> Lister {
+    let [first, second, third, count, closed, ..] = head.bytes();
     Lister {
-        first: head::byte(start, 0),
-        second: head::byte(start, 1),
-        third: head::byte(start, 2),
-        count: head::byte(start, 3),
-        closed: head::byte(start, 4),
+        first,
+        second,
+        third,
+        count,
+        closed,
     }
 }
 
-fn put_lister(output: &mut [u8], at: usize, name: &[u8], reply: ListerReply) -> usize {
+fn put_lister(lines: &mut Lines, name: &[u8], reply: ListerReply) {
     let lister = reply.lister;
     let said = [
         reply.answer,
         reply.length,
-        lister.first as u64,
-        lister.second as u64,
-        lister.third as u64,
-        lister.count as u64,
-        lister.closed as u64,
+        u64::from(lister.first),
+        u64::from(lister.second),
+        u64::from(lister.third),
+        u64::from(lister.count),
+        u64::from(lister.closed),
     ];
-    fields::put_numbers(output, at, name, &said)
+    lines.put_numbers(name, &said);
 }

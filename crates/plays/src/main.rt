@@ -8,12 +8,11 @@ mod plugin;
 mod show;
 mod turn;
 
-// A proved loop has to end, and nothing says that the input does. So the loop ends at a number of plays that no
-// run comes to.
+use fields::Lines;
+
 fn main(rt: HostRuntime) {
-    let mut output = io::large_buffer();
-    let mut number = 0;
-    while number < u64::MAX && play::replay(&rt, number, &mut output) {
-        number += 1;
-    }
+    let mut lines = Lines::new();
+    fields::for_each_case(&rt, &mut [0; 144], |number, head| {
+        play::replay(&rt, number, head, &mut lines)
+    });
 }

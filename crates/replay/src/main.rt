@@ -4,16 +4,14 @@
 #![tactic(auto)]
 
 mod case;
-mod show;
 mod steps;
 
-// A proved loop has to end, and nothing says that the input does. So the loop ends at a number of cases that no
-// run comes to.
+use fields::Lines;
+
 fn main(rt: HostRuntime) {
-    let mut output = io::large_buffer();
-    let mut again = io::large_buffer();
-    let mut number = 0;
-    while number < u64::MAX && case::replay(&rt, number, &mut output, &mut again) {
-        number += 1;
-    }
+    let mut lines = Lines::new();
+    let mut again = Lines::new();
+    fields::for_each_case(&rt, &mut [0; 80], |number, head| {
+        case::replay(&rt, number, head, &mut lines, &mut again)
+    });
 }

@@ -5,6 +5,7 @@ use lending::Lent;
 use machine::State;
 use session::StepReply;
 
+// It takes what the library's run takes, and is handed on in its place.
 pub fn run(
     words: &[u32],
     start: State,
@@ -18,12 +19,11 @@ pub fn run(
     statuses: &mut [u8],
 ) -> RunReply {
     let mut lent = unstepped(start);
-    let mut i = 0;
-    while i < words.len() {
-        let state = lent.state;
-        let next = lending::step(
-            words[i],
-            state,
+    let mut notes = trace.chunks_exact_mut(2).zip(statuses.iter_mut());
+    for (i, word) in words.iter().enumerate() {
+        lent = lending::step(
+            *word,
+            lent.state,
             vectors,
             vector_taint,
             origin,
@@ -31,13 +31,16 @@ pub fn run(
             memory,
             taint,
         );
-        lent = next;
-        if !note(trace, statuses, i, next) {
-            return reply_of(i, next);
+        if lent.reply.answer != 0 {
+            return reply_of(i, lent);
         }
-        i += 1;
+        if let Some(([code, address], status)) = notes.next() {
+            *code = lent.reply.code;
+            *address = lent.reply.address;
+            *status = (lent.reply.status % 256) as u8;
+        }
     }
-    reply_of(i, lent)
+    reply_of(words.len(), lent)
 }
 
 // What a run without a word says.
@@ -54,41 +57,11 @@ fn unstepped(state: State) -> Lent {
 }
 
 fn reply_of(steps: usize, lent: Lent) -> RunReply {
-    let state = lent.state;
     RunReply {
-        session: state,
+        session: lent.state,
         steps: steps as u64,
         answer: lent.reply.answer,
         code: lent.reply.code,
         address: lent.reply.address,
-    }
-}
-
-// Says whether the step was done; then it is noted.
-fn note(trace: &mut [u64], statuses: &mut [u8], i: usize, lent: Lent) -> bool {
-    if lent.reply.answer != 0 {
-        return false;
-    }
-    note_access(trace, i, lent.reply.code, lent.reply.address);
-    note_status(statuses, i, lent.reply.status);
-    true
-}
-
-fn note_access(trace: &mut [u64], i: usize, code: u64, address: u64) {
-    if i < trace.len() / 2 {
-        put(trace, 2 * i, code);
-        put(trace, 2 * i + 1, address);
-    }
-}
-
-fn put(trace: &mut [u64], at: usize, number: u64) {
-    if at < trace.len() {
-        trace[at] = number;
-    }
-}
-
-fn note_status(statuses: &mut [u8], i: usize, status: u64) {
-    if i < statuses.len() {
-        statuses[i] = (status % 256) as u8;
     }
 }

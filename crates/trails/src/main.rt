@@ -7,12 +7,11 @@ mod case;
 mod head;
 mod question;
 
-// A proved loop has to end, and nothing says that the input does. So the loop ends at a number of cases that no
-// run comes to.
+use fields::Lines;
+
 fn main(rt: HostRuntime) {
-    let mut output = io::large_buffer();
-    let mut number = 0;
-    while number < u64::MAX && case::answer(&rt, number, &mut output) {
-        number += 1;
-    }
+    let mut lines = Lines::new();
+    fields::for_each_case(&rt, &mut [0; 72], |number, head| {
+        case::answer(&rt, number, head, &mut lines)
+    });
 }
