@@ -2,7 +2,7 @@
 use Prim.Native.Nat.{ℕ, ◌+◌, ◌*◌, ◌%◌, ◌<◌}
 use mathlib.Core.Path.{◌≡◌, refl, ◌∙◌}
 use mathlib.Core.Bool.{Bool, true, false}
-use mathlib.Core.List.{List, []}
+use mathlib.Core.List.{List}
 use native.Mathlib.Nat.{zero-add}
 use native.Mathlib.Omega.{arith}
 use borrow.Author.Tests.{ne_eqb}
@@ -12,7 +12,7 @@ use lib.ListN.{get_or}
 use Rattle.bits.specs.Choice.{pick}
 use Rattle.image.specs.Lines.{digit_of, digits_in, byte_in, bytes_in}
 use Rattle.image.specs.route.Rest.{begins, Sums}
-use Rattle.image.specs.Records.{total, sum_in, upper_after, placed, places_in}
+use Rattle.image.specs.Records.{total, sum_in, placed, places_in}
 use Rattle.image.proofs.Loops.{summed_is}
 
 half : (v : ℕ) (r : Option ℕ) → MatchOption r (v ≡ 16) (λ d. (d ≡ v) × (d < 16)) → unwrap_or r 0 ≡ v % 16
@@ -58,22 +58,6 @@ unfolding sum_in
 sum_none l e = none_at (begins l) (sum_in l) (omega arith) e
 
 module _ (l : List ℕ) (upper k : ℕ) (kind : k ≡ byte_in l 3) where
-  pub upper_set : (n x y : ℕ) → k ≡ 4 → n ≡ byte_in l 0 → n ≡ 2 → x ≡ byte_in l 4 → y ≡ byte_in l 5 → x * 256 + y ≡ upper_after upper l
-  unfolding upper_after
-  upper_set n x y four count two e f = rw (← kind, four, ← count, two, e, f)
-
-  pub upper_not : (n : ℕ) → k ≡ 4 → n ≡ byte_in l 0 → (n ≡ 2 → ⊥) → upper ≡ upper_after upper l
-  unfolding upper_after
-  upper_not n four count two = rw (← kind, four, ← count, ne_eqb n 2 two)
-
-  pub upper_kept : (k ≡ 4 → ⊥) → upper ≡ upper_after upper l
-  unfolding upper_after
-  upper_kept h = rw (← kind, ne_eqb k 4 h)
-
   pub places_data : (n first : ℕ) → k ≡ 0 → first ≡ upper * 65536 + (byte_in l 1 * 256 + byte_in l 2) → n ≡ byte_in l 0 → placed first (bytes_in l 4 n) ≡ places_in upper l
   unfolding places_in
   places_data n first zero e count = rw (← kind, zero, e, count)
-
-  pub places_none : (k ≡ 0 → ⊥) → [] ≡ places_in upper l
-  unfolding places_in
-  places_none h = rw (← kind, ne_eqb k 0 h)

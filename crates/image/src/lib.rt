@@ -44,7 +44,7 @@ fn replied(answer: Answer, line: u64) -> Reply
     ensures { result ≡ reply answer line }
 {
     Reply {
-        answer: u64::from(instruction::answer_number(answer)),
+        answer: answer.into(),
         line,
     }
 }
