@@ -21,6 +21,7 @@ pub fn pair(op: PairOp, word: u32) -> Family
     Family::Pair(op, pair_operands(op, word))
 }
 
+// Four families have the same operands. One function for them would take the constructor, which is all that these four say.
 pub fn ordered(op: SizedOp, word: u32) -> Family
     ensures { result ≡ Family.Ordered op (signed_in word) }
 {

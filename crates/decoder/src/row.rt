@@ -19,6 +19,7 @@ pub fn row_of(word: u32) -> Row
     }
 }
 
+// Each of the three below is told its own group: the facts differ, so no type says them for all.
 #[tactic(auto, unfolding(instruction::specs::Table::row_of, bits::specs::Fields::part))]
 fn literal_or_ordered(word: u32) -> Row
     requires { field 29 27 word * 2 + field 25 25 word ≡ 0b011_0 }

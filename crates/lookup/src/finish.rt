@@ -71,7 +71,8 @@ fn store_exclusive(code: u32, word: u32) -> Decoded
     view::viewed(undefined, unpredictable, family::store_exclusive(op, word))
 }
 
-// The row that the family code of an entry and the bits below 22 give.
+// The row that the family code of an entry and the bits below 22 give. The code stays a number: entries are, by `entries` and
+// `family_code`.
 #[tactic(auto, unfolding(crate::specs::Lookup::row_in, bits::specs::Fields::part))]
 fn row_in(families: u32, word: u32) -> Row
     ensures { result ≡ row_in families word }
