@@ -1,5 +1,6 @@
 // A number of eight bytes cut to a width, and stored in the eight bytes at the start of a part, of which the compiler makes
-// one store.
+// one store. Each function asks for an n of at most 8, which `store` and `load` have tested: a type for it would be made there and taken
+// apart here.
 ghost use Rattle.std.specs.Prelude.{◌≡◌, ◌-◌, ◌%◌, ◌^◌, ◌≤◌, length};
 ghost use Rattle.std.proofs.lemmas.List.Edits.{sets};
 ghost use Rattle.bits.specs.Bytes.{bytes_of};

@@ -35,6 +35,7 @@ pub struct Refusal {
     pub address: u64,
 }
 
+// The window, what may be reached and the length of memory come each by itself, as the definition `admit_in` takes them.
 pub fn planned(
     transfer: Transfer,
     addressing: Addressing,

@@ -19,7 +19,7 @@ pub struct Registers {
     pub taint: [u64; 32],
 }
 
-// The number of a register where 31 is the zero register.
+// The number of a register where 31 is the zero register, which is then 64, and no Option: definitions look it up in a file.
 pub fn zero_slot(n: u32) -> u32
     ensures { result ≡ zero_slot n }
 {

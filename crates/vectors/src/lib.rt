@@ -92,7 +92,7 @@ pub fn written_taint(mut vector_taint: [[u64; 2]; 32], w: VectorWrites) -> [[u64
     vector_taint
 }
 
-// The same of a file that is lent.
+// The same of a file that is lent. Values and taints have a function each, which say no more than the two fields in which they differ.
 pub fn write(file: &mut [[u64; 2]; 32], w: VectorWrites)
     ensures { file.new ≡ files_after w file.old }
 {
