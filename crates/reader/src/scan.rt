@@ -72,10 +72,8 @@ pub fn scan_text(text: &[u8]) -> Scan
         nums: [0; 8],
         at: 0,
     };
-    let mut i = 0;
-    while i < text.len() {
-        s = step(s, text[i]);
-        i += 1;
+    for byte in text {
+        s = step(s, *byte);
     }
     s
 }

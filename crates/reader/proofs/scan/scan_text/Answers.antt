@@ -3,7 +3,6 @@ use Prim.Native.Nat.{ℕ, ◌+◌, ◌<◌}
 use mathlib.Core.Path.{◌≡◌, refl, sym, ap, ◌∙◌}
 use mathlib.Core.List.{List, foldl}
 use native.Mathlib.Numerals.{add-one}
-use native.Mathlib.Omega.{arith}
 use lib.ListN.{length, drop, get_or, drop_of_length-le}
 use lib.Seq.{drop-cons}
 use Rattle.reader.specs.Types.{Scan}
@@ -13,26 +12,12 @@ use Rattle.reader.proofs.scan.scan_text.Goals as goal
 next : (s t : Scan) (l : List ℕ) (i : ℕ) → i < length l → t ≡ step_of s (get_or l i 0) → foldl step_of t (drop (i + 1) l) ≡ foldl step_of s (drop i l)
 next s t l i h e = rw (e, add-one, drop-cons l i 0)
 
-pub loop-i-init : goal.loop-i-init
+pub loop-byte-init : goal.loop-byte-init
 unfolding scan_start
-loop-i-init c = (omega arith, refl)
+loop-byte-init c = refl
 
-pub bounds-text-i : goal.bounds-text-i
-unfolding scan_start
-bounds-text-i c = omega arith
-
-pub overflow_add-i : goal.overflow_add-i
-unfolding scan_start
-overflow_add-i c = omega arith
-
-pub loop-i-smaller : goal.loop-i-smaller
-unfolding scan_start
-loop-i-smaller c = omega arith
-
-pub loop-i-preserved : goal.loop-i-preserved
-unfolding scan_start
-loop-i-preserved c = (omega arith, next _ _ _ _ c.loop-i-test.true c.step-s.ensures ∙ c.loop-i.invariant.1)
+pub loop-byte-preserved : goal.loop-byte-preserved
+loop-byte-preserved c = next _ _ _ _ c.loop-byte-test.true c.step-s.ensures ∙ c.loop-byte.invariant
 
 pub returns : goal.returns
-unfolding scan_start
-returns c = ap (foldl step_of c.loop-i.s) (sym (drop_of_length-le _ c.loop-i-test.false)) ∙ c.loop-i.invariant.1
+returns c = ap (foldl step_of c.loop-byte.s) (sym (drop_of_length-le _ c.loop-byte-test.false)) ∙ c.loop-byte.invariant
