@@ -1,5 +1,6 @@
 // Pieces of text, each put into a line at a position. They return the position behind the piece. What the
-// line has no room for is left out.
+// line has no room for is left out. A line and a position stay two parameters: positions come from other crates and go on to
+// them as numbers, and a struct of both would be made and taken apart at each call.
 ghost use Rattle.std.specs.Prelude.{◌≡◌, ◌+◌, ◌%◌, [], ◌∷◌};
 ghost use Rattle.bits.specs.Bytes.{bytes_of};
 ghost use Rattle.ascii.specs.Ascii.{dec};

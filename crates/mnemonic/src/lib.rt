@@ -113,7 +113,8 @@ pub fn store_exclusive_name(op: StoreExclusiveOp, size: AccessSize) -> Mnemonic
     }
 }
 
-// The mnemonic of a name, by its number.
+// The mnemonic of a name, by its number. Not by way of `name_at`: the operation would be made of its code, and its code of
+// the operation, for each name that a search tries.
 #[tactic(auto, using(std::proofs::lemmas::Bool::Decides::nat_tests), unfolding(crate::specs::route::Names::name_at))]
 pub fn mnemonic_at(number: u32) -> Mnemonic
     ensures { known result ≡ told (name_text (name_at number)) (name_operand (name_at number)) }

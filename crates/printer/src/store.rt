@@ -46,6 +46,7 @@ fn put_in_room(line: &mut [u8], at: usize, p: Pieces) -> usize
     end
 }
 
+// One by one: a loop would need the pieces in an array, and those who make them know them by name.
 fn spill_pieces(line: &mut [u8], at: usize, p: Pieces) -> usize
     requires { at + total_of p + 8 ≤ length line.old }
     ensures { Spills line.old at (whole p) line.new result }
