@@ -3,4 +3,4 @@
 
 mod piece;
 
-pub use piece::{put_byte, put_bytes, put_decimal, put_eight, put_four, put_text};
+pub use piece::{put_byte, put_bytes, put_decimal, put_eight, put_text};

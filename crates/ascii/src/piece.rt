@@ -28,12 +28,6 @@ pub fn put_bytes<const N: usize>(line: &mut [u8], at: usize, bytes: [u8; N]) -> 
     put_text(line, at, &bytes)
 }
 
-pub fn put_four(line: &mut [u8], at: usize, a: u8, b: u8, c: u8, d: u8) -> usize
-    ensures { Puts line.old at (a ∷ b ∷ c ∷ d ∷ []) line.new result }
-{
-    put_bytes(line, at, [a, b, c, d])
-}
-
 // The eight bytes of a number, the lowest first.
 #[tactic(auto, using(crate::proofs::Pieces::number_bytes))]
 pub fn put_eight(line: &mut [u8], at: usize, number: u64) -> usize
