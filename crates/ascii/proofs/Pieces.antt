@@ -1,12 +1,12 @@
 -- Pieces of text put one behind the other. Assumes nothing.
-use Prim.Native.Nat.{ℕ, suc, ◌+◌, ◌-◌, ◌≤◌, ◌<◌, min, max}
+use Prim.Native.Nat.{ℕ, suc, ◌+◌, ◌-◌, ◌≤◌, min, max}
 use mathlib.Core.Path.{◌≡◌, refl, sym, ap, ◌∙◌}
 use mathlib.Core.Bool.{Bool, true, false}
 use mathlib.Core.List.{List, [], ◌∷◌, ◌++◌, append_assoc}
 use native.Mathlib.Omega.{arith}
 use borrow.Author.Tests.{leb-true, leb-false}
 use lib.Dec.{leb}
-use lib.ListN.{length, take, drop, set, length-append}
+use lib.ListN.{length, take, drop, length-append}
 use lib.Seq.{sets, length-sets, sets-eq, set_out}
 use Rattle.std.proofs.lemmas.List.{length-take-le, take_all, drop-drop, take-append-drop}
 use borrow.Rule.Slice.PartMut.{put_mid}
@@ -54,13 +54,6 @@ nothing xs at = record { text = refl; place = omega arith }
 
 pub out_of_room : (xs p : List ℕ) (at : ℕ) → length xs ≤ at → Puts xs at p xs at
 out_of_room xs p at h = record { text = sym (sets_out xs p at h); place = omega arith }
-
--- a byte that has room, and one that has none
-pub put_in : (xs : List ℕ) (at b : ℕ) → at < length xs → Puts xs at (b ∷ []) (set xs at b) (at + 1)
-put_in xs at b h = record { text = refl; place = omega arith }
-
-pub left_out : (xs : List ℕ) (at b : ℕ) → length xs ≤ at → Puts xs at (b ∷ []) xs at
-left_out xs at b h = record { text = sym (set_out xs at b h); place = omega arith }
 
 -- ---- a piece that is copied over a part of the line
 

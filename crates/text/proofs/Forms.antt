@@ -1,10 +1,10 @@
 -- The texts of lines, by their six pieces. Assumes nothing.
-use Prim.Native.Nat.{ℕ, zero, suc, ◌+◌, ◌*◌, ◌/◌, ◌%◌, ◌^◌, ◌≤◌, ◌<◌}
+use Prim.Native.Nat.{ℕ, zero, suc, ◌+◌, ◌*◌, ◌/◌, ◌%◌, ◌<◌}
 use mathlib.Core.Path.{◌≡◌, refl, sym, ap, ◌∙◌}
-use mathlib.Core.Bool.{Bool, true, false, ◌&&◌, false≢true}
+use mathlib.Core.Bool.{Bool, true, false, false≢true}
 use mathlib.Core.List.{List, [], ◌++◌, append_assoc, append-nil}
 use native.Mathlib.Omega.{arith}
-use borrow.Author.Tests.{ne_eqb, leb-true, ltb-true}
+use borrow.Author.Tests.{ne_eqb}
 use lib.Dec.{eqb}
 use lib.IntN.{ℤ, pos, nat_abs}
 use Rattle.bits.specs.Choice.{pick}
@@ -28,18 +28,8 @@ nothing_shown e l = constant e l refl
 
 -- ---- mnemonics
 
-both_true : (a b : Bool) → (a && b) ≡ true → (a ≡ true) × (b ≡ true)
-both_true true true h = (refl, refl)
-both_true true false h = absurd (false≢true h)
-both_true false b h = absurd (false≢true h)
-
 pub name_shown : (m : Mnemonic) {q : Piece} → q.bytes ≡ m.letters → q.length ≡ m.shape % 256 → Shows (known m).letters q
 name_shown m e l = constant e l refl
-
-pub name_fits : (m : Mnemonic) → (known m).fits ≡ true → (m.shape % 256 ≤ 8) × (m.letters < 256 ^ (m.shape % 256))
-name_fits m h =
-    let (short, low) = both_true _ _ h in
-    (leb-true _ _ short, ltb-true _ _ low)
 
 first_rest : (o : Operand) (r : ℕ) → first_part (letter_of o) r ++ rest_part (letter_of o) r ≡ operand_text o r ++ asc ", "
 unfolding first_part rest_part
