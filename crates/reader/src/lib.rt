@@ -39,5 +39,6 @@ fn is_line(word: u32, text: &[u8]) -> bool
 {
     let mut buffer = [0u8; BUFFER];
     let length = printer::write(word, &mut buffer).unwrap_or(0);
-    &buffer[..length] == text
+    let line = &buffer[..length];
+    line == text
 }

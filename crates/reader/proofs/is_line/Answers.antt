@@ -10,8 +10,8 @@ use Rattle.reader.proofs.is_line.Goals as goal
 pub slice_bounds-buffer-end : goal.slice_bounds-buffer-end
 slice_bounds-buffer-end c = written_fits _ c.write.result _ c.write.new.buffer c.requires c.write.ensures.exact (omega arith) c.unwrap_or-length.ensures
 
-pub slice_bounds-eq-end : goal.slice_bounds-eq-end
-slice_bounds-eq-end c = sym (length-take-le _ _ (written_fits _ c.write.result _ c.write.new.buffer c.requires c.write.ensures.exact (omega arith) c.unwrap_or-length.ensures))
+pub slice_bounds-line-end : goal.slice_bounds-line-end
+slice_bounds-line-end c = sym (length-take-le _ _ (written_fits _ c.write.result _ c.write.new.buffer c.requires c.write.ensures.exact (omega arith) c.unwrap_or-length.ensures))
 
 pub returns : goal.returns
 returns c =
