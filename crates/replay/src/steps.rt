@@ -19,7 +19,6 @@ pub fn run(
     statuses: &mut [u8],
 ) -> RunReply {
     let mut lent = unstepped(start);
-    let mut notes = trace.chunks_exact_mut(2).zip(statuses.iter_mut());
     for (i, word) in words.iter().enumerate() {
         lent = lending::step(
             *word,
@@ -34,13 +33,20 @@ pub fn run(
         if lent.reply.answer != 0 {
             return reply_of(i, lent);
         }
-        if let Some(([code, address], status)) = notes.next() {
-            *code = lent.reply.code;
-            *address = lent.reply.address;
-            *status = (lent.reply.status % 256) as u8;
-        }
+        note(trace, statuses, i, lent.reply);
     }
     reply_of(words.len(), lent)
+}
+
+// What a step said, where there is room for it.
+fn note(trace: &mut [u64], statuses: &mut [u8], i: usize, reply: StepReply) {
+    if i < trace.len() / 2 {
+        trace[2 * i] = reply.code;
+        trace[2 * i + 1] = reply.address;
+    }
+    if let Some(status) = statuses.get_mut(i) {
+        *status = (reply.status % 256) as u8;
+    }
 }
 
 // What a run without a word says.
