@@ -1,5 +1,7 @@
 // What each plugin has for itself, kept from one of its turns to the next.
+use host::RunReply;
 use machine::{Monitor, State};
+use plan::Ranges;
 use registers::Registers;
 use vectors::Halves;
 
@@ -26,15 +28,16 @@ impl Plugin {
             let [number, low, high, low_taint, high_taint]: [u64; 5] = fields::numbers(entry);
             let n = (number % 64) as u32;
             if low != 0 || low_taint != 0 {
-                registers = registers.set(n, low, low_taint);
+                let next = registers.set(n, low, low_taint);
+                registers = next;
             }
             if number / 32 == 1 {
                 let taints = Halves {
                     low: low_taint,
                     high: high_taint,
                 };
-                vectors = vectors::set(vectors, n - 32, Halves { low, high });
-                vector_taint = vectors::set(vector_taint, n - 32, taints);
+                vectors::put(&mut vectors, n - 32, Halves { low, high });
+                vectors::put(&mut vector_taint, n - 32, taints);
             }
         }
         Plugin {
@@ -46,5 +49,31 @@ impl Plugin {
             vectors,
             vector_taint,
         }
+    }
+    // A turn, and what it says.
+    pub fn take(
+        &mut self,
+        words: &[u32],
+        origin: u64,
+        ranges: Ranges,
+        memory: &mut [u8],
+        taint: &mut [u8],
+        trace: &mut [u64],
+        statuses: &mut [u8],
+    ) -> RunReply {
+        let ran = turns::milestarling_turn(
+            words,
+            self.state,
+            &mut self.vectors,
+            &mut self.vector_taint,
+            origin,
+            ranges,
+            memory,
+            taint,
+            trace,
+            statuses,
+        );
+        self.state = ran.session;
+        ran
     }
 }

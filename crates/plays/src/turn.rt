@@ -3,7 +3,6 @@
 use crate::plugin::Plugin;
 use crate::show;
 use fields::{Halt, Lines};
-use host::RunReply;
 use plan::{Range, Ranges};
 
 // The memory and where it begins, the plugins on it, the range that they share, and each plugin's own.
@@ -40,7 +39,41 @@ impl Stage<'_> {
         fields::fill(rt, &mut bytes[..4 * count as usize])?;
         let words: [u32; 16] = fields::words(&bytes);
         let words = &words[..count as usize];
-        let ran = self.take(who, words, trace, statuses);
+        let origin = self.origin;
+        let shared = self.shared;
+        let first = self.first_range;
+        let second = self.second_range;
+        let ran = if who == 0 {
+            let ranges = Ranges {
+                shared,
+                own: first,
+                other: second,
+            };
+            self.first.take(
+                words,
+                origin,
+                ranges,
+                self.memory,
+                self.taint,
+                trace,
+                statuses,
+            )
+        } else {
+            let ranges = Ranges {
+                shared,
+                own: second,
+                other: first,
+            };
+            self.second.take(
+                words,
+                origin,
+                ranges,
+                self.memory,
+                self.taint,
+                trace,
+                statuses,
+            )
+        };
         let plugin = if who == 0 { &self.first } else { &self.second };
         show::put_ran(lines, number, who, ran);
         show::put_plugin(lines, plugin);
@@ -52,38 +85,5 @@ impl Stage<'_> {
         // A write that failed was said, and the turns go on.
         let _ = lines.write(rt);
         Ok(())
-    }
-
-    // A turn by the plugin whose it is.
-    fn take(
-        &mut self,
-        who: u64,
-        words: &[u32],
-        trace: &mut [u64],
-        statuses: &mut [u8],
-    ) -> RunReply {
-        let (plugin, own, other) = if who == 0 {
-            (&mut self.first, self.first_range, self.second_range)
-        } else {
-            (&mut self.second, self.second_range, self.first_range)
-        };
-        let ran = turns::milestarling_turn(
-            words,
-            plugin.state,
-            &mut plugin.vectors,
-            &mut plugin.vector_taint,
-            self.origin,
-            Ranges {
-                shared: self.shared,
-                own,
-                other,
-            },
-            self.memory,
-            self.taint,
-            trace,
-            statuses,
-        );
-        plugin.state = ran.session;
-        ran
     }
 }
