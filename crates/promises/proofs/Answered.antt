@@ -31,8 +31,7 @@ use Rattle.arm.specs.Choices.{bad_start, arm_refusals_in, arm_step_in, arm_refus
 use Rattle.arm.proofs.Answers.{answers_in, later_refusals, numbers_later, numbers_late, refuses_in}
 use Rattle.encoder.specs.Exact.{Exact}
 use Rattle.encoder.proofs.RoundTrip.{encode_exact}
-use Rattle.reader.specs.declared.Reading.{Reading}
-use Rattle.reader.specs.Reading.{ReadOf}
+use Rattle.reader.specs.Reading.{Reading, ReadOf}
 use Rattle.reader.proofs.RoundTrip.{read_some, read_once}
 use Rattle.host.specs.declared.WordReply.{WordReply}
 use Rattle.host.specs.Replies.{ReadAs}

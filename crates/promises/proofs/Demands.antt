@@ -70,8 +70,7 @@ use Rattle.listing.specs.Listing.{listing_of, list_of}
 use Rattle.reader.proofs.Examples.{hints_read}
 use Rattle.listing.proofs.Examples.{listing_example, line_reached}
 use Rattle.listing.proofs.Steps.{line_within, short_within}
-use Rattle.reader.specs.declared.Reading.{Reading}
-use Rattle.reader.specs.Reading.{LineOf, ReadOf}
+use Rattle.reader.specs.Reading.{Reading, LineOf, ReadOf}
 use Rattle.reader.proofs.RoundTrip.{read_once}
 use Rattle.reader.proofs.Triangle.{triangle}
 use Rattle.stream.proofs.Calls.{streamed, call_answer, call_closed, call_open, call_unchanged, call_puts}

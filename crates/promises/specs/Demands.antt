@@ -46,8 +46,7 @@ use Rattle.text.specs.Examples.{Holds, examples}
 use Rattle.reader.specs.Examples.{HintsRead}
 use Rattle.listing.specs.Listing.{line_text, short_text, line_most, Within, listing_of, list_of}
 use Rattle.listing.specs.Examples.{example_bytes, example_lines}
-use Rattle.reader.specs.declared.Reading.{Reading}
-use Rattle.reader.specs.Reading.{LineOf, ReadOf}
+use Rattle.reader.specs.Reading.{Reading, LineOf, ReadOf}
 use Rattle.reader.specs.Triangle.{Bijection, Allocated, Encodable, Readable}
 use Rattle.stream.specs.declared.Lister.{Lister}
 use Rattle.stream.specs.Streams.{holding, refuses, refused, Call, push, close, lent, lines_of, call_of}
