@@ -3,17 +3,11 @@ use Prim.Native.Nat.{ℕ}
 use mathlib.Core.Path.{◌≡◌, ◌∙◌}
 use lib.IntN.{ℤ}
 use borrow.Author.Tests.{ne_eqb}
-use Rattle.bits.specs.Choice.{lookup}
-use Rattle.instruction.specs.Operations.{sized_code}
-use Rattle.reader.specs.Types.{Scan, Name, Tail, SizedOp, LiteralOp, LiteralWord, PairMode, Family, Literal, AccessSize, LiteralOperands}
+use Rattle.reader.specs.Types.{Scan, Name, Tail, SizedOp, LiteralOp, PairMode, Family, Literal, AccessSize, LiteralOperands}
 use Rattle.reader.specs.route.Names.{letter_for, name_for}
 use Rattle.reader.specs.route.Targets.{target_at}
 use Rattle.reader.specs.route.Tails.{tail_at, offset_at, option_at, scaled_at}
-use Rattle.reader.specs.route.Build.{key_in, num_in, register_of, literal_table, literal_for, literal_from, offset_from, index_from, pair_from, bracketed_for, plain_for, exclusive_from, size_for, store_exclusive_from, family_for, build_of}
-
-pub literal_by : (op : SizedOp) {a : ℕ} {r : LiteralOp} → a ≡ sized_code op → r ≡ lookup LiteralWord literal_table a → r ≡ literal_for op
-unfolding literal_for
-literal_by op p e = e ∙ rw p
+use Rattle.reader.specs.route.Build.{key_in, num_in, register_of, literal_for, literal_from, offset_from, index_from, pair_from, bracketed_for, plain_for, exclusive_from, size_for, store_exclusive_from, family_for, build_of}
 
 module _ (s : Scan) where
   pub literal_is : {t : ℕ} {z : ℤ} → t ≡ target_at (key_in s 1) (num_in s 1) → z ≡ offset_at (key_in s 2) (num_in s 2) → record { target = t; offset = z } ≡ literal_from s

@@ -19,16 +19,17 @@ fn register(number: u64) -> u32
 }
 
 // The load from a literal that has the name of a load with a size.
+#[tactic(auto, unfolding(crate::specs::route::Build::literal_for))]
 fn literal_for(op: SizedOp) -> LiteralOp
     ensures { result ≡ literal_for op }
 {
-    match instruction::sized_code(op) {
-        0b10_10 => LiteralOp::LiteralSignedWord,
-        0b11_01 => LiteralOp::LiteralDouble,
-        0b11_10 => LiteralOp::LiteralPrefetch,
-        0b1_10_01 => LiteralOp::LiteralVectorWord,
-        0b1_11_01 => LiteralOp::LiteralVectorDouble,
-        0b1_00_11 => LiteralOp::LiteralVectorQuad,
+    match op {
+        SizedOp::LoadSignedWord64 => LiteralOp::LiteralSignedWord,
+        SizedOp::LoadDouble => LiteralOp::LiteralDouble,
+        SizedOp::Prefetch => LiteralOp::LiteralPrefetch,
+        SizedOp::LoadVectorWord => LiteralOp::LiteralVectorWord,
+        SizedOp::LoadVectorDouble => LiteralOp::LiteralVectorDouble,
+        SizedOp::LoadVectorQuad => LiteralOp::LiteralVectorQuad,
         _ => LiteralOp::LiteralWord,
     }
 }
@@ -130,13 +131,14 @@ fn exclusive_from(size: AccessSize, s: Scan) -> ExclusiveOperands
 }
 
 // The names of store-exclusives of a word and of a doubleword are the same: the letter of the data tells.
+#[tactic(auto, unfolding(crate::specs::route::Build::size_for))]
 fn size_for(size: AccessSize, letter: u16) -> AccessSize
     ensures { result ≡ size_for size letter }
 {
-    if (instruction::access_scale(size) == 3) & (letter == 0x77) {
-        return AccessSize::Word;
+    match size {
+        AccessSize::Double if letter == u16::from(b'w') => AccessSize::Word,
+        _ => size,
     }
-    size
 }
 
 fn store_exclusive_from(size: AccessSize, s: Scan) -> StoreExclusiveOperands

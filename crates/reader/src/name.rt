@@ -10,9 +10,7 @@ pub fn name_for(operand: u64, name: u64) -> Name
     ensures { result ≡ name_for operand name }
 {
     let letter = letter_for(operand);
-    let mut number = mnemonic::NAMES;
-    while number > 0 {
-        number -= 1;
+    for number in (0..mnemonic::NAMES).rev() {
         if is_name(number, name, letter) {
             return mnemonic::name_at(number);
         }

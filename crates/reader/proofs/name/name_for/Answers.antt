@@ -1,6 +1,6 @@
 -- `reader::name::name_for` meets its contract. Assumes nothing.
 use Prim.Native.Nat.{ℕ, suc}
-use mathlib.Core.Path.{◌≡◌, refl, sym, ap, ◌∙◌}
+use mathlib.Core.Path.{◌≡◌, sym, ap, ◌∙◌}
 use mathlib.Core.Bool.{true, false}
 use native.Mathlib.Omega.{arith}
 use Rattle.mnemonic.specs.route.Names.{name_at, name_count}
@@ -20,14 +20,6 @@ module _ (name letter : ℕ) {n m : ℕ} (e : n ≡ suc m) where
   unfolding searched
   farther h = rw (e, h)
 
-pub loop-number-init : goal.loop-number-init
-unfolding name_for
-loop-number-init c = (omega arith, refl)
-
-pub overflow_sub-number : goal.overflow_sub-number
-unfolding name_for
-overflow_sub-number c = omega arith
-
 pub returns-then-is_name : goal.returns-then-is_name
 unfolding name_for
 returns-then-is_name c =
@@ -35,23 +27,16 @@ returns-then-is_name c =
     let letter = c.letter_for-letter in
     let name = c.args.name in
     c.name_at.ensures ∙ sym (here name letter.result (omega (arith, c.loop-number-test.true)) (sym c.is_name.ensures ∙ c.if-is_name.true))
-    ∙ loop.invariant.1 ∙ ap (searched name_count name) letter.ensures
-
-pub loop-number-smaller : goal.loop-number-smaller
-unfolding name_for
-loop-number-smaller c = omega arith
+    ∙ loop.invariant ∙ ap (searched name_count name) letter.ensures
 
 pub loop-number-preserved : goal.loop-number-preserved
-unfolding name_for
 loop-number-preserved c =
-    let loop = c.loop-number in
     let letter = c.letter_for-letter in
-    let name = c.args.name in
-    (omega arith, sym (farther name letter.result (omega (arith, c.loop-number-test.true)) (sym c.is_name.ensures ∙ c.if-is_name.false)) ∙ loop.invariant.1)
+    sym (farther c.args.name letter.result (omega (arith, c.loop-number-test.true)) (sym c.is_name.ensures ∙ c.if-is_name.false)) ∙ c.loop-number.invariant
 
 pub returns : goal.returns
 unfolding name_for
 returns c =
     let letter = c.letter_for-letter in
     let name = c.args.name in
-    c.name_at-2.ensures ∙ sym (nowhere name letter.result (omega (arith, c.loop-number-test.false))) ∙ c.loop-number.invariant.1 ∙ ap (searched name_count name) letter.ensures
+    c.name_at-2.ensures ∙ sym (nowhere name letter.result (omega (arith, c.loop-number-test.false))) ∙ c.loop-number.invariant ∙ ap (searched name_count name) letter.ensures
