@@ -1,3 +1,4 @@
+pub mod Words
 pub mod Built
 pub mod Scans
 pub mod Named

@@ -22,7 +22,7 @@ pub use Rattle.instruction.specs.declared.family.OffsetOperands.{OffsetOperands}
 pub use Rattle.instruction.specs.declared.family.IndexOperands.{IndexOperands}
 pub use Rattle.instruction.specs.declared.family.ExclusiveOperands.{ExclusiveOperands}
 pub use Rattle.instruction.specs.declared.family.StoreExclusiveOperands.{StoreExclusiveOperands}
-pub use Rattle.reader.specs.declared.scan.Scan.{Scan}
+pub use Rattle.reader.specs.route.Scanned.{Scan}
 pub use Rattle.mnemonic.specs.declared.Stem.{Stem}
 pub use Rattle.mnemonic.specs.declared.names.Name.{Name}
 pub use Rattle.reader.specs.declared.tail.Tail.{Tail}

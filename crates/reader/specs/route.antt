@@ -1,3 +1,4 @@
+pub mod Scanned
 pub mod Scan
 pub mod Names
 pub mod Targets

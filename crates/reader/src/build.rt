@@ -1,5 +1,6 @@
 // The one instruction whose line a scanned text can be.
 ghost use Rattle.std.specs.Prelude.{◌≡◌};
+ghost use Rattle.reader.specs.route.Scanned.{scan_of};
 ghost use Rattle.reader.specs.route.Build.{register_of, literal_for, literal_from, offset_from, index_from, pair_from, mode_for, bracketed_for, plain_for, sized_for, exclusive_from, size_for, store_exclusive_from, family_for, build_of};
 
 use crate::first::target_at;
@@ -12,6 +13,7 @@ use instruction::{
 };
 use mnemonic::{Name, Stem};
 
+// The cast keeps the remainder, which fits.
 fn register(number: u64) -> u32
     ensures { result ≡ register_of number }
 {
@@ -35,45 +37,45 @@ fn literal_for(op: SizedOp) -> LiteralOp
 }
 
 fn literal_from(s: Scan) -> LiteralOperands
-    ensures { result ≡ literal_from s }
+    ensures { result ≡ literal_from (scan_of s) }
 {
     LiteralOperands {
-        target: target_at(s.keys[1], s.nums[1]),
-        offset: offset_at(s.keys[2], s.nums[2]),
+        target: target_at(s.words[1]),
+        offset: offset_at(s.words[2]),
     }
 }
 
 fn offset_from(s: Scan) -> OffsetOperands
-    ensures { result ≡ offset_from s }
+    ensures { result ≡ offset_from (scan_of s) }
 {
     OffsetOperands {
-        target: target_at(s.keys[1], s.nums[1]),
-        base: register(s.nums[4]),
-        offset: offset_at(s.keys[5], s.nums[5]),
+        target: target_at(s.words[1]),
+        base: register(s.words[4].number),
+        offset: offset_at(s.words[5]),
     }
 }
 
 fn index_from(s: Scan) -> IndexOperands
-    ensures { result ≡ index_from s }
+    ensures { result ≡ index_from (scan_of s) }
 {
     IndexOperands {
-        target: target_at(s.keys[1], s.nums[1]),
-        base: register(s.nums[4]),
-        index: register(s.nums[5]),
-        option: option_at(s.keys[6]),
-        scaled: scaled_at(s.keys[6]),
+        target: target_at(s.words[1]),
+        base: register(s.words[4].number),
+        index: register(s.words[5].number),
+        option: option_at(s.words[6].key),
+        scaled: scaled_at(s.words[6].key),
     }
 }
 
 fn pair_from(mode: PairMode, s: Scan) -> PairOperands
-    ensures { result ≡ pair_from mode s }
+    ensures { result ≡ pair_from mode (scan_of s) }
 {
     PairOperands {
-        first: register(s.nums[1]),
-        second: register(s.nums[2]),
-        base: register(s.nums[4]),
+        first: register(s.words[1].number),
+        second: register(s.words[2].number),
+        base: register(s.words[4].number),
         mode,
-        offset: offset_at(s.keys[5], s.nums[5]),
+        offset: offset_at(s.words[5]),
     }
 }
 
@@ -90,7 +92,7 @@ fn mode_for(tail: Tail) -> PairMode
 }
 
 fn bracketed_for(tail: Tail, op: SizedOp, s: Scan) -> Family
-    ensures { result ≡ bracketed_for tail op s }
+    ensures { result ≡ bracketed_for tail op (scan_of s) }
 {
     match tail {
         Tail::AtOffset => Family::Unsigned(op, offset_from(s)),
@@ -102,16 +104,16 @@ fn bracketed_for(tail: Tail, op: SizedOp, s: Scan) -> Family
 
 // Only a literal's line has a word 2 here.
 fn plain_for(op: SizedOp, s: Scan) -> Family
-    ensures { result ≡ plain_for op s }
+    ensures { result ≡ plain_for op (scan_of s) }
 {
-    if s.keys[2] == 0 {
-        return bracketed_for(tail_at(s.keys[5]), op, s);
+    if s.words[2].key == 0 {
+        return bracketed_for(tail_at(s.words[5].key), op, s);
     }
     Family::Literal(literal_for(op), literal_from(s))
 }
 
 fn sized_for(stem: Stem, op: SizedOp, s: Scan) -> Family
-    ensures { result ≡ sized_for stem op s }
+    ensures { result ≡ sized_for stem op (scan_of s) }
 {
     match stem {
         Stem::Plain => plain_for(op, s),
@@ -121,12 +123,12 @@ fn sized_for(stem: Stem, op: SizedOp, s: Scan) -> Family
 }
 
 fn exclusive_from(size: AccessSize, s: Scan) -> ExclusiveOperands
-    ensures { result ≡ exclusive_from size s }
+    ensures { result ≡ exclusive_from size (scan_of s) }
 {
     ExclusiveOperands {
         size,
-        target: register(s.nums[1]),
-        base: register(s.nums[4]),
+        target: register(s.words[1].number),
+        base: register(s.words[4].number),
     }
 }
 
@@ -142,24 +144,24 @@ fn size_for(size: AccessSize, letter: u16) -> AccessSize
 }
 
 fn store_exclusive_from(size: AccessSize, s: Scan) -> StoreExclusiveOperands
-    ensures { result ≡ store_exclusive_from size s }
+    ensures { result ≡ store_exclusive_from size (scan_of s) }
 {
-    let told = size_for(size, letter_for(s.keys[2]));
+    let told = size_for(size, letter_for(s.words[2].key));
     StoreExclusiveOperands {
         size: told,
-        status: register(s.nums[1]),
-        target: register(s.nums[2]),
-        base: register(s.nums[4]),
+        status: register(s.words[1].number),
+        target: register(s.words[2].number),
+        base: register(s.words[4].number),
     }
 }
 
 fn family_for(name: Name, s: Scan) -> Family
-    ensures { result ≡ family_for name s }
+    ensures { result ≡ family_for name (scan_of s) }
 {
     match name {
         Name::Sized(stem, op) => sized_for(stem, op, s),
         Name::NoAllocatePair(op) => Family::Pair(op, pair_from(PairMode::NoAllocate, s)),
-        Name::AllocatePair(op) => Family::Pair(op, pair_from(mode_for(tail_at(s.keys[5])), s)),
+        Name::AllocatePair(op) => Family::Pair(op, pair_from(mode_for(tail_at(s.words[5].key)), s)),
         Name::Exclusive(op, size) => Family::Exclusive(op, exclusive_from(size, s)),
         Name::StoreExclusive(op, size) => {
             Family::StoreExclusive(op, store_exclusive_from(size, s))
@@ -168,9 +170,9 @@ fn family_for(name: Name, s: Scan) -> Family
 }
 
 pub fn build(s: Scan) -> Instruction
-    ensures { result ≡ build_of s }
+    ensures { result ≡ build_of (scan_of s) }
 {
     Instruction {
-        family: family_for(name_for(s.keys[1], s.keys[0]), s),
+        family: family_for(name_for(s.words[1].key, s.words[0].key), s),
     }
 }

@@ -18,7 +18,8 @@ pub fn name_for(operand: u64, name: u64) -> Name
     mnemonic::name_at(0)
 }
 
-// The letter of an operand by its key: w, x, b, h, s, d, q, or # for all others.
+// The letter of an operand: w, x, b, h, s, d, q, or # for all others. Matched by numbers: the packed key is what the
+// scan makes of a word, and each number has its text beside it.
 pub fn letter_for(operand: u64) -> u16
     ensures { result ≡ letter_for operand }
 {

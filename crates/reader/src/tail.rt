@@ -1,6 +1,9 @@
 // What stands behind the base: an offset in one of three modes, or an index.
+// Matched by numbers: the packed key is what the scan makes of a word, and each number has its text beside it.
 ghost use Rattle.std.specs.Prelude.{◌≡◌};
 ghost use Rattle.reader.specs.route.Tails.{tail_at, plus_of, minus_of, offset_at, option_at, scaled_at};
+
+use crate::scan::Word;
 
 // An offset that is only added, or added before or after the access to the base itself.
 #[derive(Drop)]
@@ -26,7 +29,7 @@ pub fn tail_at(key: u64) -> Tail
     }
 }
 
-// No offset is as far from 0 as the modulus.
+// No offset is as far from 0 as the modulus, and the cast keeps what is below it.
 fn plus(number: u64) -> i64
     ensures { result ≡ plus_of number }
 {
@@ -39,14 +42,14 @@ fn minus(number: u64) -> i64
     -((number % 0x20_0000) as i64)
 }
 
-pub fn offset_at(key: u64, number: u64) -> i64
-    ensures { result ≡ offset_at key number }
+pub fn offset_at(word: Word) -> i64
+    ensures { result ≡ offset_at word.key word.number }
 {
-    match key {
-        0x2d23_0000_0000_0000 => minus(number), // #-
-        0x5d2d_2300_0000_0000 => minus(number), // #-]
-        0x215d_2d23_0000_0000 => minus(number), // #-]!
-        _ => plus(number),
+    match word.key {
+        0x2d23_0000_0000_0000 => minus(word.number), // #-
+        0x5d2d_2300_0000_0000 => minus(word.number), // #-]
+        0x215d_2d23_0000_0000 => minus(word.number), // #-]!
+        _ => plus(word.number),
     }
 }
 

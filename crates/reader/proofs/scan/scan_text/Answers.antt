@@ -6,6 +6,7 @@ use native.Mathlib.Numerals.{add-one}
 use lib.ListN.{length, drop, get_or, drop_of_length-le}
 use lib.Seq.{drop-cons}
 use Rattle.reader.specs.Types.{Scan}
+use Rattle.reader.specs.route.Scanned.{scan_of}
 use Rattle.reader.specs.route.Scan.{step_of, scan_start}
 use Rattle.reader.proofs.scan.scan_text.Goals as goal
 
@@ -17,7 +18,7 @@ unfolding scan_start
 loop-byte-init c = refl
 
 pub loop-byte-preserved : goal.loop-byte-preserved
-loop-byte-preserved c = next _ _ _ _ c.loop-byte-test.true c.step-s.ensures ∙ c.loop-byte.invariant
+loop-byte-preserved c = next _ _ _ _ c.loop-byte-test.true c.step.ensures ∙ c.loop-byte.invariant
 
 pub returns : goal.returns
-returns c = ap (foldl step_of c.loop-byte.s) (sym (drop_of_length-le _ c.loop-byte-test.false)) ∙ c.loop-byte.invariant
+returns c = ap (foldl step_of (scan_of c.loop-byte.scan)) (sym (drop_of_length-le _ c.loop-byte-test.false)) ∙ c.loop-byte.invariant
