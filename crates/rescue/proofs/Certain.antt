@@ -1,12 +1,11 @@
 -- Lines whose fate is told by what stands in them. Assumes nothing.
 use Prim.Native.Nat.{ℕ, zero, suc, ◌+◌, ◌^◌, ◌≤◌, ◌<◌}
 use mathlib.Core.Path.{◌≡◌, refl, sym, ap, ◌∙◌, subst}
-use mathlib.Core.Bool.{true, not, ◌||◌}
+use mathlib.Core.Bool.{true, not}
 use mathlib.Core.List.{List, [], ◌∷◌, ◌++◌}
 use mathlib.Core.Logic.{◌↔◌, inr}
 use native.Mathlib.Omega.{arith}
 use borrow.Author.Tests.{ne_eqb, not-true}
-use lib.Dec.{eqb}
 use lib.ListN.{length, length-append}
 use Rattle.bits.proofs.Choices.{both}
 use Rattle.ascii.specs.Ascii.{asc, signed_dec}

@@ -11,7 +11,7 @@ use native.Mathlib.Omega.{arith}
 use borrow.Author.Tests.{lt-ltb, le-ltb, le-leb, lt-leb, leb-true}
 use lib.Dec.{leb}
 use lib.ListN.{length, take, drop, get_or, length-append}
-use lib.Seq.{sets-eq, take_at, take_all, take-suc, get_or-take}
+use lib.Seq.{sets-eq, take_at, take_all, take-suc}
 use Rattle.bits.proofs.Choices.{tested}
 use Rattle.ascii.specs.route.Puts.{Puts}
 use Rattle.ascii.proofs.Pieces.{fits}

@@ -1,7 +1,7 @@
 -- Rescuing line by line: the fates of the lines that are passed, and those still to come. Assumes nothing.
-use Prim.Native.Nat.{ℕ, suc, ◌+◌, ◌-◌, ◌≤◌, ◌<◌, min}
+use Prim.Native.Nat.{ℕ, zero, suc, ◌+◌, ◌-◌, ◌≤◌, ◌<◌, min}
 use mathlib.Core.Path.{◌≡◌, refl, sym, ap, ◌∙◌, subst}
-use mathlib.Core.Bool.{Bool, true, false, not, ◌||◌}
+use mathlib.Core.Bool.{Bool, true, false, cond, not, ◌||◌}
 use mathlib.Core.List.{List, [], ◌∷◌, ◌++◌, append_assoc, append-nil}
 use native.Mathlib.Omega.{arith}
 use native.Mathlib.Decide.{dec_lt}
@@ -10,8 +10,9 @@ use borrow.Author.Tests.{lt-ltb, le-ltb, ltb-false, not-true, not-false}
 use mathlib.Core.Logic.{◌⊎◌, inl, inr}
 use Rattle.bits.proofs.Choices.{neither}
 use lib.Dec.{eqb, ltb}
-use lib.ListN.{length, take, drop, get_or, length-append, length-drop, drop_of_length-le}
-use lib.Seq.{sets, drop-drop, drop-cons}
+use lib.ListN.{length, take, drop, length-append, length-drop, drop_of_length-le}
+use lib.Seq.{sets, drop-drop}
+use Rattle.std.specs.Prelude.{filter}
 use Rattle.bits.specs.Choice.{pick}
 use Rattle.ascii.specs.route.Puts.{Puts}
 use Rattle.ascii.proofs.Pieces.{after, fits}
@@ -23,7 +24,6 @@ use Rattle.rescue.specs.route.Search.{until}
 use Rattle.rescue.specs.route.Steps.{FitsAs, PutAs, LineAt}
 use Rattle.rescue.proofs.Parts.{lines_until}
 use Rattle.rescue.proofs.Fates.{fates_once, fates_some}
-use Rattle.rescue.proofs.Rooms.{lines_count}
 
 -- ---- one fate more
 
@@ -98,45 +98,22 @@ passed_end {input} {at} {n} {done} p h =
 -- ---- counting
 
 -- a byte before some lines
-byte_before : (b : ℕ) (ps : List (List ℕ)) → 0 < length ps → (z : Bool) → length ps + pick z 1 0 ≡ length (pick z ([] ∷ ps) (lead b ps))
-byte_before b ps h true = omega arith
-byte_before b [] h false = absurd (omega (arith, h))
-byte_before b (p ∷ ps) h false = omega arith
+byte_before : (b : ℕ) (bs : List ℕ) (ps : List (List ℕ)) → length bs + 1 ≡ length ps → (z : Bool)
+    → length (cond z (b ∷ bs) bs) + 1 ≡ length (pick z ([] ∷ ps) (lead b ps))
+byte_before b bs ps h true = omega (arith, h)
+byte_before b bs [] h false = absurd (omega (arith, h))
+byte_before b bs (p ∷ ps) h false = omega (arith, h)
 
 last_byte : (b : ℕ) (z : Bool) → 1 ≡ length (pick z ([] ∷ []) (lead b []))
 last_byte b true = refl
 last_byte b false = refl
 
--- the lines from an index on
-pub record Counted (input : List ℕ) (i lines : ℕ) : Type 0 where
-  pub inside : i < length input
-  pub some : 0 < lines
-  pub all : lines ≡ length (lines_of (drop i input))
-
-pub counted_last : (input : List ℕ) → ¬ (length input ≡ 0) → Counted input (length input - 1) 1
-counted_last input h =
-    let k = length input - 1 in
-    let inside : k < length input = omega arith in
-    let end = drop-cons input k 0 inside ∙ ap (λ (t : List ℕ). get_or input k 0 ∷ t) (drop_of_length-le input {i = suc k} (omega arith)) in
-    record { inside = inside; some = omega arith; all = last_byte (get_or input k 0) (eqb (get_or input k 0) 10) ∙ ap (λ (t : List ℕ). length (lines_of t)) (sym end) }
-
-module _ {input : List ℕ} {i lines : ℕ} (c : Counted input i lines) where
-  pub counted_most : lines + i ≤ length input
-  counted_most = omega (arith, c.all, c.inside, lines_count 10 (drop i input), length-drop i input)
-
-  pub counted_byte : 0 < i → {r : ℕ} → r ≡ pick (eqb (get_or input (i - 1) 0) 10) 1 0 → Counted input (i - 1) (lines + r)
-  counted_byte h {r} e =
-      let k = i - 1 in
-      let back : suc k ≡ i = omega arith in
-      let rest = drop-cons input k 0 (omega (arith, c.inside)) ∙ ap (λ (j : ℕ). get_or input k 0 ∷ drop j input) back in
-      let some : 0 < length (lines_of (drop i input)) = omega (arith, c.some, c.all) in
-      record {
-        inside = omega (arith, c.inside);
-        some = omega (arith, c.some);
-        all =
-            (λ j. c.all j + e j) ∙ byte_before (get_or input k 0) (lines_of (drop i input)) some (eqb (get_or input k 0) 10)
-            ∙ ap (λ (t : List ℕ). length (lines_of t)) (sym rest);
-      }
+-- the last byte is of the last line, whatever it is; each newline before it ends another
+pub lines_before : (n : ℕ) (bs : List ℕ) → n + 1 ≡ length bs → length (filter (λ b. eqb b 10) (take n bs)) + 1 ≡ length (lines_of bs)
+lines_before n [] h = absurd (omega (arith, h))
+lines_before zero (b ∷ []) h = last_byte b (eqb b 10)
+lines_before zero (b ∷ (x ∷ bs)) h = absurd (omega (arith, h))
+lines_before (suc n) (b ∷ bs) h = byte_before b (filter (λ b. eqb b 10) (take n bs)) (lines_of bs) (lines_before n bs (omega (arith, h))) (eqb b 10)
 
 -- ---- measuring
 

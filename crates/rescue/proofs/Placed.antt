@@ -1,17 +1,13 @@
 -- The line of a word where it stands in an input, and bytes copied eight at a time. Assumes nothing.
-use Prim.Native.Nat.{ℕ, zero, suc, ◌+◌, ◌-◌, ◌^◌, ◌≤◌, ◌<◌}
-use mathlib.Core.Path.{◌≡◌, refl, sym, ap, ◌∙◌, subst}
-use mathlib.Core.Bool.{Bool, true}
-use mathlib.Core.List.{List, [], ◌∷◌, ◌++◌, append_assoc, append-nil}
-use mathlib.Core.Logic.{◌↔◌, ◌⊎◌, inl, inr}
+use Prim.Native.Nat.{ℕ, ◌+◌, ◌-◌, ◌^◌, ◌≤◌, ◌<◌}
+use mathlib.Core.Path.{◌≡◌, refl, sym, ap, ◌∙◌}
+use mathlib.Core.List.{List, [], ◌∷◌, ◌++◌, append_assoc}
 use native.Mathlib.Omega.{arith}
 use borrow.Author.Tests.{eq-eqb, ne_eqb}
-use lib.ListN.{length, take, drop, get_or, length-append, length-drop, take-append-drop}
-use lib.Seq.{sets-eq, take_at, take_all, take-suc}
-use Rattle.bits.specs.Bytes.{bytes_of, span_of}
-use Rattle.bits.specs.route.Joins.{Joins}
+use lib.ListN.{length, take, drop, length-append, length-drop, take-append-drop}
+use lib.Seq.{sets-eq, take_at, take_all}
 use Rattle.ascii.specs.route.Puts.{Puts}
-use Rattle.ascii.proofs.Pieces.{after, fits}
+use Rattle.ascii.proofs.Pieces.{fits}
 use Rattle.listing.specs.Listing.{line_text, line_most}
 use Rattle.listing.proofs.Steps.{line_short}
 use Rattle.rescue.specs.declared.Fate.TheVariants.{Kept}

@@ -8,10 +8,9 @@ use native.Mathlib.Omega.{arith}
 use native.Mathlib.Numerals.{add-one}
 use lib.Dec.{eqb}
 use lib.ListN.{length, take, drop, length-drop}
-use lib.Seq.{drop-drop, take_all, length-take-le}
+use lib.Seq.{drop-drop, take_all}
 use native.Mathlib.Decide.{dec_lt}
 use Rattle.bits.specs.Choice.{pick}
-use Rattle.instruction.specs.Answers.{answer_number}
 use Rattle.std.proofs.Common.{Ok, Err}
 use Rattle.instruction.specs.declared.answer.Answer.{Answer}
 use Rattle.reader.specs.Reading.{told, ReadOf}
@@ -23,7 +22,6 @@ use Rattle.rescue.specs.declared.Fate.TheVariants.{Dropped}
 use Rattle.rescue.specs.route.Search.{until}
 use Rattle.rescue.specs.route.Steps.{WordFirst, OtherFirst}
 use Rattle.rescue.proofs.Parts.{fields_until, fields_only, until_most}
-use Rattle.rescue.proofs.Hex.{hex_length}
 use Rattle.rescue.proofs.Fates.{count_dropped, word_dropped, text_dropped}
 
 lead_some : (b : ℕ) (ps : List (List ℕ)) → (p : List ℕ) × (qs : List (List ℕ)) × (lead b ps ≡ p ∷ qs)

@@ -4,7 +4,7 @@
 mod line;
 mod put;
 
-ghost use Rattle.std.specs.Prelude.{◌≡◌, ◌+◌, ◌≤◌, min, eqb, length};
+ghost use Rattle.std.specs.Prelude.{◌≡◌, ◌+◌, ◌≤◌, min, eqb, length, filter};
 ghost use Rattle.bits.specs.Choice.{pick};
 ghost use Rattle.instruction.specs.Answers.{answer_number};
 ghost use Rattle.rescue.specs.Lines.{lines_of};
@@ -78,25 +78,16 @@ fn fits(input: &[u8], room: usize, space: usize) -> bool
 fn count(input: &[u8]) -> usize
     ensures { result ≡ length (lines_of input.now) }
 {
-    if input.len() == 0 {
-        return 0;
+    match input {
+        [] => 0,
+        [before @ .., _] => newlines(before) + 1,
     }
-    let mut lines = 1;
-    let mut i = input.len() - 1;
-    while i > 0 {
-        i -= 1;
-        lines += newline(input[i]);
-    }
-    lines
 }
 
-fn newline(byte: u8) -> usize
-    ensures { result ≡ pick (eqb byte 10) 1 0 }
+fn newlines(bytes: &[u8]) -> usize
+    ensures { result ≡ length (filter (λ byte. eqb byte 10) bytes.now) }
 {
-    if byte == b'\n' {
-        return 1;
-    }
-    0
+    bytes.iter().filter(|byte| **byte == b'\n').count()
 }
 
 // Takes each line from what is left of the rooms.

@@ -1,5 +1,5 @@
 -- What the steps of the code return and leave.
-use Rattle.std.specs.Prelude.{ℕ, ◌+◌, ◌-◌, ◌^◌, ◌≤◌, ◌<◌, ◌≡◌, Bool, not, ◌||◌, List, ◌∷◌, ◌⊎◌, ltb, length, take, drop}
+use Rattle.std.specs.Prelude.{ℕ, ◌+◌, ◌-◌, ◌≤◌, ◌≡◌, Bool, not, ◌||◌, List, ◌∷◌, ltb, length, take, drop}
 use Rattle.ascii.specs.route.Puts.{Puts}
 use Rattle.listing.specs.Listing.{hex8, line_text}
 use Rattle.rescue.specs.Lines.{lines_of, fields_of}

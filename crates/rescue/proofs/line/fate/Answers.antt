@@ -1,6 +1,6 @@
 -- `rescue::line::fate` meets its contract: what the first field is (`Told`) is what its two callees need. Assumes nothing.
 use mathlib.Core.Path.{◌∙◌}
-use native.Mathlib.Nat.{zero-add, sub-zero}
+use native.Mathlib.Nat.{zero-add}
 use Rattle.rescue.proofs.Told.{word_first, other_first}
 use Rattle.rescue.proofs.line.fate.Goals as goal
 
