@@ -6,8 +6,7 @@ use mathlib.Core.List.{List, [], ◌∷◌, ◌++◌}
 use native.Mathlib.Omega.{arith}
 use borrow.Author.Tests.{eq-eqb, ne_eqb, eqb-true, eqb-false}
 use lib.Dec.{eqb}
-use lib.ListN.{length, take, drop, get_or}
-use lib.Seq.{drop-cons}
+use lib.ListN.{length, take, drop}
 use Rattle.bits.specs.Choice.{pick}
 use Rattle.rescue.specs.Lines.{lead, parts_at}
 use Rattle.rescue.specs.route.Search.{until}
@@ -110,10 +109,3 @@ only_by s b bs e false h = ap (lead b) (e (omega arith))
 pub fields_only : (s : ℕ) (xs : List ℕ) → length xs ≤ until s xs → parts_at s ([] ∷ []) xs ≡ xs ∷ []
 fields_only s [] h = refl
 fields_only s (b ∷ bs) h = only_by s b bs (λ k. fields_only s bs k) (eqb b s) h
-
--- one byte further on
-pub until_on : (s : ℕ) (xs : List ℕ) (i : ℕ) → i < length xs → ¬ (get_or xs i 0 ≡ s) → until s (drop i xs) ≡ suc (until s (drop (suc i) xs))
-until_on s xs i h n = rw (drop-cons xs i 0 h, ne_eqb (get_or xs i 0) s n)
-
-pub until_here : (s : ℕ) (xs : List ℕ) (i : ℕ) → i < length xs → get_or xs i 0 ≡ s → until s (drop i xs) ≡ 0
-until_here s xs i h e = rw (drop-cons xs i 0 h, eq-eqb (get_or xs i 0) s e)

@@ -5,7 +5,6 @@ mod line;
 mod put;
 
 ghost use Rattle.std.specs.Prelude.{◌≡◌, ◌+◌, ◌≤◌, min, eqb, length, filter};
-ghost use Rattle.bits.specs.Choice.{pick};
 ghost use Rattle.instruction.specs.Answers.{answer_number};
 ghost use Rattle.rescue.specs.Lines.{lines_of};
 ghost use Rattle.rescue.specs.Rescue.{outcome, RescueOf};
@@ -53,7 +52,7 @@ fn replied(answer: Answer, length: usize, rows: usize) -> Reply
     ensures { result ≡ record { answer = answer_number answer; length = length; report_length = rows } }
 {
     Reply {
-        answer: instruction::answer_number(answer) as u64,
+        answer: u64::from(answer),
         length: length as u64,
         report_length: rows as u64,
     }
@@ -64,14 +63,11 @@ fn fits(input: &[u8], room: usize, space: usize) -> bool
     ensures { FitsAs input.now room space result }
 {
     let lines = count(input);
-    if input.len() <= room {
-        if lines <= (room - input.len()) / GAIN_MAX {
-            if lines <= space / ROW_MAX {
-                return true;
-            }
-        }
+    if input.len() <= room && lines <= (room - input.len()) / GAIN_MAX && lines <= space / ROW_MAX {
+        true
+    } else {
+        measured(input, room, space)
     }
-    measured(input, room, space)
 }
 
 // The last byte is of the last line, whatever it is; each newline before it ends another.
@@ -90,7 +86,7 @@ fn newlines(bytes: &[u8]) -> usize
     bytes.iter().filter(|byte| **byte == b'\n').count()
 }
 
-// Takes each line from what is left of the rooms.
+// Takes each line from what is left of the rooms. By an index: a step is as long as the line that stands there.
 fn measured(input: &[u8], room: usize, space: usize) -> bool
     ensures { FitsAs input.now room space result }
 {
@@ -123,19 +119,17 @@ fn behind(end: usize, length: usize) -> usize
     requires { end ≤ length }
     ensures { result ≡ min (end + 1) length }
 {
-    if end < length {
-        return end + 1;
-    }
-    end
+    if end < length { end + 1 } else { end }
 }
 
-// The ends of both texts.
+// The ends of both texts, by name, so that neither is taken for the other.
 #[derive(Drop)]
 struct Ends {
     output: usize,
     report: usize,
 }
 
+// By an index, as `measured` goes.
 fn put_both(input: &[u8], output: &mut [u8], report: &mut [u8]) -> Ends
     ensures { PutAs input.now output.old report.old output.new report.new result.output result.report }
 {

@@ -11,7 +11,7 @@ use listing::LINE_MAX;
 // Room for the line of any word, with eight bytes behind it, so that its text is stored eight at a time.
 const BUFFER: usize = LINE_MAX + 8;
 
-// Where a line ends, before its newline, and what becomes of it.
+// Where a line ends, before its newline, and what becomes of it: each line has both.
 #[derive(Drop)]
 pub struct Line {
     pub end: usize,
