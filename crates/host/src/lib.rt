@@ -1,5 +1,5 @@
 // The machine, the text, the reader and the listing for a host in another language. Only numbers, structs of numbers and
-// lent slices cross: an answer as its number, and a session's record as it is.
+// lent slices cross: an answer as its number, and a session's record as it is. Parameters come one by one, as C has them.
 #![tactic(auto)]
 
 ghost use Rattle.std.specs.Prelude.{◌≡◌, ℕ, List};

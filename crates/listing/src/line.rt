@@ -71,6 +71,7 @@ pub fn put_short(output: &mut [u8], at: usize, count: usize) -> usize
     ascii::put_bytes(output, digit, [(48 + n) as u8, b'\n'])
 }
 
+// By a line of fixed size, since nothing is allocated.
 pub fn line_length(word: u32) -> usize
     ensures { result ≡ length (line_text word) }
 {

@@ -14,7 +14,7 @@ ghost use Rattle.printer.specs.route.Printing.{textless};
 use instruction::Answer;
 use text::Pieces;
 
-// What putting a text returns: the answer of its word, and the position behind the text.
+// What putting a text returns: the answer of its word, and the position behind the text. Both count, whatever the answer.
 #[derive(Drop)]
 pub struct Shown {
     pub answer: Answer,

@@ -16,7 +16,7 @@ ghost use Rattle.reader.specs.Reading.{told, ReadOf};
 use instruction::Answer;
 use text::TEXT_MAX;
 
-// Room for any text, with eight bytes behind it, so that printer::write stores eight at a time.
+// Room for any text, with eight bytes behind it, so that printer::write stores eight at a time. Nothing is allocated.
 const BUFFER: usize = TEXT_MAX + 8;
 
 // The allocated word whose line a text is, or answer 9. A text that is longer than any line is not looked at.

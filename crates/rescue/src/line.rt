@@ -8,7 +8,7 @@ ghost use Rattle.rescue.specs.route.Steps.{WordFirst, OtherFirst, LineAt, Stands
 use crate::Fate;
 use listing::LINE_MAX;
 
-// Room for the line of any word, with eight bytes behind it, so that its text is stored eight at a time.
+// Room for the line of any word, with eight bytes behind it, so that its text is stored eight at a time. Nothing is allocated.
 const BUFFER: usize = LINE_MAX + 8;
 
 // Where a line ends, before its newline, and what becomes of it: each line has both.

@@ -87,8 +87,8 @@ impl Lister {
     }
 }
 
-// The listing of a word and of bytes behind it. The word's line goes by a place of its own: the output changes only when
-// all lines are known to fit.
+// The listing of a word and of bytes behind it. The word's line goes by a place of its own, of fixed size since nothing is
+// allocated: the output changes only when all lines are known to fit.
 fn list_behind(word: [u8; 4], bytes: &[u8], output: &mut [u8]) -> Result<usize, Answer>
     ensures value { listed result output.new ≡ list_of (word ++ bytes.now) output.old }
     ensures refused { IsOkUnless result Answer.NoRoom }

@@ -76,6 +76,7 @@ pub fn none() -> Piece
     }
 }
 
+// Each form has pieces of its own around the offset, and is no more than they.
 pub fn plain(front: Front, second: Piece, base: u32, offset: i64) -> Pieces
     requires { (base < 32) × (nat_abs offset < 10000000) }
     ensures { Made (ahead front ++ text_in second ++ asc "[" ++ base_text base ++ offset_tail offset) result }

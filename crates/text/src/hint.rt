@@ -47,6 +47,7 @@ fn is_unnamed(n: u32) -> bool
     (n / 8 % 4 == 3) | (n / 2 % 4 == 3)
 }
 
+// The kind and the policy come as the numbers that the fields of a hint are.
 fn kind(kind: u32) -> u64
     ensures { (result ≡ kind_bytes kind) × (result < 2 ^ 24) }
 {

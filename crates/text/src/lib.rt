@@ -20,7 +20,7 @@ pub use piece::{Piece, Pieces};
 // The most bytes that the text of an allocated word has (`text_most`).
 pub const TEXT_MAX: usize = 35;
 
-// The answer of a word, and its text. A word that has none has six empty pieces.
+// The answer of a word, and its text. A word that has none has six empty pieces. This is no Result: a word of answer 4 has a text.
 #[derive(Drop)]
 pub struct Spelling {
     pub answer: Answer,

@@ -34,7 +34,7 @@ impl Piece {
     ghost use Rattle.text.specs.route.Pieces.{Leads};
 
     // With a byte before it.
-    pub fn led(self, byte: u8) -> Piece
+    pub(crate) fn led(self, byte: u8) -> Piece
         requires { self.length ≤ 7 }
         ensures { Leads (byte ∷ []) self result }
     {
@@ -45,7 +45,7 @@ impl Piece {
     }
 
     // With a number of one digit or two before it.
-    pub fn numbered(self, n: u32) -> Piece
+    pub(crate) fn numbered(self, n: u32) -> Piece
         requires { (n < 100) × (self.length ≤ 6) }
         ensures { Leads (dec n) self result × (result.length ≤ self.length + 2) }
     {
