@@ -32,9 +32,9 @@ PAGES = [CRATES / 'promises/specs' / f'{name}.antt' for name in PAGE_NAMES]
 # With a dot before it, it is a projection, or stands behind its type or module.
 WORD = re.compile(r'(\.?)([^\s(){}\[\];:,.&<>⌜⌝]+)')
 HEAD = re.compile(r'(?:(?:unfoldable|abbrev|pub) )*(?:(record|data|use|mod) )?(\S+)( :)?')
-DECLARED = re.compile(r'^(?:pub )?(struct|enum) (\w+) \{\n(.*?)^\}', re.M | re.S)
+DECLARED = re.compile(r'^(?:pub )?(struct|enum) (\w+)(?:<[^>]*>)?(?: \{\n(.*?)^\}|;$)', re.M | re.S)
 SPECS_USED = re.compile(r'^(?:pub |ghost )?use (Rattle\.[^\s{;]+?)(?:\.\{([^}]*)\})?;?$', re.M)
-MODULE_USED = re.compile(r'^use (Rattle\.\S+) as (\w+)$', re.M)
+MODULE_USED = re.compile(r'^(use (Rattle\.[\w.]*?\.?(\w+))(?: as (\w+))?)$', re.M)
 CODE_USED = re.compile(r'^(?:pub )?use (?:crate::)?(\w+)::\{?([\w,\s]+)\}?;', re.M)
 FUNCTION = re.compile(r'^impl (\w+) \{|^\}|^ *pub (?:extern "C" )?fn (\w+)(.*?)^ *\{', re.M | re.S)
 CLAUSE = re.compile(r'^ *(ensures|requires)\b[^{]*\{ (.*?) \}$', re.M | re.S)
@@ -106,10 +106,11 @@ def types_in(code):
 
 def spelled_out(text):
     """The text with `module.name` as one word, and with an import of that word in place of the module's."""
-    for module, alias in MODULE_USED.findall(text):
+    for whole, module, last, alias in MODULE_USED.findall(text):
+        alias = alias or last
         behind = re.compile(rf'(?<![\w·]){alias}\.([\w-]+)')
         listed = ', '.join(f'{name} as {alias}·{name}' for name in sorted(set(behind.findall(text))))
-        text = behind.sub(rf'{alias}·\1', text).replace(f'use {module} as {alias}', f'use {module}.{{{listed}}}')
+        text = behind.sub(rf'{alias}·\1', text).replace(f'{whole}\n', f'use {module}.{{{listed}}}\n')
     return text
 
 
