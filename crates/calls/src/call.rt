@@ -1,7 +1,6 @@
 // The function that a case names, called on it.
 use crate::head::Head;
-use crate::{lines, sessions, words};
-use fields::Lines;
+use crate::{Lines, lines, sessions, words};
 
 pub fn put_call(lines: &mut Lines, head: &Head, given: &[u8], buffer: &mut [u8]) {
     match head.what {

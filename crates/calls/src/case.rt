@@ -1,8 +1,8 @@
 // A case of the input: its head, and the bytes that are given. It is read into buffers of a fixed size, which its sizes are
 // tested against.
-use crate::call;
 use crate::head::Head;
-use fields::{Halt, Lines};
+use crate::{Lines, call};
+use fields::Halt;
 
 pub fn answer(
     rt: &(impl Input + Print + Eprint),

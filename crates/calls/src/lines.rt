@@ -1,6 +1,6 @@
 // Listings by the library, whole and in fragments.
+use crate::Lines;
 use crate::head::Head;
-use fields::Lines;
 use host::ListerReply;
 use stream::Lister;
 

@@ -10,7 +10,8 @@ mod lines;
 mod sessions;
 mod words;
 
-use fields::Lines;
+// What the lines of a case have room for.
+type Lines = fields::Lines<4096>;
 
 fn main(rt: HostRuntime) {
     let mut lines = Lines::new();

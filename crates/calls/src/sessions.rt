@@ -1,7 +1,7 @@
 // A session's record, with a register set by the library, and with its monitor opened or told of a store. Its registers with
 // their taints are the bytes that are given; or these are the vector registers with theirs, of which one is read or set.
+use crate::Lines;
 use crate::head::Head;
-use fields::Lines;
 use machine::{Monitor, State};
 
 pub fn put_set_register(lines: &mut Lines, head: &Head, given: &[u8]) {

@@ -1,6 +1,6 @@
 // What the library says of a word, of a text, and of an instruction's numbers.
+use crate::Lines;
 use crate::head::Head;
-use fields::Lines;
 use plain::Plain;
 
 pub fn put_word(lines: &mut Lines, head: &Head, buffer: &mut [u8]) {

@@ -2,7 +2,6 @@
 ghost use Rattle.std.specs.Prelude.{length};
 ghost use Rattle.fields.specs.Answered.{Answered};
 
-use crate::line::Lines;
 use console::Failed;
 
 // What ends a program at a case.
@@ -58,12 +57,13 @@ fn say(rt: &(impl Print + Eprint), number: u64, halt: Halt) {
     };
 }
 
-// A line that says something of a case.
+// A line that says something of a case, put together in a small buffer of its own.
 pub fn remark(rt: &(impl Print + Eprint), number: u64, what: &[u8]) -> Result<(), Failed> {
-    let mut lines = Lines::new();
-    lines.put_name(number);
-    lines.put_byte(b'\t');
-    lines.put_text(what);
-    lines.put_byte(b'\n');
-    lines.write(rt)
+    let mut line = io::buffer();
+    let tab = ascii::put_text(&mut line, 0, b"case\t");
+    let name = ascii::put_decimal(&mut line, tab, number);
+    let behind = ascii::put_byte(&mut line, name, b'\t');
+    let said = ascii::put_text(&mut line, behind, what);
+    let end = ascii::put_byte(&mut line, said, b'\n');
+    console::write(rt, &line, end)
 }

@@ -2,24 +2,25 @@
 ghost use Rattle.std.specs.Prelude.{◌≡◌, ◌<◌, ◌≤◌, true, [], ◌∷◌, length, take};
 ghost use Rattle.std.specs.Result.{IsErr};
 ghost use Rattle.ascii.specs.route.Puts.{Puts};
+ghost use Rattle.io.specs.Digits.{hex_digit_ascii};
 
 use console::Failed;
 use machine::Monitor;
 use registers::Registers;
 
-// The bytes up to an end. What there is no room for is left out.
+// The bytes up to an end, in a buffer of so many as the program's longest case has. What there is no room for is left out.
 #[derive(Drop)]
-pub struct Lines {
-    bytes: [u8; 65536],
+pub struct Lines<const N: usize> {
+    bytes: [u8; N],
     end: usize,
 }
 
-impl Lines {
-    pub fn new() -> Lines
+impl<const N: usize> Lines<N> {
+    pub fn new() -> Lines<N>
         ensures { result.end ≡ 0 }
     {
         Lines {
-            bytes: io::large_buffer(),
+            bytes: [0; N],
             end: 0,
         }
     }
@@ -31,7 +32,7 @@ impl Lines {
     }
 
     // Whether two have the same bytes.
-    pub fn is_same(&self, other: &Lines) -> bool
+    pub fn is_same(&self, other: &Lines<N>) -> bool
         ensures { result ≡ true → (self.now.end ≡ other.now.end) × (self.now.end ≤ length self.now.bytes → self.now.end ≤ length other.now.bytes → take self.now.end self.now.bytes ≡ take self.now.end other.now.bytes) }
     {
         self.end == other.end && self.bytes.get(..self.end) == other.bytes.get(..other.end)
@@ -73,7 +74,11 @@ impl Lines {
         self.put_text(name);
         self.put_byte(b'\t');
         for byte in bytes {
-            self.put_hex(u64::from(*byte), 2);
+            self.end = ascii::put_bytes(
+                &mut self.bytes,
+                self.end,
+                [digit(*byte / 16), digit(*byte % 16)],
+            );
         }
         self.put_byte(b'\n');
     }
@@ -145,5 +150,17 @@ impl Lines {
         let mut digits = [0u8; 16];
         let n = io::hex(number, width, &mut digits);
         self.put_text(&digits[..n]);
+    }
+}
+
+// The digit of a number below 16.
+fn digit(number: u8) -> u8
+    requires { number < 16 }
+    ensures { result ≡ hex_digit_ascii number }
+{
+    if number < 10 {
+        b'0' + number
+    } else {
+        b'a' + (number - 10)
     }
 }

@@ -1,6 +1,7 @@
 // A case of the input: its head of five numbers, the text, and memory with its taints. It is read into buffers of a fixed size,
 // which its sizes are tested against.
-use fields::{Halt, Lines};
+use crate::Lines;
+use fields::Halt;
 
 pub fn answer(
     rt: &(impl Input + Print + Eprint),
@@ -15,9 +16,11 @@ pub fn answer(
     let text = text.get_mut(..given as usize).ok_or(Halt::TooLarge)?;
     let memory = memory.get_mut(..length as usize).ok_or(Halt::TooLarge)?;
     let taint = taint.get_mut(..taints as usize).ok_or(Halt::TooLarge)?;
-    fields::fill(rt, text)?;
-    fields::fill(rt, memory)?;
-    fields::fill(rt, taint)?;
+    // Each part is asked for, also where one before it was cut short.
+    let text_came = fields::fill(rt, text);
+    let memory_came = fields::fill(rt, memory);
+    let taint_came = fields::fill(rt, taint);
+    text_came.and(memory_came).and(taint_came)?;
     let reply = image::milestarling_import(text, origin, readonly, memory, taint);
     lines.put_name(number);
     lines.put_byte(b'\n');

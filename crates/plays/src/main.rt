@@ -8,7 +8,8 @@ mod plugin;
 mod show;
 mod turn;
 
-use fields::Lines;
+// What the lines of a case have room for.
+type Lines = fields::Lines<65536>;
 
 fn main(rt: HostRuntime) {
     let mut lines = Lines::new();

@@ -1,8 +1,9 @@
 // A play of the input, little-endian: eighteen numbers, the entries of both plugins' registers, memory, its taint bytes, and the
 // turns. It is read into buffers of a fixed size, which its sizes are tested against.
+use crate::Lines;
 use crate::plugin::{ENTRY, Plugin};
 use crate::turn::Stage;
-use fields::{Halt, Lines};
+use fields::Halt;
 use machine::Monitor;
 use plan::Range;
 

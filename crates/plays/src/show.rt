@@ -1,6 +1,6 @@
 // The lines of a plugin after its turn. Registers that are 0 and untainted aren't shown, so that a line has few.
+use crate::Lines;
 use crate::plugin::Plugin;
-use fields::Lines;
 use host::RunReply;
 use registers::Registers;
 

@@ -1,8 +1,8 @@
 // The turns of a play, each read and taken before the next: four numbers, which are the plugin, the words, the places of the trace
 // and those of the statuses, and the words.
 use crate::plugin::Plugin;
-use crate::show;
-use fields::{Halt, Lines};
+use crate::{Lines, show};
+use fields::Halt;
 use plan::{Range, Ranges};
 
 // The memory and where it begins, the plugins on it, the range that they share, and each plugin's own.

@@ -3,8 +3,8 @@
 // size, which its sizes are tested against, and done twice from its start.
 ghost use Rattle.std.specs.Prelude.{◌≤◌};
 
-use crate::steps;
-use fields::{Halt, Lines};
+use crate::{Lines, steps};
+use fields::Halt;
 use host::RunReply;
 use machine::{Monitor, State};
 

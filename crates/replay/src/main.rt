@@ -6,7 +6,8 @@
 mod case;
 mod steps;
 
-use fields::Lines;
+// What the lines of a case have room for.
+type Lines = fields::Lines<65536>;
 
 fn main(rt: HostRuntime) {
     let mut lines = Lines::new();

@@ -1,7 +1,8 @@
 // A case of the input: its head, three numbers of 64 bits, little-endian, which are how many bytes are given, and how many the
 // lent output and the lent report have; and the bytes. It is read into buffers of a fixed size, which its sizes are tested
 // against.
-use fields::{Halt, Lines};
+use crate::Lines;
+use fields::Halt;
 
 // What a case has at most: bytes that are given, and of each lent buffer.
 const MOST: usize = 16384;

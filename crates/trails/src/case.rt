@@ -1,9 +1,10 @@
 // A case of the input: a run as a host has kept it, and questions about it. Behind the head are the taints of the registers and
 // of the vector registers at the start, the words, the trace, the statuses, and memory's taint; then the questions. A run is
 // read into buffers of a fixed size, which its sizes are tested against.
+use crate::Lines;
 use crate::head::Head;
 use crate::question::Run;
-use fields::{Halt, Lines};
+use fields::Halt;
 
 pub fn answer(
     rt: &(impl Input + Print + Eprint),

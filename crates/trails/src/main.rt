@@ -7,7 +7,8 @@ mod case;
 mod head;
 mod question;
 
-use fields::Lines;
+// What the lines of a case have room for.
+type Lines = fields::Lines<65536>;
 
 fn main(rt: HostRuntime) {
     let mut lines = Lines::new();

@@ -1,5 +1,6 @@
 // Questions about a run.
-use fields::{Halt, Lines};
+use crate::Lines;
+use fields::Halt;
 
 // What every place of the list holds before: no address in any case.
 const UNTOUCHED: u64 = 0xfefe_fefe_fefe_fefe;
