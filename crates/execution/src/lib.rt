@@ -94,7 +94,8 @@ pub fn turn(
 }
 
 // A run by what it may reach. What is lent comes one by one: a struct of so many `&mut` has to promise at every call that it holds the
-// same ones afterwards.
+// same ones afterwards. Inlined, since of a state that one function takes and returns the compiler makes a call of memmove.
+#[inline(always)]
 fn reaching(
     words: &[u32],
     state: State,
@@ -150,6 +151,7 @@ pub fn is_short(words: usize, trace: usize, statuses: usize) -> bool
 
 // The steps of a run whose window and lists were tested. Both halves of a step stand in the loop, so that a step that
 // sets no register copies none.
+#[inline(always)]
 fn walk(
     words: &[u32],
     start: State,

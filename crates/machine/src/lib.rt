@@ -54,7 +54,8 @@ pub enum Effect {
 }
 
 impl Effect {
-    // The second half, where all that it sets is lent; and what the step shows.
+    // The second half, where all that it sets is lent; and what the step shows. Inlined, so that a step that sets nothing copies nothing.
+    #[inline(always)]
     pub fn settle(
         self,
         state: &mut State,

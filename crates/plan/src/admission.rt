@@ -10,6 +10,7 @@ use crate::window::Window;
 use access::Transfer;
 use instruction::Answer;
 
+#[inline(always)]
 pub fn admission(
     t: Transfer,
     address: u64,
