@@ -31,17 +31,6 @@ pub meets : (a : Bool) {b : Bool} → pick a b true ≡ false → (a ≡ true) �
 meets true e = (refl, e)
 meets false e = absurd (let z : ◌≡◌ {A = ℕ} 0 1 = cc in omega arith)
 
--- a step that is wrong
-pub some_at : (f : ℕ → Bool) (n i : ℕ) → i < n → f i ≡ true → true ≡ some_step f n
-unfolding some_step
-some_at f zero i h e = absurd (omega arith)
-some_at f (suc n) i h e = go (λ l. some_at f n i l e) (f n) refl (ℕ_discrete i n)
-  where
-    go : (i < n → true ≡ some_step f n) → (b : Bool) → f n ≡ b → Dec (i ≡ n) → true ≡ pick b true (some_step f n)
-    go r true k d = refl
-    go r false k (yes d) = absurd (let x : true ≡ false = sym e ∙ ap f d ∙ k in cc)
-    go r false k (no d) = r (omega arith)
-
 pub no_step : (f : ℕ → Bool) (n i : ℕ) → some_step f n ≡ false → i < n → f i ≡ false
 unfolding some_step
 no_step f zero i e h = absurd (omega arith)

@@ -26,12 +26,13 @@ pub fn is_wrong_trace(history: &History, steps: usize, window: Window, len: u64)
     has_wrong_step(history, steps, window, len)
 }
 
+// From the last on: places behind the end of a run are wrong at once.
 #[tactic(auto, unfolding(crate::specs::Trace::some_step))]
 fn has_wrong_step(history: &History, steps: usize, window: Window, len: u64) -> bool
     requires { (steps ≤ length history.now.words.now) × (steps * 2 ≤ length history.now.trace.now) × (steps ≤ length history.now.statuses.now) }
     ensures { result ≡ some_step (wrong_at window len history.now.words.now (log history.now.trace.now history.now.statuses.now)) steps }
 {
-    for i in 0..steps {
+    for i in (0..steps).rev() {
         if is_wrong_step(
             history.words[i],
             history.trace[i * 2],
