@@ -4,6 +4,7 @@ pub mod Fates
 pub mod Lined
 pub mod Certain
 pub mod Placed
+pub mod Copied
 pub mod Told
 pub mod Rooms
 pub mod Passed

@@ -3,4 +3,4 @@ use Rattle.ascii.proofs.Pieces.{after}
 use Rattle.rescue.proofs.put.put_ended.Goals as goal
 
 pub returns : goal.returns
-returns c = after c.put_text-end.ensures c.put_byte.ensures
+returns c = after c.put_copy-end.ensures c.put_byte.ensures
