@@ -144,6 +144,10 @@ admit_later : (w : Window) (len : ℕ) (t : Transfer) (a : ℕ) → Each (Number
 unfolding admit_of
 admit_later w len t a = ((omega arith, omega arith), ((omega arith, omega arith), ((omega arith, omega arith), ((omega arith, omega arith), tt))))
 
+pub word_later : (w : Window) (word : ℕ) (m : Machine) → Each (Numbered Later) (word_refusals (admit_of w (length m.memory)) word m)
+word_later w word m =
+    word_numbers Later (omega arith, omega arith) (omega arith, omega arith) (omega arith, omega arith) (omega arith, omega arith) (omega arith, omega arith) (admit_of w (length m.memory)) (admit_later w (length m.memory)) word m
+
 -- and by what may be reached, 12 too
 abbrev pub Late : ℕ → Type 0
 Late n = Later n ⊎ (n ≡ 12)

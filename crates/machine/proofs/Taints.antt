@@ -10,7 +10,7 @@ use Rattle.bits.proofs.Extensions.{extended_below}
 use Rattle.memory.specs.Taints.{normal}
 use Rattle.memory.specs.Sources.{loaded_taint}
 use Rattle.bits.proofs.Bytes.{bytes_cons}
-use Rattle.memory.proofs.Taints.{taints_fit, few_taints, span_normal}
+use Rattle.memory.proofs.Taints.{normal_length, taints_fit, few_taints, span_normal}
 use Rattle.vectors.specs.File.{normal_halves}
 use Rattle.machine.specs.route.Writing.{halves_in}
 use Rattle.memory.proofs.Sources.{extended_taints}
@@ -54,6 +54,13 @@ taints_by_rule w = taints_in_lem w Alone
 
 -- ---- what the rule changes
 
+-- a register that is neither written back nor loaded keeps its taint
+pub register_kept : (t : Transfer) (written at : ℕ) (p : Taints) (slot : ℕ) → ¬ (slot ≡ written) → ¬ (slot ≡ t.target) → ¬ (slot ≡ t.second)
+    → get_or (move_rule t written at p).registers slot 0 ≡ get_or p.registers slot 0
+unfolding move_rule
+register_kept t written at p slot a b c =
+    pick_by (λ (u : List ℕ). get_or u slot 0 ≡ get_or p.registers slot 0) t.store (λ e. rw get_or-set_other) (λ e. rw (get_or-set_other, get_or-set_other, get_or-set_other))
+
 -- writeback leaves the base untainted; it is never loaded at once, or the word has answer 4
 pub base_untainted : (t : Transfer) (written at : ℕ) (p : Taints) → written < length p.registers → ¬ (written ≡ t.target) → ¬ (written ≡ t.second) → taint_in (move_rule t written at p).registers written ≡ false
 unfolding move_rule
@@ -73,6 +80,17 @@ sets_kept [] ks at i h = refl
 sets_kept (v ∷ vs) ks at i h =
     let (more, other) = apart_next i at (length vs) h in
     sets_kept vs (set ks at v) (suc at) i more ∙ get_or-set_other ks at i v 0 other
+
+-- a byte that is not stored keeps its taint
+pub byte_kept : (t : Transfer) (written at : ℕ) (p : Taints) (i : ℕ) → Apart i at t.bytes → Apart i (at + t.bytes) t.more → get_or (move_rule t written at p).bytes i 0 ≡ get_or p.bytes i 0
+unfolding move_rule
+byte_kept t written at p i a b =
+    pick_by (λ (k : List ℕ). get_or k i 0 ≡ get_or p.bytes i 0) t.store
+    (λ e.
+    let first = map normal (bytes_of t.bytes (get_or p.registers t.target 0)) in
+    let second = map normal (bytes_of t.more (get_or p.registers t.second 0)) in
+    sets_kept second (sets p.bytes at first) (at + t.bytes) i (rw (normal_length t.more (get_or p.registers t.second 0)) b) ∙ sets_kept first p.bytes at i (rw (normal_length t.bytes (get_or p.registers t.target 0)) a))
+    (λ e. refl)
 
 -- ---- taints extended
 
