@@ -36,7 +36,7 @@ DECLARED = re.compile(r'^(?:pub )?(struct|enum) (\w+)(?:<[^>]*>)?(?: \{\n(.*?)^\
 SPECS_USED = re.compile(r'^(?:pub |ghost )?use (Rattle\.[^\s{;]+?)(?:\.\{([^}]*)\})?;?$', re.M)
 MODULE_USED = re.compile(r'^(use (Rattle\.[\w.]*?\.?(\w+))(?: as (\w+))?)$', re.M)
 CODE_USED = re.compile(r'^(?:pub )?use (?:crate::)?(\w+)::\{?([\w,\s]+)\}?;', re.M)
-FUNCTION = re.compile(r'^impl (\w+) \{|^\}|^ *pub (?:extern "C" )?fn (\w+)(.*?)^ *\{', re.M | re.S)
+FUNCTION = re.compile(r'^impl(?:<[^>]*>)? (\w+)(?:<\w+>)? \{|^\}|^ *pub (?:extern "C" )?fn (\w+)((?:(?!^\}).)*?)^ *\{', re.M | re.S)
 CLAUSE = re.compile(r'^ *(ensures|requires)\b[^{]*\{ (.*?) \}$', re.M | re.S)
 
 
