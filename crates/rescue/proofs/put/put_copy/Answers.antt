@@ -1,5 +1,5 @@
 -- `rescue::put::put_copy` meets its contract. Assumes nothing.
-use native.Mathlib.Omega.{arith}
+use Rattle.std.proofs.Common.{arith}
 use Rattle.ascii.proofs.Pieces.{nothing}
 use Rattle.rescue.proofs.Copied.{eight_more, byte_more, all_passed}
 use Rattle.rescue.proofs.put.put_copy.Goals as goal

@@ -1,6 +1,5 @@
 -- The loops of `rescue::put::put_copy` keep that the bytes passed are put.
-use Prim.Native.Nat.{◌*◌}
-use lib.ListN.{take}
+use Rattle.std.proofs.Common.{◌*◌, take}
 use Rattle.ascii.specs.route.Puts.{Puts}
 use Rattle.rescue.proofs.put.put_copy.Given as goal
 
